@@ -1,0 +1,106 @@
+-- Common pages by the step rule, with its counts [01 How a seek moves].
+--
+--   Reader          a list of pages and the cursor on it
+--   Tally           seeks, looks, and the pages listed
+--   leadOf ls       the number of the shortest list, the first of equals
+--   agree U c rs    the others are sought in turn for c, until one answers none or more than c
+--   common U ls     the rule on the lists ls of pages below U
+use mathlib.Core.Bool.{true, false}
+use mathlib.Core.List.{List, [], _∷_, _++_}
+use Prim.Native.Nat.{ℕ, zero, suc, _+_}
+use lib.Dec.{ltb}
+use lib.ListN.{length, getD, take, drop}
+use Rattle.rules.specs.Seek.{Cursor, fresh, none, page, Sought, seek}
+
+pub record Reader : Type 0 where
+  pub pages : List ℕ
+  pub cursor : Cursor
+
+pub record Tally : Type 0 where
+  pub seeks : ℕ
+  pub looks : ℕ
+  pub listed : List ℕ
+
+-- how seeking the others ended: all answered c, one answered none, or one answered a larger page
+pub data Ended : Type 0 where
+  agreed : Ended
+  exhausted : Ended
+  larger : ℕ → Ended
+
+pub record Round : Type 0 where
+  pub ended : Ended
+  pub readers : List Reader
+  pub seeks : ℕ
+  pub looks : ℕ
+
+-- the shortest of what was seen is number best, of length m; ls are the lists from number i on
+unfoldable pub leadFrom : ℕ → ℕ → ℕ → List (List ℕ) → ℕ
+leadFrom best m i [] = best
+leadFrom best m i (l ∷ ls) =
+    elim (ltb (length l) m) [ true ↦ leadFrom i (length l) (i + 1) ls | false ↦ leadFrom best m (i + 1) ls ]
+
+unfoldable pub leadOf : List (List ℕ) → ℕ
+leadOf [] = 0
+leadOf (l ∷ ls) = leadFrom 0 (length l) 1 ls
+
+unfoldable pub readersOf : List (List ℕ) → List Reader
+readersOf [] = []
+readersOf (l ∷ ls) = record { pages = l; cursor = fresh } ∷ readersOf ls
+
+-- one seek more in front of a round
+unfoldable pub before : List ℕ → Sought → Round → Round
+before l s r = record {
+  ended = r .ended;
+  readers = record { pages = l; cursor = s .cursor } ∷ r .readers;
+  seeks = r .seeks + 1;
+  looks = s .looks + r .looks;
+}
+
+unfoldable pub stopped : Ended → List Reader → Round
+stopped e rs = record { ended = e; readers = rs; seeks = 0; looks = 0 }
+
+unfoldable pub agree : ℕ → ℕ → List Reader → Round
+agree U c [] = stopped agreed []
+agree U c (r ∷ rs) =
+    let s : Sought = seek U (r .pages) (r .cursor) c in
+    elim (s .found) [
+      | none ↦ before (r .pages) s (stopped exhausted rs)
+      | page d _ ↦ elim (ltb c d) [
+        | true ↦ before (r .pages) s (stopped (larger d) rs)
+        | false ↦ before (r .pages) s (agree U c rs)
+      ]
+    ]
+
+unfoldable pub counted : ℕ → ℕ → List ℕ → Tally → Tally
+counted seeks looks listed t = record {
+  seeks = seeks + t .seeks;
+  looks = looks + t .looks;
+  listed = listed ++ t .listed;
+}
+
+unfoldable pub nothing : Tally
+nothing = record { seeks = 0; looks = 0; listed = [] }
+
+-- the lead is sought for b, at most f times in all
+unfoldable pub rounds : ℕ → ℕ → Reader → List Reader → ℕ → Tally
+rounds zero U lead others b = nothing
+rounds (suc f) U lead others b =
+    let s : Sought = seek U (lead .pages) (lead .cursor) b in
+    let moved : Reader = record { pages = lead .pages; cursor = s .cursor } in
+    elim (s .found) [
+      | none ↦ counted 1 (s .looks) [] nothing
+      | page c _ ↦
+          let r : Round = agree U c others in
+          elim (r .ended) [
+            | exhausted ↦ counted (1 + r .seeks) (s .looks + r .looks) [] nothing
+            | larger d ↦ counted (1 + r .seeks) (s .looks + r .looks) [] (rounds f U moved (r .readers) d)
+            | agreed ↦ counted (1 + r .seeks) (s .looks + r .looks) (c ∷ []) (rounds f U moved (r .readers) (c + 1))
+          ]
+    ]
+
+-- each seek of the lead passes an element of it, so one more than it has suffice
+unfoldable pub common : ℕ → List (List ℕ) → Tally
+common U ls =
+    let l : ℕ = leadOf ls in
+    let lead : List ℕ = getD ls l [] in
+    rounds (length lead + 1) U (record { pages = lead; cursor = fresh }) (readersOf (take l ls ++ drop (l + 1) ls)) 0

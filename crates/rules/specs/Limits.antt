@@ -1,0 +1,33 @@
+-- The limits and the sizes that are fixed [01 Limits, Numbers of refusal].
+--
+--   limit        U and N at most
+--   termLimit    T at most
+--   phraseLimit  words in a question at most
+--   version      of every block
+--   listHeader, termHeader, indexHeader  the bytes below which a block is too short
+--   fourBytes    the first number that four bytes do not hold
+use Prim.Native.Nat.{ℕ, _^_}
+
+abbrev pub limit : ℕ
+limit = 16777216
+
+abbrev pub termLimit : ℕ
+termLimit = 4096
+
+abbrev pub phraseLimit : ℕ
+phraseLimit = 8
+
+abbrev pub version : ℕ
+version = 1
+
+abbrev pub listHeader : ℕ
+listHeader = 13
+
+abbrev pub termHeader : ℕ
+termHeader = 44
+
+abbrev pub indexHeader : ℕ
+indexHeader = 11
+
+abbrev pub fourBytes : ℕ
+fourBytes = 2 ^ 32
