@@ -1,0 +1,9 @@
+pub mod BitLaws
+pub mod ByteLaws
+pub mod RunLaws
+pub mod CountLaws
+pub mod RefusalLaws
+pub mod WidthLaws
+pub mod PartLaws
+pub mod RoomLaws
+pub mod HeadLaws

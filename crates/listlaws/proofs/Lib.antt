@@ -1,0 +1,11 @@
+pub mod RisingLaws
+pub mod AfterLaws
+pub mod ElementLaws
+pub mod UpperLaws
+pub mod LowerLaws
+pub mod BlockLaws
+pub mod ValidLaws
+pub mod RefusalLaws
+pub mod SoundLaws
+pub mod Theorems
+pub mod ReadLaws

@@ -1,0 +1,1 @@
+// Theorems of one list: its block, its reading and its refusal; this crate has no function.
