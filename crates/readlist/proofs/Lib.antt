@@ -1,0 +1,3 @@
+pub mod OneLaws
+pub mod ReadLaws
+pub mod PartLaws

@@ -1,0 +1,141 @@
+// Reading inside an accepted list block: its shape, its parts, its pointers, and its elements by place and by rank.
+
+ghost use mathlib.Core.Path.{_≡_};
+ghost use Prim.Native.Nat.{_-_, _*_, _/_, _^_, _≤_, _<_};
+ghost use lib.ListN.{length, take, drop, getD};
+ghost use Rattle.rules.specs.declared.Refusal.the-variants.{Accepted};
+ghost use Rattle.rules.specs.Runs.{field};
+ghost use Rattle.rules.specs.ReadList.{listU, listN, decode, listRefusal};
+ghost use Rattle.shape.specs.Shape.{shapeOf};
+ghost use Rattle.readlist.specs.Open.{Open, pointersIn, PointerAt, LastBefore, OneAt, OneAhead};
+use shape::Shape;
+
+// ---- the shape and the parts
+
+// The shape of an accepted block.
+pub fn shape_at(block: &[u8]) -> Shape
+    requires { ⌜ listRefusal (now block) ≡ Accepted ⌝ }
+    ensures { λ r. ⌜ r ≡ shapeOf (listU (now (block .entry))) (listN (now (block .entry))) ⌝ }
+{
+    let u = bits::read_u32(block, 5) as usize;
+    let n = bits::read_u32(block, 9) as usize;
+    shape::shape_of(u, n)
+}
+
+// The pointers, four bytes each.
+pub fn pointers_of(block: &[u8], g: Shape) -> &[u8]
+    requires { ⌜ Open (now block) g ⌝ }
+    ensures { λ r. ⌜ now r ≡ take (g .lower - 13) (drop 13 (now (block .entry))) ⌝ }
+{
+    let to = g.lower;
+    &block[13..to]
+}
+
+// The lower run.
+pub fn lower_of(block: &[u8], g: Shape) -> &[u8]
+    requires { ⌜ Open (now block) g ⌝ }
+    ensures { λ r. ⌜ now r ≡ take (g .upper - g .lower) (drop (g .lower) (now (block .entry))) ⌝ }
+{
+    let from = g.lower;
+    let to = g.upper;
+    &block[from..to]
+}
+
+// The upper run.
+pub fn upper_of(block: &[u8], g: Shape) -> &[u8]
+    requires { ⌜ Open (now block) g ⌝ }
+    ensures { λ r. ⌜ now r ≡ take (g .end - g .upper) (drop (g .upper) (now (block .entry))) ⌝ }
+{
+    let from = g.upper;
+    let to = g.end;
+    &block[from..to]
+}
+
+// ---- pointers and elements
+
+// Pointer number i, the place just after 256 * i zeros of the upper run; 0 for i = 0.
+pub fn pointer_at(block: &[u8], g: Shape, i: usize) -> usize
+    requires { ⌜ Open (now block) g × (i ≤ pointersIn g) ⌝ }
+    ensures { λ r. ⌜ PointerAt (now (block .entry)) g i r ⌝ }
+{
+    if i == 0 {
+        return 0;
+    }
+    bits::read_u32(block, 9 + 4 * i) as usize
+}
+
+// The low part of element number i.
+pub fn low_at(block: &[u8], g: Shape, i: usize) -> usize
+    requires { ⌜ Open (now block) g × (i < g .n) ⌝ }
+    ensures { λ r. ⌜ (r ≡ field (now (block .entry)) (g .lower) (i * g .w) (g .w)) × (r < 2 ^ 24) ⌝ }
+{
+    bits::low_field(block, g.lower, i * g.w, g.w) as usize
+}
+
+// The element whose one stands at `place` of the upper run with `rank` ones below it.
+pub fn value_at(block: &[u8], g: Shape, place: usize, rank: usize) -> usize
+    requires { ⌜ Open (now block) g × OneAt (now block) (g .upper) rank place ⌝ }
+    ensures { λ r. ⌜ r ≡ getD (decode (now (block .entry))) rank 0 ⌝ }
+{
+    let low = low_at(block, g, rank);
+    ((place - rank) << g.w) + low
+}
+
+// ---- elements by rank
+
+// The last pointer with at most `rank` ones before it, found by halving.
+pub fn pointer_before(block: &[u8], g: Shape, rank: usize) -> usize
+    requires { ⌜ Open (now block) g × (rank < g .n) ⌝ }
+    ensures { λ r. ⌜ LastBefore (now (block .entry)) g rank r ⌝ }
+{
+    let mut low = 0;
+    let mut high = (g.lower - 13) / 4;
+    while low < high {
+        let mid = high - (high - low) / 2;
+        if pointer_at(block, g, mid) <= 256 * mid + rank {
+            low = mid;
+        } else {
+            high = mid - 1;
+        }
+    }
+    low
+}
+
+// The place of the one number `rank` of a run, of whose ones `before` lie below word `from`.
+pub fn one_from(run: &[u8], from: usize, before: usize, rank: usize) -> usize
+    requires { ⌜ OneAhead (now run) from before rank ⌝ }
+    ensures { λ r. ⌜ OneAt (now (run .entry)) 0 rank r × (r < 64 * (length (now (run .entry)) / 8)) ⌝ }
+{
+    let mut k = from;
+    let mut passed = before;
+    let mut x = bits::run_word(run, 0, k);
+    let mut next = passed + u64::count_ones(x) as usize;
+    while next <= rank {
+        k += 1;
+        passed = next;
+        x = bits::run_word(run, 0, k);
+        next = passed + u64::count_ones(x) as usize;
+    }
+    64 * k + bits::select_one(x, (rank - passed) as u32) as usize
+}
+
+// The place in the upper run of the one number `rank`: from the last pointer before it.
+pub fn place_of(block: &[u8], g: Shape, rank: usize) -> usize
+    requires { ⌜ Open (now block) g × (rank < g .n) ⌝ }
+    ensures { λ r. ⌜ OneAt (now (block .entry)) (g .upper) rank r ⌝ }
+{
+    let i = pointer_before(block, g, rank);
+    let start = pointer_at(block, g, i);
+    let run = upper_of(block, g);
+    let k = start / 64;
+    let inner = bits::ones_below(bits::run_word(run, 0, k), start % 64) as usize;
+    one_from(run, k, start - 256 * i - inner, rank)
+}
+
+// Element number `rank`, found without reading the elements before it.
+pub fn element_at(block: &[u8], g: Shape, rank: usize) -> usize
+    requires { ⌜ Open (now block) g × (rank < g .n) ⌝ }
+    ensures { λ r. ⌜ r ≡ getD (decode (now (block .entry))) rank 0 ⌝ }
+{
+    value_at(block, g, place_of(block, g, rank), rank)
+}
