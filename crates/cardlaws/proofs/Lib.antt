@@ -1,0 +1,7 @@
+pub mod FrontLaws
+pub mod TermsLaws
+pub mod WalkLaws
+pub mod PassedLaws
+pub mod CardLaws
+pub mod CloseLaws
+pub mod Theorems

@@ -1,0 +1,106 @@
+-- Laws of the refusal of term blocks one after the other: each test's answer, and that blocks of writable words pass.
+use mathlib.Core.Bool.{Bool, true, false, _&&_, false≢true}
+use mathlib.Core.Path.{_≡_, refl, sym, ap, _∙_}
+use mathlib.Core.List.{List, [], _∷_, _++_}
+use Prim.Native.Nat.{ℕ, zero, suc, _≤_, _<_}
+use native.Mathlib.Omega.{arith}
+use borrow.Author.Tests.{ltb-false, le-leb, leb-true, eq-eqb, eqb-true}
+use lib.Dec.{ltb, leb, eqb, lit<}
+use lib.ListN.{length, getD, take, drop, drop-of-length-le}
+use Rattle.rules.specs.declared.Refusal.the-variants.{Accepted, Layout, Parts}
+use Rattle.rules.specs.Refusal.{number, accepted}
+use Rattle.rules.specs.Limits.{limit, termHeader}
+use Rattle.rules.specs.ReadList.{stated, listU}
+use Rattle.rules.specs.Term.{Word, next, places, validWord, termBlock}
+use Rattle.rules.specs.Parts.{after, part, inside}
+use Rattle.rules.specs.ReadTerm.{pagesOf, termRefusal}
+use Rattle.rules.specs.Index.{terms, validWords, termsRefusal}
+use Rattle.laws.proofs.RefusalLaws.{accepted-true, true-accepted, test-passed}
+use Rattle.laws.proofs.PartLaws.{inside-append, part-first, after-append, part-append}
+use Rattle.listlaws.proofs.RisingLaws.{and-parts}
+use Rattle.termlaws.specs.Words.{Writable}
+use Rattle.termlaws.proofs.BlockLaws.{term-whole, term-header, term-accepted, term-N}
+
+-- ---- each answer
+
+module _ (T N : ℕ) (s : List ℕ) where
+  pub terms-bad : accepted (inside termHeader termRefusal s) ≡ false → termsRefusal (suc T) N s ≡ inside termHeader termRefusal s
+  unfolding termsRefusal
+  terms-bad e = rw (e, termsRefusal)
+
+  pub terms-other : accepted (inside termHeader termRefusal s) ≡ true → eqb (listU (pagesOf (take (stated s) s))) N ≡ false → termsRefusal (suc T) N s ≡ Parts
+  unfolding termsRefusal
+  terms-other e f = rw (e, termsRefusal) (rw (f, termsRefusal))
+
+  pub terms-next : accepted (inside termHeader termRefusal s) ≡ true → eqb (listU (pagesOf (take (stated s) s))) N ≡ true → termsRefusal (suc T) N s ≡ termsRefusal T N (drop (stated s) s)
+  unfolding termsRefusal
+  terms-next e f = rw (e, termsRefusal) (rw (f, termsRefusal))
+
+-- the first of the blocks passes and is of N, and so do the others
+pub record First (T N : ℕ) (s : List ℕ) : Type 0 where
+  pub passes : inside termHeader termRefusal s ≡ Accepted
+  pub same-N : listU (pagesOf (take (stated s) s)) ≡ N
+  pub rest : termsRefusal T N (drop (stated s) s) ≡ Accepted
+
+pub terms-first : (T N : ℕ) (s : List ℕ) → termsRefusal (suc T) N s ≡ Accepted → First T N s
+terms-first T N s e = go (accepted (inside termHeader termRefusal s)) (eqb (listU (pagesOf (take (stated s) s))) N) refl refl
+  where
+    go : (a b : Bool) → accepted (inside termHeader termRefusal s) ≡ a → eqb (listU (pagesOf (take (stated s) s))) N ≡ b → First T N s
+    go false b p q = absurd (false≢true (sym p ∙ true-accepted (inside termHeader termRefusal s) (sym (terms-bad T N s p) ∙ e)))
+    go true false p q = absurd (omega (arith, ap number (sym (terms-other T N s p q) ∙ e)))
+    go true true p q = record {
+      passes = accepted-true (inside termHeader termRefusal s) p;
+      same-N = eqb-true (listU (pagesOf (take (stated s) s))) N q;
+      rest = sym (terms-next T N s p q) ∙ e;
+    }
+
+pub first-terms : (T N : ℕ) (s : List ℕ) → First T N s → termsRefusal (suc T) N s ≡ Accepted
+first-terms T N s f =
+    terms-next T N s (true-accepted (inside termHeader termRefusal s) (f .passes)) (eq-eqb (listU (pagesOf (take (stated s) s))) N (f .same-N)) ∙ f .rest
+
+pub terms-none : (N : ℕ) (s : List ℕ) → termsRefusal 0 N s ≡ Accepted → s ≡ []
+unfolding termsRefusal
+terms-none N s e = drop-of-length-le s {i = 0} (ltb-false 0 (length s) (test-passed (ltb 0 (length s)) Layout Accepted (lit< tt) e .0))
+
+-- ---- blocks of writable words
+
+pub words-parts : (N : ℕ) (t : Word) (ts : List Word) → validWords N (t ∷ ts) ≡ true → N ≤ limit → Writable N t × (validWords N ts ≡ true)
+unfolding validWords
+words-parts N t ts v h =
+    let p = and-parts (validWord N t) (leb (next 0 (places t)) limit && validWords N ts) v in
+    let q = and-parts (leb (next 0 (places t)) limit) (validWords N ts) (p .1) in
+    (record { valid = p .0; within = h; reach = leb-true (next 0 (places t)) limit (q .0) }, q .1)
+
+pub words-cons : (N : ℕ) (t : Word) (ts : List Word) → Writable N t → validWords N ts ≡ true → validWords N (t ∷ ts) ≡ true
+unfolding validWords
+words-cons N t ts w v = rw (w .valid, le-leb (next 0 (places t)) limit (w .reach)) v
+
+module _ (N : ℕ) (within : N ≤ limit) where
+  pub terms-accepted : (ts : List Word) → validWords N ts ≡ true → termsRefusal (length ts) N (terms N ts) ≡ Accepted
+  unfolding terms termsRefusal part after
+  terms-accepted [] v = refl
+  terms-accepted (t ∷ ts) v =
+      let p = words-parts N t ts v within in
+      let w = p .0 in
+      let b : List ℕ = termBlock N t in
+      let r : List ℕ = terms N ts in
+      let e : take (stated (b ++ r)) (b ++ r) ≡ b = part-first b r (term-whole N t w) in
+      let d : drop (stated (b ++ r)) (b ++ r) ≡ r = after-append b r (term-whole N t w) 0 in
+      first-terms (length ts) N (b ++ r) (record {
+        passes = inside-append termHeader termRefusal b r (term-whole N t w) (term-header N t w) ∙ term-accepted N t w;
+        same-N = rw e (term-N N t w);
+        rest = rw d (terms-accepted ts (p .1));
+      })
+
+  pub part-terms : (ts : List Word) → validWords N ts ≡ true → (d : Word) (t : ℕ) → t < length ts → part t (terms N ts) ≡ termBlock N (getD ts t d)
+  unfolding terms
+  part-terms [] v d t h = absurd (omega arith)
+  part-terms (x ∷ ts) v d zero h = part-first (termBlock N x) (terms N ts) (term-whole N x (words-parts N x ts v within .0))
+  part-terms (x ∷ ts) v d (suc t) h =
+      let p = words-parts N x ts v within in
+      part-append (termBlock N x) (terms N ts) (term-whole N x (p .0)) t ∙ part-terms ts (p .1) d t (omega arith)
+
+  pub words-writable : (ts : List Word) → validWords N ts ≡ true → (d : Word) (t : ℕ) → t < length ts → Writable N (getD ts t d)
+  words-writable [] v d t h = absurd (omega arith)
+  words-writable (x ∷ ts) v d zero h = words-parts N x ts v within .0
+  words-writable (x ∷ ts) v d (suc t) h = words-writable ts (words-parts N x ts v within .1) d t (omega arith)

@@ -1,0 +1,1 @@
+// Laws of an index of many words; this crate has no function.

@@ -1,0 +1,1 @@
+// Laws of one word and its block; this crate has no function.
