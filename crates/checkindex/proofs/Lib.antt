@@ -1,0 +1,3 @@
+pub mod TermsLaws
+pub mod Theorems
+pub mod Unique

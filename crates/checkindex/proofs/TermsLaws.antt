@@ -1,0 +1,93 @@
+-- Laws of the terms of an index as they are checked: each answer of the loop, and of the index behind its header.
+use mathlib.Core.Bool.{Bool, true, false, cond, not, _||_}
+use mathlib.Core.Path.{_≡_, refl, sym, ap, _∙_}
+use mathlib.Core.List.{List}
+use Prim.Native.Nat.{ℕ, suc, _-_, _≤_, _<_}
+use borrow.Author.Tests.{lt-ltb, le-ltb}
+use lib.Dec.{ltb, eqb}
+use lib.ListN.{length, take, drop, length-drop}
+use lib.Seq.{take-length}
+use Rattle.rules.specs.declared.Refusal.{Refusal}
+use Rattle.rules.specs.declared.Refusal.the-variants.{Accepted, Limit, Layout, Parts}
+use Rattle.rules.specs.Refusal.{accepted, andThen}
+use Rattle.rules.specs.Limits.{limit, termLimit, termHeader, indexHeader}
+use Rattle.rules.specs.ReadList.{stated, listU}
+use Rattle.rules.specs.Parts.{inside}
+use Rattle.rules.specs.ReadTerm.{pagesOf, termRefusal}
+use Rattle.rules.specs.Index.{indexN, indexT, termsRefusal, indexRefusal}
+use Rattle.laws.proofs.RefusalLaws.{andThen-assoc}
+use Rattle.laws.proofs.HeadLaws.{head-then}
+use Rattle.laws.proofs.PartLaws.{inside-then}
+use Rattle.cardlaws.proofs.TermsLaws.{terms-bad, terms-other, terms-next}
+use Rattle.parts.specs.Places.{headRefusal}
+use Rattle.checkindex.specs.Terms.{wordRefusal, wordInside}
+
+-- the block at the front, and then its N
+word-then : (N : ℕ) (s : List ℕ) → wordInside N s ≡ andThen (inside termHeader termRefusal s) (cond (not (eqb (listU (pagesOf (take (stated s) s))) N)) Parts Accepted)
+word-then N s =
+    let b : List ℕ = take (stated s) s in
+    let f : Refusal = inside termHeader (λ _. Accepted) s in
+    let r : Refusal = cond (not (eqb (listU (pagesOf b)) N)) Parts Accepted in
+    inside-then termHeader (wordRefusal N) s
+    ∙ sym (andThen-assoc f (termRefusal b) r)
+    ∙ ap (λ (q : Refusal). andThen q r) (sym (inside-then termHeader termRefusal s))
+
+-- ---- one term more, and none
+
+module _ (M N : ℕ) (s : List ℕ) where
+  abbrev first : Refusal
+  first = inside termHeader termRefusal s
+
+  abbrev b : List ℕ
+  b = take (stated s) s
+
+  abbrev rest : Refusal
+  rest = termsRefusal M N (drop (stated s) s)
+
+  -- by the tests of the first term: its own refusal, and its N
+  by-tests : (x y : Bool) → accepted first ≡ x → eqb (listU (pagesOf b)) N ≡ y
+      → termsRefusal (suc M) N s ≡ andThen (andThen first (cond (not (eqb (listU (pagesOf b)) N)) Parts Accepted)) rest
+  unfolding andThen accepted
+  by-tests false y p q = terms-bad M N s p ∙ rw (p, p)
+  by-tests true false p q = terms-other M N s p q ∙ rw (p, q)
+  by-tests true true p q = terms-next M N s p q ∙ rw (p, q)
+
+pub terms-more : (T M N : ℕ) (s : List ℕ) → T ≡ suc M → termsRefusal T N s ≡ andThen (wordInside N s) (termsRefusal M N (drop (stated s) s))
+terms-more T M N s e =
+    rw e (by-tests M N s (accepted (inside termHeader termRefusal s)) (eqb (listU (pagesOf (take (stated s) s))) N) refl refl)
+    ∙ ap (λ (q : Refusal). andThen q (termsRefusal M N (drop (stated s) s))) (sym (word-then N s))
+
+-- bytes are left behind the last, or none
+module _ (T N : ℕ) (s : List ℕ) (none : T ≡ 0) where
+  pub terms-over : 0 < length s → termsRefusal T N s ≡ Layout
+  unfolding termsRefusal
+  terms-over h = rw (none, lt-ltb 0 (length s) h)
+
+  pub terms-done : length s ≤ 0 → termsRefusal T N s ≡ Accepted
+  unfolding termsRefusal
+  terms-done h = rw (none, le-ltb 0 (length s) h)
+
+-- ---- the limits, and then x
+
+abbrev pub limited : ℕ → ℕ → Refusal → Refusal
+limited N T x = cond (ltb limit N || ltb termLimit T) Limit x
+
+module _ (N T : ℕ) (x : Refusal) where
+  pub over-N : limit < N → limited N T x ≡ Limit
+  over-N h = rw (lt-ltb limit N h)
+
+  pub over-T : N ≤ limit → termLimit < T → limited N T x ≡ Limit
+  over-T l h = rw (le-ltb limit N l, lt-ltb termLimit T h)
+
+  pub within-limits : N ≤ limit → T ≤ termLimit → limited N T x ≡ x
+  within-limits l h = rw (le-ltb limit N l, le-ltb termLimit T h)
+
+-- ---- the index
+
+pub index-then : (s : List ℕ) → indexRefusal s ≡ andThen (headRefusal indexHeader s) (limited (indexN s) (indexT s) (termsRefusal (indexT s) (indexN s) (drop indexHeader s)))
+unfolding indexRefusal
+index-then s = head-then indexHeader s (limited (indexN s) (indexT s) (termsRefusal (indexT s) (indexN s) (drop indexHeader s)))
+
+-- all that is behind the first n bytes, as a part
+pub part-behind : (n : ℕ) (s : List ℕ) → take (length s - n) (drop n s) ≡ drop n s
+part-behind n s = rw (← length-drop n s) (take-length (drop n s))

@@ -1,0 +1,75 @@
+// The check of an index: the refusal that its bytes get, with each term handed on as the part of the bytes that it is.
+
+ghost use mathlib.Core.Path.{_≡_};
+ghost use Prim.Native.Nat.{_≤_};
+ghost use lib.ListN.{length, drop};
+ghost use Rattle.rules.specs.Index.{indexRefusal, termsRefusal};
+ghost use Rattle.checkindex.specs.Terms.{wordRefusal, wordInside};
+use rules::Refusal;
+
+// The refusal of a term block that should be of pages below n.
+fn check_word(block: &[u8], n: usize) -> Refusal
+    ensures { λ r. ⌜ r ≡ wordRefusal n (now (block .entry)) ⌝ }
+{
+    let term = checkterm::check_term(block);
+    if !parts::passed(term) {
+        return term;
+    }
+    let pages = findterm::pages_of(block);
+    if bits::read_u32(pages, 5) as usize != n {
+        return Refusal::Parts;
+    }
+    Refusal::Accepted
+}
+
+// The refusal of the term block at byte `at`, where the bytes behind it are what remains of the index.
+fn check_inside(s: &[u8], at: usize, n: usize) -> Refusal
+    requires { ⌜ at ≤ length (now s) ⌝ }
+    ensures { λ r. ⌜ r ≡ wordInside n (drop at (now (s .entry))) ⌝ }
+{
+    let front = parts::check_front(s, at, 44);
+    if !parts::passed(front) {
+        return front;
+    }
+    check_word(parts::part_at(s, at), n)
+}
+
+// The refusal of t term blocks of pages below n, and of what is left behind them.
+pub fn check_terms(s: &[u8], t: usize, n: usize) -> Refusal
+    ensures { λ r. ⌜ r ≡ termsRefusal t n (now (s .entry)) ⌝ }
+{
+    let mut at = 0;
+    let mut left = t;
+    while 0 < left {
+        let r = check_inside(s, at, n);
+        if !parts::passed(r) {
+            return r;
+        }
+        at += bits::read_u32(s, at) as usize;
+        left -= 1;
+    }
+    if at < s.len() {
+        return Refusal::Layout;
+    }
+    Refusal::Accepted
+}
+
+// The refusal of an index.
+pub fn check_index(card: &[u8]) -> Refusal
+    ensures { λ r. ⌜ r ≡ indexRefusal (now (card .entry)) ⌝ }
+{
+    let head = parts::check_head(card, 11);
+    if !parts::passed(head) {
+        return head;
+    }
+    let n = bits::read_u32(card, 5) as usize;
+    if 16777216 < n {
+        return Refusal::Limit;
+    }
+    let t = bits::read_u16(card, 9) as usize;
+    if 4096 < t {
+        return Refusal::Limit;
+    }
+    let end = card.len();
+    check_terms(&card[11..end], t, n)
+}

@@ -1,0 +1,3 @@
+pub mod ListsLaws
+pub mod Theorems
+pub mod Unique

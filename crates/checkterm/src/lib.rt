@@ -1,0 +1,107 @@
+// The check of a term block: the refusal that its bytes get, with each list handed on as the part of the block that it is.
+
+ghost use mathlib.Core.Path.{_≡_};
+ghost use Prim.Native.Nat.{_≤_};
+ghost use lib.ListN.{length, drop};
+ghost use Rattle.rules.specs.declared.Refusal.the-variants.{Accepted};
+ghost use Rattle.rules.specs.Limits.{listHeader};
+ghost use Rattle.rules.specs.ReadList.{decode, listRefusal};
+ghost use Rattle.rules.specs.Term.{next};
+ghost use Rattle.rules.specs.Parts.{inside};
+ghost use Rattle.rules.specs.ReadTerm.{listsOf, termRefusal};
+ghost use Rattle.checkterm.specs.Lists.{listsRefusal, disagreeing, restRefusal, ListsIn};
+use rules::Refusal;
+
+// The refusal of the list block at byte `at`, where the bytes behind it are what remains of the term.
+fn check_inside(block: &[u8], at: usize) -> Refusal
+    requires { ⌜ at ≤ length (now block) ⌝ }
+    ensures { λ r. ⌜ r ≡ inside listHeader listRefusal (drop at (now (block .entry))) ⌝ }
+{
+    let front = parts::check_front(block, at, 13);
+    if !parts::passed(front) {
+        return front;
+    }
+    checklist::check_list(parts::part_at(block, at))
+}
+
+// The first refusal of the three lists.
+fn check_lists(block: &[u8]) -> Refusal
+    requires { ⌜ 5 ≤ length (now block) ⌝ }
+    ensures { λ r. ⌜ r ≡ listsRefusal 3 (listsOf (now (block .entry))) ⌝ }
+{
+    let mut at = 5;
+    let mut left: usize = 3;
+    while 0 < left {
+        let r = check_inside(block, at);
+        if !parts::passed(r) {
+            return r;
+        }
+        at += bits::read_u32(block, at) as usize;
+        left -= 1;
+    }
+    Refusal::Accepted
+}
+
+// The last element plus 1, or 0 where there is none; it is read by its rank.
+fn next_of(list: &[u8]) -> usize
+    requires { ⌜ listRefusal (now list) ≡ Accepted ⌝ }
+    ensures { λ r. ⌜ r ≡ next 0 (decode (now (list .entry))) ⌝ }
+{
+    let g = readlist::shape_at(list);
+    let n = g.n;
+    if n == 0 {
+        return 0;
+    }
+    readlist::element_at(list, g, n - 1) + 1
+}
+
+// Whether the three lists of a term disagree.
+fn disagree(pages: &[u8], counts: &[u8], positions: &[u8]) -> bool
+    requires { ⌜ (listRefusal (now pages) ≡ Accepted) × (listRefusal (now counts) ≡ Accepted) × (listRefusal (now positions) ≡ Accepted) ⌝ }
+    ensures { λ r. ⌜ r ≡ disagreeing (now (pages .entry)) (now (counts .entry)) (now (positions .entry)) ⌝ }
+{
+    if bits::read_u32(counts, 9) != bits::read_u32(pages, 9) {
+        return true;
+    }
+    let total = bits::read_u32(counts, 5);
+    if total as usize != next_of(counts) {
+        return true;
+    }
+    if bits::read_u32(positions, 9) != total {
+        return true;
+    }
+    bits::read_u32(positions, 5) as usize != next_of(positions)
+}
+
+// The refusal of what follows the lists: bytes left over, and then lists that disagree.
+fn check_rest(block: &[u8]) -> Refusal
+    requires { ⌜ ListsIn (now block) ⌝ }
+    ensures { λ r. ⌜ r ≡ restRefusal (now (block .entry)) ⌝ }
+{
+    let last = parts::block_place(block, 5, 2);
+    if last.to < block.len() {
+        return Refusal::Layout;
+    }
+    let pages = parts::block_of(block, 5, 0);
+    let counts = parts::block_of(block, 5, 1);
+    let positions = parts::block_of(block, 5, 2);
+    if disagree(pages, counts, positions) {
+        return Refusal::Parts;
+    }
+    Refusal::Accepted
+}
+
+// The refusal of a term block.
+pub fn check_term(block: &[u8]) -> Refusal
+    ensures { λ r. ⌜ r ≡ termRefusal (now (block .entry)) ⌝ }
+{
+    let head = parts::check_head(block, 44);
+    if !parts::passed(head) {
+        return head;
+    }
+    let lists = check_lists(block);
+    if !parts::passed(lists) {
+        return lists;
+    }
+    check_rest(block)
+}

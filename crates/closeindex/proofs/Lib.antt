@@ -1,0 +1,3 @@
+pub mod CloseLaws
+pub mod Theorems
+pub mod Unique

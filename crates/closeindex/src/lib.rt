@@ -1,0 +1,60 @@
+// Closing an index in a lent buffer: the terms that lie there are checked, and then the header is written before them.
+
+ghost use mathlib.Core.Path.{_≡_};
+ghost use Prim.Native.Nat.{_≤_};
+ghost use lib.ListN.{length};
+ghost use Rattle.rules.specs.Write.{made, laid};
+ghost use Rattle.rules.specs.Index.{indexFront, closeRefusal, closeIndex};
+use rules::Refusal;
+use rules::Written;
+
+// The refusal of closing, before anything is written.
+fn close_refusal(buffer: &[u8], used: usize, n: usize, t: usize) -> Refusal
+    ensures { λ r. ⌜ r ≡ closeRefusal (now (buffer .entry)) used n t ⌝ }
+{
+    if buffer.len() < used {
+        return Refusal::Room;
+    }
+    if used < 11 {
+        return Refusal::Short;
+    }
+    if 4294967296 <= used {
+        return Refusal::Limit;
+    }
+    if 16777216 < n {
+        return Refusal::Limit;
+    }
+    if 4096 < t {
+        return Refusal::Limit;
+    }
+    checkindex::check_terms(&buffer[11..used], t, n)
+}
+
+// Writes the header of an index of `used` bytes.
+fn write_front(buffer: &mut [u8], used: usize, n: usize, t: usize)
+    requires { ⌜ 11 ≤ length (now buffer) ⌝ }
+    ensures { λ _. ⌜ now (buffer .exit) ≡ laid (indexFront used n t) (now (buffer .entry)) ⌝ }
+{
+    bits::write_u32(buffer, 0, used as u64);
+    buffer[4] = 1;
+    bits::write_u32(buffer, 5, n as u64);
+    bits::write_u16(buffer, 9, t as u64);
+}
+
+// Closes an index of t terms of pages below n in the first `used` bytes: the first 11 are its header's.
+pub fn close_index(buffer: &mut [u8], used: usize, n: u32, t: u32) -> Written
+    ensures { λ r. ⌜ made r (now (buffer .exit)) ≡ closeIndex (now (buffer .entry)) used n t ⌝ }
+{
+    let r = close_refusal(buffer, used, n as usize, t as usize);
+    if !parts::passed(r) {
+        return Written {
+            refusal: r,
+            size: 0,
+        };
+    }
+    write_front(buffer, used, n as usize, t as usize);
+    Written {
+        refusal: Refusal::Accepted,
+        size: used,
+    }
+}

@@ -1,0 +1,106 @@
+// Blocks in the bytes that hold them: the tests that every block's header gets, and the walk from block to block.
+
+ghost use mathlib.Core.Path.{_≡_};
+ghost use Prim.Native.Nat.{_≤_};
+ghost use lib.ListN.{length, take, drop};
+ghost use Rattle.rules.specs.Refusal.{accepted};
+ghost use Rattle.rules.specs.Bytes.{beAt};
+ghost use Rattle.rules.specs.Parts.{part};
+ghost use Rattle.laws.specs.Blocks.{blockAt};
+ghost use Rattle.parts.specs.Places.{headRefusal, frontRefusal, Held, Walkable, Placed};
+use rules::Refusal;
+
+// The byte at which a part starts, and that at which it has ended.
+pub struct Place {
+    pub from: usize,
+    pub to: usize,
+}
+
+// Whether nothing is refused.
+pub fn passed(r: Refusal) -> bool
+    ensures { λ b. ⌜ b ≡ accepted r ⌝ }
+{
+    match r {
+        Refusal::Accepted => true,
+        _ => false,
+    }
+}
+
+// The first three tests of a block whose header has h bytes: bytes enough, their number stated, and the version.
+pub fn check_head(block: &[u8], h: usize) -> Refusal
+    requires { ⌜ 5 ≤ h ⌝ }
+    ensures { λ r. ⌜ r ≡ headRefusal h (now (block .entry)) ⌝ }
+{
+    if block.len() < h {
+        return Refusal::Short;
+    }
+    if bits::read_u32(block, 0) as usize != block.len() {
+        return Refusal::Length;
+    }
+    if block[4] != 1 {
+        return Refusal::Version;
+    }
+    Refusal::Accepted
+}
+
+// Whether the block at byte `at`, whose header has h bytes, lies within the bytes.
+pub fn check_front(s: &[u8], at: usize, h: usize) -> Refusal
+    requires { ⌜ (at ≤ length (now s)) × (4 ≤ h) ⌝ }
+    ensures { λ r. ⌜ r ≡ frontRefusal h (drop at (now (s .entry))) ⌝ }
+{
+    let left = s.len() - at;
+    if left < h {
+        return Refusal::Short;
+    }
+    let size = bits::read_u32(s, at) as usize;
+    if size < h {
+        return Refusal::Length;
+    }
+    if left < size {
+        return Refusal::Length;
+    }
+    Refusal::Accepted
+}
+
+// The block at byte `at`.
+pub fn part_at(s: &[u8], at: usize) -> &[u8]
+    requires { ⌜ Held at (now s) ⌝ }
+    ensures { λ r. ⌜ now r ≡ take (beAt 4 (now (s .entry)) at) (drop at (now (s .entry))) ⌝ }
+{
+    let to = at + bits::read_u32(s, at) as usize;
+    &s[at..to]
+}
+
+// Where block number k starts, found by the lengths that those before it state; the first starts at byte `from`.
+pub fn block_start(s: &[u8], from: usize, k: usize) -> usize
+    requires { ⌜ Walkable from k (now s) ⌝ }
+    ensures { λ r. ⌜ r ≡ blockAt from k (now (s .entry)) ⌝ }
+{
+    let mut at = from;
+    let mut i = 0;
+    while i < k {
+        at += bits::read_u32(s, at) as usize;
+        i += 1;
+    }
+    at
+}
+
+// The place of block number k.
+pub fn block_place(s: &[u8], from: usize, k: usize) -> Place
+    requires { ⌜ Walkable from k (now s) ⌝ }
+    ensures { λ r. ⌜ Placed from k (now (s .entry)) r ⌝ }
+{
+    let at = block_start(s, from, k);
+    Place {
+        from: at,
+        to: at + bits::read_u32(s, at) as usize,
+    }
+}
+
+// Block number k itself.
+pub fn block_of(s: &[u8], from: usize, k: usize) -> &[u8]
+    requires { ⌜ Walkable from k (now s) ⌝ }
+    ensures { λ r. ⌜ now r ≡ part k (drop from (now (s .entry))) ⌝ }
+{
+    part_at(s, block_start(s, from, k))
+}
