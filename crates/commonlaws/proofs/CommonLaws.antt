@@ -1,0 +1,180 @@
+-- Common pages: the step rule's pages are those of plain reading whichever list leads, its seeks are at most k * m + 1, and
+-- its looks at most its seeks and the words of the lists' upper runs.
+use mathlib.Core.Bool.{Bool, true, false, _&&_, false≢true}
+use mathlib.Core.Path.{_≡_, refl, sym, ap, ap₂, _∙_}
+use mathlib.Core.List.{List, [], _∷_}
+use Prim.Native.Nat.{ℕ, _+_, _*_, _≤_, _<_}
+use native.Mathlib.Nat.{mul-le-mul-left, le-trans}
+use native.Mathlib.Decide.{ℕ-discrete}
+use native.Mathlib.Omega.{arith}
+use borrow.Author.Tests.{le-leb, lt-ltb}
+use lib.ListN.{length, getD}
+use Rattle.rules.specs.List.{rising}
+use Rattle.rules.specs.Seek.{fresh}
+use Rattle.rules.specs.Common.{readersOf, common}
+use Rattle.rules.specs.Questions.{member, inAll, sharedBy, commonPages}
+use Rattle.listlaws.proofs.RisingLaws.{rising-parts}
+use Rattle.seeklaws.proofs.FirstLaws.{and-false}
+use Rattle.seeklaws.proofs.SeekLaws.{behind-fresh}
+use Rattle.commonlaws.specs.Readers.{pagesOf, Rise, Ready, AllReady, reachedBy, wordsOf, from, sharedFrom, leftIn, leadPages, otherPages}
+use Rattle.commonlaws.specs.Next.{allRounds, freshLead, freshOthers, commonFrom}
+use Rattle.commonlaws.specs.Outcomes.{Tallied}
+use Rattle.commonlaws.proofs.SharedLaws.{member-here, member-past, from-zero, from-le, shared-yes, shared-no, shared-from}
+use Rattle.commonlaws.proofs.NextLaws.{length-pages}
+use Rattle.commonlaws.proofs.TallyLaws.{rounds-tallied}
+use Rattle.commonlaws.proofs.PickLaws.{Pick, lead-leads, lead-picked, pick-inAll, pick-words, pick-length, pick-rise}
+
+-- ---- rising lists with the same members are one
+
+rising-cons : (lo U x : ℕ) (xs : List ℕ) → lo ≤ x → x < U → rising (x + 1) U xs ≡ true → rising lo U (x ∷ xs) ≡ true
+unfolding rising
+rising-cons lo U x xs h l r = rw (le-leb lo x h, lt-ltb x U l) r
+
+rising-lower : (lo d U : ℕ) (xs : List ℕ) → d ≤ lo → rising lo U xs ≡ true → rising d U xs ≡ true
+unfolding rising
+rising-lower lo d U [] h r = refl
+rising-lower lo d U (x ∷ xs) h r =
+    let t = rising-parts lo U x xs r in
+    rising-cons d U x xs (omega (arith, t .0)) (t .1) (t .2)
+
+member-least : (lo U x : ℕ) (xs : List ℕ) → rising lo U xs ≡ true → member x xs ≡ true → lo ≤ x
+unfolding member
+member-least lo U x [] r m = absurd (false≢true m)
+member-least lo U x (y ∷ xs) r m =
+    let t = rising-parts lo U y xs r in
+    elim (ℕ-discrete x y) [
+      | yes e ↦ omega (arith, t .0)
+      | no e ↦ omega (arith, t .0, member-least (y + 1) U x xs (t .2) (sym (member-past x y xs e) ∙ m))
+    ]
+
+member-tail : (lo U x : ℕ) (xs : List ℕ) → rising lo U xs ≡ true → x < lo → member x xs ≡ false
+member-tail lo U x xs r h = go (member x xs) refl
+  where
+    go : (b : Bool) → member x xs ≡ b → member x xs ≡ false
+    go true e = absurd (omega (arith, member-least lo U x xs r e))
+    go false e = e
+
+rising-same : (lo U : ℕ) (xs ys : List ℕ) → rising lo U xs ≡ true → rising lo U ys ≡ true → ((x : ℕ) → member x xs ≡ member x ys) → xs ≡ ys
+unfolding member
+rising-same lo U [] [] r q e = refl
+rising-same lo U [] (y ∷ ys) r q e = absurd (false≢true (e y ∙ member-here y ys))
+rising-same lo U (x ∷ xs) [] r q e = absurd (false≢true (sym (e x) ∙ member-here x xs))
+rising-same lo U (x ∷ xs) (y ∷ ys) r q e =
+    let t = rising-parts lo U x xs r in
+    let s = rising-parts lo U y ys q in
+    let a = member-least y U x (y ∷ ys) (rising-cons y U y ys (omega arith) (s .1) (s .2)) (sym (e x) ∙ member-here x xs) in
+    let b = member-least x U y (x ∷ xs) (rising-cons x U x xs (omega arith) (t .1) (t .2)) (e y ∙ member-here y ys) in
+    let same : y ≡ x = omega arith in
+    let q′ = rw same at (s .2) in
+    ap₂ _∷_ (sym same) (rising-same (x + 1) U xs ys (t .2) q′ (λ z.
+    elim (ℕ-discrete z x) [
+      | yes d ↦ member-tail (x + 1) U z xs (t .2) (omega arith) ∙ sym (member-tail (x + 1) U z ys q′ (omega arith))
+      | no d ↦ sym (member-past z x xs d) ∙ e z ∙ member-past z y ys (λ g. d (g ∙ same))
+    ]))
+
+-- ---- shared pages
+
+module _ (ls : List (List ℕ)) where
+  shared-member : (x : ℕ) (xs : List ℕ) → member x (sharedBy ls xs) ≡ member x xs && inAll x ls
+  unfolding sharedBy member
+  shared-member x [] = refl
+  shared-member x (y ∷ xs) = go (shared-member x xs) (inAll y ls) refl (ℕ-discrete x y)
+    where
+      go : member x (sharedBy ls xs) ≡ member x xs && inAll x ls → (b : Bool) → inAll y ls ≡ b → Dec (x ≡ y)
+          → member x (sharedBy ls (y ∷ xs)) ≡ member x (y ∷ xs) && inAll x ls
+      go ih true e (yes d) = rw (shared-yes ls y xs e, d, member-here y (sharedBy ls xs), member-here y xs) (sym e)
+      go ih true e (no d) = rw (shared-yes ls y xs e, member-past x y (sharedBy ls xs) d, member-past x y xs d) ih
+      go ih false e (yes d) =
+          let z : inAll x ls ≡ false = ap (λ (n : ℕ). inAll n ls) d ∙ e in
+          rw (shared-no ls y xs e, z) (rw z at ih ∙ and-false (member x xs) ∙ sym (and-false (member x (y ∷ xs))))
+      go ih false e (no d) = rw (shared-no ls y xs e, member-past x y xs d) ih
+
+  shared-rising : (lo U : ℕ) (xs : List ℕ) → rising lo U xs ≡ true → rising lo U (sharedBy ls xs) ≡ true
+  unfolding sharedBy
+  shared-rising lo U [] r = r
+  shared-rising lo U (x ∷ xs) r = go (shared-rising (x + 1) U xs (rising-parts lo U x xs r .2)) (inAll x ls) refl
+    where
+      go : rising (x + 1) U (sharedBy ls xs) ≡ true → (b : Bool) → inAll x ls ≡ b → rising lo U (sharedBy ls (x ∷ xs)) ≡ true
+      go ih true e = rw (shared-yes ls x xs e) (let t = rising-parts lo U x xs r in rising-cons lo U x (sharedBy ls xs) (t .0) (t .1) ih)
+      go ih false e = rw (shared-no ls x xs e) (rising-lower (x + 1) lo U (sharedBy ls xs) (omega (arith, rising-parts lo U x xs r .0)) ih)
+
+-- whichever list is picked, it shares the same pages with the others
+pub pick-common : (U : ℕ) (ls : List (List ℕ)) (p : List ℕ) (rest : List (List ℕ)) → 0 < length ls → Pick ls p rest → Rise U ls
+    → sharedBy rest p ≡ commonPages ls
+unfolding commonPages inAll
+pick-common U [] p rest h k r = absurd (omega arith)
+pick-common U (l ∷ ls) p rest h k r =
+    rising-same 0 U (sharedBy rest p) (sharedBy ls l) (shared-rising rest 0 U p (pick-rise U k r .0)) (shared-rising ls 0 U l (r .0))
+    (λ x. shared-member rest x p ∙ pick-inAll x k ∙ sym (shared-member ls x l))
+
+-- ---- fresh readers
+
+pub fresh-ready : (U b : ℕ) (l : List ℕ) → rising 0 U l ≡ true → Ready U b (record { pages = l; cursor = fresh })
+fresh-ready U b l r = record { rises = r; placed = tt; behind = behind-fresh U l r b }
+
+pub readers-ready : (U b : ℕ) (ls : List (List ℕ)) → Rise U ls → AllReady U b (readersOf ls)
+unfolding readersOf
+readers-ready U b [] r = tt
+readers-ready U b (l ∷ ls) r = (fresh-ready U b l (r .0), readers-ready U b ls (r .1))
+
+pub readers-pages : (ls : List (List ℕ)) → pagesOf (readersOf ls) ≡ ls
+unfolding readersOf pagesOf
+readers-pages [] = refl
+readers-pages (l ∷ ls) = ap (λ (r : List (List ℕ)). l ∷ r) (readers-pages ls)
+
+pub common-from : (U : ℕ) (ls : List (List ℕ)) → common U ls ≡ commonFrom U ls 0
+unfolding common commonFrom allRounds freshLead freshOthers leadPages otherPages
+common-from U ls = refl
+
+-- ---- the rule on the lists ls, from a bound on
+
+module _ (U : ℕ) (ls : List (List ℕ)) (some : 0 < length ls) (r : Rise U ls) where
+  picked : Pick ls (leadPages ls) (otherPages ls)
+  picked = lead-picked ls some
+
+  pub lead-ready : (b : ℕ) → Ready U b (freshLead ls)
+  unfolding freshLead
+  lead-ready b = fresh-ready U b (leadPages ls) (pick-rise U picked r .0)
+
+  pub others-ready : (b : ℕ) → AllReady U b (freshOthers ls)
+  unfolding freshOthers
+  others-ready b = readers-ready U b (otherPages ls) (pick-rise U picked r .1)
+
+  module _ (b : ℕ) where
+    tallied : Tallied U b (freshLead ls) (freshOthers ls) (reachedBy U (freshLead ls ∷ freshOthers ls)) (commonFrom U ls b)
+    unfolding commonFrom
+    tallied = rounds-tallied U (freshLead ls) (freshOthers ls) b (lead-ready b) (others-ready b)
+
+    -- what the lead shares with the others is what all lists share
+    pub lead-shares : sharedFrom b (freshLead ls) (freshOthers ls) ≡ from b (commonPages ls)
+    unfolding freshLead freshOthers
+    lead-shares =
+        rw (readers-pages (otherPages ls)) (shared-from (otherPages ls) b (leadPages ls))
+        ∙ ap (from b) (pick-common U ls (leadPages ls) (otherPages ls) some picked r)
+
+    pub from-listed : commonFrom U ls b .listed ≡ from b (commonPages ls)
+    from-listed = tallied .listed ∙ lead-shares
+
+    -- at most k * m + 1 for every list's length m, so for the shortest
+    pub from-seeks : (j : ℕ) → j < length ls → commonFrom U ls b .seeks ≤ length ls * length (getD ls j []) + 1
+    unfolding freshLead freshOthers
+    from-seeks j h =
+        let k : 1 + length (freshOthers ls) ≡ length ls = ap (λ (n : ℕ). 1 + n) (sym (length-pages (freshOthers ls)) ∙ ap length (readers-pages (otherPages ls))) ∙ pick-length picked in
+        let m : leftIn b (freshLead ls) ≤ length (getD ls j []) = le-trans (from-le b (leadPages ls)) (unfold leadPages in lead-leads ls some .least j h) in
+        omega (arith, rw k at (tallied .seeks), mul-le-mul-left (length ls) m)
+
+    -- a list's words count as often as it is named
+    pub from-looks : commonFrom U ls b .looks ≤ commonFrom U ls b .seeks + wordsOf U ls
+    unfolding freshLead freshOthers
+    from-looks = omega (arith, rw (readers-pages (otherPages ls), pick-words U picked) at (tallied .looks))
+
+  -- ---- common pages
+
+  pub common-listed : common U ls .listed ≡ commonPages ls
+  common-listed = rw (common-from U ls) (from-listed 0 ∙ from-zero (commonPages ls))
+
+  pub common-seeks : (j : ℕ) → j < length ls → common U ls .seeks ≤ length ls * length (getD ls j []) + 1
+  common-seeks = rw (common-from U ls) (from-seeks 0)
+
+  pub common-looks : common U ls .looks ≤ common U ls .seeks + wordsOf U ls
+  common-looks = rw (common-from U ls) (from-looks 0)

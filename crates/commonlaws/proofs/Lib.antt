@@ -1,0 +1,9 @@
+pub mod SharedLaws
+pub mod AgreeLaws
+pub mod TurnLaws
+pub mod FuelLaws
+pub mod NextLaws
+pub mod TallyLaws
+pub mod PickLaws
+pub mod CommonLaws
+pub mod LoopLaws

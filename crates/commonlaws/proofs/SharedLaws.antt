@@ -1,0 +1,206 @@
+-- Laws of members of rising lists, of those from a bound on, and of those that all lists share.
+use mathlib.Core.Bool.{Bool, true, false, cond}
+use mathlib.Core.Path.{_≡_, refl, sym, ap, _∙_}
+use mathlib.Core.List.{List, [], _∷_, _++_}
+use Prim.Native.Nat.{ℕ, zero, suc, _+_, _≤_, _<_}
+use native.Mathlib.Decide.{decLe, decLt, ℕ-discrete}
+use native.Mathlib.Omega.{arith}
+use borrow.Author.Tests.{le-leb, lt-leb, eq-eqb, ne-eqb}
+use lib.ListN.{length, getD}
+use Rattle.rules.specs.List.{rising}
+use Rattle.rules.specs.Seek.{Found, none, page}
+use Rattle.rules.specs.Questions.{firstFrom, member, inAll, sharedBy, commonPages}
+use Rattle.listlaws.proofs.RisingLaws.{rising-parts}
+use Rattle.seeklaws.specs.Cursors.{firstAt, foundAt}
+use Rattle.seeklaws.proofs.FirstLaws.{rising-lt, firstAt-here, firstAt-past, firstAt-le, firstAt-before, firstAt-at, first-found, foundAt-none, foundAt-page}
+use Rattle.commonlaws.specs.Readers.{from}
+
+-- ---- members
+
+pub member-here : (x : ℕ) (xs : List ℕ) → member x (x ∷ xs) ≡ true
+unfolding member
+member-here x xs = rw (eq-eqb x x refl)
+
+pub member-past : (x y : ℕ) (xs : List ℕ) → (x ≡ y → ⊥) → member x (y ∷ xs) ≡ member x xs
+unfolding member
+member-past x y xs h = rw (ne-eqb x y h)
+
+pub member-at : (xs : List ℕ) (j : ℕ) → j < length xs → member (getD xs j 0) xs ≡ true
+member-at [] j h = absurd (omega arith)
+member-at (x ∷ xs) zero h = member-here x xs
+member-at (x ∷ xs) (suc j) h =
+    elim (ℕ-discrete (getD xs j 0) x) [
+      | yes e ↦ rw e (member-here x xs)
+      | no e ↦ member-past (getD xs j 0) x xs e ∙ member-at xs j (omega arith)
+    ]
+
+pub member-none : (x : ℕ) (xs : List ℕ) → ((j : ℕ) → j < length xs → getD xs j 0 ≡ x → ⊥) → member x xs ≡ false
+unfolding member
+member-none x [] h = refl
+member-none x (y ∷ xs) h = member-past x y xs (λ e. h 0 (omega arith) (sym e)) ∙ member-none x xs (λ j l. h (suc j) (omega arith))
+
+-- ---- the first element at least b
+
+pub first-page : (b : ℕ) (xs : List ℕ) (c i : ℕ) → firstFrom b 0 xs ≡ page c i → (firstAt b xs ≡ i) × (i < length xs) × (getD xs i 0 ≡ c)
+first-page b xs c i e =
+    elim (decLt (firstAt b xs) (length xs)) [
+      | yes h ↦
+          let q : page (getD xs (firstAt b xs) 0) (firstAt b xs) ≡ page c i = sym (first-found b xs ∙ foundAt-page xs (firstAt b xs) h) ∙ e in
+          let f : firstAt b xs ≡ i = cc q in
+          let g : getD xs (firstAt b xs) 0 ≡ c = cc q in
+          (f, rw f at h, rw f at g)
+      | no h ↦
+          let l : firstAt b xs ≡ length xs = omega (arith, firstAt-le b xs) in
+          let q : none ≡ page c i = sym (first-found b xs ∙ foundAt-none xs (firstAt b xs) l) ∙ e in
+          let z : _≡_ {A = ℕ} 0 1 = cc q in
+          absurd (omega arith)
+    ]
+
+pub first-none : (b : ℕ) (xs : List ℕ) → firstFrom b 0 xs ≡ none → firstAt b xs ≡ length xs
+first-none b xs e =
+    elim (decLt (firstAt b xs) (length xs)) [
+      | yes h ↦
+          let q : page (getD xs (firstAt b xs) 0) (firstAt b xs) ≡ none = sym (first-found b xs ∙ foundAt-page xs (firstAt b xs) h) ∙ e in
+          let z : _≡_ {A = ℕ} 0 1 = cc q in
+          absurd (omega arith)
+      | no h ↦ omega (arith, firstAt-le b xs)
+    ]
+
+-- no member lies between b and the first element at least b
+pub member-gap : (U : ℕ) (xs : List ℕ) → rising 0 U xs ≡ true → (b x : ℕ) → b ≤ x
+    → (firstAt b xs < length xs → x < getD xs (firstAt b xs) 0) → member x xs ≡ false
+member-gap U xs r b x l g =
+    member-none x xs (λ j h e.
+    elim (decLt j (firstAt b xs)) [
+      | yes m ↦ omega (arith, firstAt-before b xs j m)
+      | no m ↦ elim (ℕ-discrete (firstAt b xs) j) [
+        | yes d ↦ omega (arith, g (omega arith), ap (λ (i : ℕ). getD xs i 0) d)
+        | no d ↦ omega (arith, g (omega arith), rising-lt 0 U xs r (firstAt b xs) j (omega (arith, m, d)) h)
+      ]
+    ])
+
+-- ---- those from b on
+
+from-here : (b x : ℕ) (xs : List ℕ) → b ≤ x → from b (x ∷ xs) ≡ x ∷ from b xs
+unfolding from
+from-here b x xs h = rw (le-leb b x h, from)
+
+from-past : (b x : ℕ) (xs : List ℕ) → x < b → from b (x ∷ xs) ≡ from b xs
+unfolding from
+from-past b x xs h = rw (lt-leb b x h, from)
+
+pub from-all : (lo U : ℕ) (xs : List ℕ) → rising lo U xs ≡ true → (b : ℕ) → b ≤ lo → from b xs ≡ xs
+unfolding from
+from-all lo U [] r b h = refl
+from-all lo U (x ∷ xs) r b h =
+    let t = rising-parts lo U x xs r in
+    from-here b x xs (omega (arith, t .0)) ∙ ap (λ (l : List ℕ). x ∷ l) (from-all (x + 1) U xs (t .2) b (omega (arith, t .0)))
+
+pub from-zero : (xs : List ℕ) → from 0 xs ≡ xs
+unfolding from
+from-zero [] = refl
+from-zero (x ∷ xs) = from-here 0 x xs (omega arith) ∙ ap (λ (l : List ℕ). x ∷ l) (from-zero xs)
+
+pub from-first : (lo U : ℕ) (xs : List ℕ) → rising lo U xs ≡ true → (b : ℕ) → firstAt b xs < length xs
+    → from b xs ≡ getD xs (firstAt b xs) 0 ∷ from (getD xs (firstAt b xs) 0 + 1) xs
+from-first lo U [] r b h = absurd (omega arith)
+from-first lo U (x ∷ xs) r b h =
+    let t = rising-parts lo U x xs r in
+    elim (decLe b x) [
+      | yes l ↦
+          rw (firstAt-here b x xs l, from-here b x xs l, from-past (x + 1) x xs (omega arith))
+          (ap (λ (l : List ℕ). x ∷ l) (from-all (x + 1) U xs (t .2) b (omega arith) ∙ sym (from-all (x + 1) U xs (t .2) (x + 1) (omega arith))))
+      | no l ↦
+          let e = firstAt-past b x xs (omega arith) in
+          let g : firstAt b xs < length xs = omega (arith, e) in
+          let m = firstAt-at b xs g in
+          rw (e, from-past b x xs (omega arith), from-past (getD xs (firstAt b xs) 0 + 1) x xs (omega arith)) (from-first (x + 1) U xs (t .2) b g)
+    ]
+
+pub from-none : (b : ℕ) (xs : List ℕ) → firstAt b xs ≡ length xs → from b xs ≡ []
+unfolding from
+from-none b [] e = refl
+from-none b (x ∷ xs) e =
+    elim (decLe b x) [
+      | yes l ↦ absurd (omega (arith, firstAt-here b x xs l))
+      | no l ↦ from-past b x xs (omega arith) ∙ from-none b xs (omega (arith, firstAt-past b x xs (omega arith)))
+    ]
+
+pub from-le : (b : ℕ) (xs : List ℕ) → length (from b xs) ≤ length xs
+unfolding from
+from-le b [] = omega arith
+from-le b (x ∷ xs) =
+    elim (decLe b x) [
+      | yes l ↦ rw (from-here b x xs l) (omega (arith, from-le b xs))
+      | no l ↦ rw (from-past b x xs (omega arith)) (omega (arith, from-le b xs))
+    ]
+
+pub from-mono : (b d : ℕ) (xs : List ℕ) → b ≤ d → length (from d xs) ≤ length (from b xs)
+unfolding from
+from-mono b d [] h = omega arith
+from-mono b d (x ∷ xs) h =
+    let ih = from-mono b d xs h in
+    elim (decLe b x) [
+      | yes l ↦ elim (decLe d x) [
+        | yes m ↦ rw (from-here b x xs l, from-here d x xs m) (omega (arith, ih))
+        | no m ↦ rw (from-here b x xs l, from-past d x xs (omega arith)) (omega (arith, ih))
+      ]
+      | no l ↦ rw (from-past b x xs (omega arith), from-past d x xs (omega arith)) ih
+    ]
+
+-- ---- those that all lists share
+
+pub shared-yes : (ls : List (List ℕ)) (x : ℕ) (xs : List ℕ) → inAll x ls ≡ true → sharedBy ls (x ∷ xs) ≡ x ∷ sharedBy ls xs
+unfolding sharedBy
+shared-yes ls x xs e = rw e
+
+pub shared-no : (ls : List (List ℕ)) (x : ℕ) (xs : List ℕ) → inAll x ls ≡ false → sharedBy ls (x ∷ xs) ≡ sharedBy ls xs
+unfolding sharedBy
+shared-no ls x xs e = rw e
+
+-- between b and d there is none
+pub shared-skip : (ls : List (List ℕ)) (xs : List ℕ) (b d : ℕ) → b ≤ d → ((x : ℕ) → b ≤ x → x < d → inAll x ls ≡ false)
+    → sharedBy ls (from b xs) ≡ sharedBy ls (from d xs)
+unfolding from
+shared-skip ls [] b d h g = refl
+shared-skip ls (x ∷ xs) b d h g =
+    let ih = shared-skip ls xs b d h g in
+    elim (decLe b x) [
+      | yes l ↦ elim (decLe d x) [
+        | yes m ↦ rw (from-here b x xs l, from-here d x xs m) (both x (from b xs) (from d xs) ih)
+        | no m ↦ rw (from-here b x xs l, from-past d x xs (omega arith)) (shared-no ls x (from b xs) (g x l (omega arith)) ∙ ih)
+      ]
+      | no l ↦ rw (from-past b x xs (omega arith), from-past d x xs (omega arith)) ih
+    ]
+  where
+    both : (x : ℕ) (a c : List ℕ) → sharedBy ls a ≡ sharedBy ls c → sharedBy ls (x ∷ a) ≡ sharedBy ls (x ∷ c)
+    both x a c e = unfold sharedBy in ap (λ (l : List ℕ). cond (inAll x ls) (x ∷ []) [] ++ l) e
+
+-- and from b on there is none
+pub shared-none : (ls : List (List ℕ)) (xs : List ℕ) (b : ℕ) → ((x : ℕ) → b ≤ x → inAll x ls ≡ false) → sharedBy ls (from b xs) ≡ []
+unfolding from sharedBy
+shared-none ls [] b g = refl
+shared-none ls (x ∷ xs) b g =
+    elim (decLe b x) [
+      | yes l ↦ rw (from-here b x xs l) (shared-no ls x (from b xs) (g x l) ∙ shared-none ls xs b g)
+      | no l ↦ rw (from-past b x xs (omega arith)) (shared-none ls xs b g)
+    ]
+
+-- sharing from b on
+pub shared-from : (ls : List (List ℕ)) (b : ℕ) (xs : List ℕ) → sharedBy ls (from b xs) ≡ from b (sharedBy ls xs)
+unfolding from sharedBy
+shared-from ls b [] = refl
+shared-from ls b (x ∷ xs) = go (shared-from ls b xs) (inAll x ls) refl (decLe b x)
+  where
+    go : sharedBy ls (from b xs) ≡ from b (sharedBy ls xs) → (a : Bool) → inAll x ls ≡ a → Dec (b ≤ x)
+        → sharedBy ls (from b (x ∷ xs)) ≡ from b (sharedBy ls (x ∷ xs))
+    go ih true e (yes h) = rw (from-here b x xs h, shared-yes ls x xs e, from-here b x (sharedBy ls xs) h) (shared-yes ls x (from b xs) e ∙ ap (λ (l : List ℕ). x ∷ l) ih)
+    go ih true e (no h) = rw (from-past b x xs (omega arith), shared-yes ls x xs e, from-past b x (sharedBy ls xs) (omega arith)) ih
+    go ih false e (yes h) = rw (from-here b x xs h, shared-no ls x xs e) (shared-no ls x (from b xs) e ∙ ih)
+    go ih false e (no h) = rw (from-past b x xs (omega arith), shared-no ls x xs e) ih
+
+-- one list alone shares all that it has
+pub shared-alone : (xs : List ℕ) → sharedBy [] xs ≡ xs
+unfolding sharedBy inAll
+shared-alone [] = refl
+shared-alone (x ∷ xs) = ap (λ (l : List ℕ). x ∷ l) (shared-alone xs)

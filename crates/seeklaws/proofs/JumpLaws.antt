@@ -1,0 +1,124 @@
+-- Laws of the places of elements in the upper run: their order, the run's end, and that no pointer passes an element.
+use mathlib.Core.Bool.{true}
+use mathlib.Core.Path.{_≡_, refl, _∙_}
+use mathlib.Core.Logic.{inl, inr}
+use mathlib.Core.List.{List, [], _∷_}
+use Prim.Native.Nat.{ℕ, zero, suc, _+_, _*_, _/_, _^_, _≤_, _<_}
+use native.Mathlib.Nat.{zero-add}
+use native.Mathlib.Decide.{decLt}
+use native.Mathlib.Omega.{arith}
+use lib.ListN.{length, getD}
+use lib.Pow.{shr-mono}
+use Rattle.rules.specs.List.{rising, zeros, upper, afterZero, pointer}
+use Rattle.rules.specs.Seek.{Cursor, fresh, on, spent, widthOf, placeOf, bitsOf, cursorBit, startOf, walk}
+use Rattle.laws.proofs.BitLaws.{bit-cases}
+use Rattle.listlaws.specs.Sound.{onesTo}
+use Rattle.listlaws.proofs.AfterLaws.{zero-none, ones-none, ones-steps, after-le, afterZero-is}
+use Rattle.listlaws.proofs.UpperLaws.{upper-at, upper-ones}
+use Rattle.seeklaws.specs.Cursors.{firstAt, floor, Placed, Ahead}
+use Rattle.seeklaws.proofs.FirstLaws.{rising-lt, rising-below, walk-first}
+
+-- ---- the run's end
+
+pub bits-are : (U : ℕ) (xs : List ℕ) → 0 < length xs → bitsOf U xs ≡ length xs + zeros U (widthOf U xs)
+unfolding bitsOf
+bits-are U [] h = absurd (omega arith)
+bits-are U (x ∷ xs) h = refl
+
+afterZero-le : (b u k p : ℕ) → afterZero b u k p ≤ p + b
+unfolding afterZero
+afterZero-le zero u k p = omega arith
+afterZero-le (suc b) u zero p = omega arith
+afterZero-le (suc b) u (suc k) p =
+    elim (bit-cases u p) [
+      | inl z ↦ rw (z, afterZero) (omega (arith, afterZero-le b u k (p + 1)))
+      | inr z ↦ rw (z, afterZero) (omega (arith, afterZero-le b u (suc k) (p + 1)))
+    ]
+
+pub pointer-le : (b u i : ℕ) → pointer b u i ≤ b
+unfolding pointer
+pointer-le b u i = omega (arith, afterZero-le b u (256 * i) 0)
+
+-- a walk that starts behind no element at least b ends at the first of them
+pub walk-ahead : (U : ℕ) (xs : List ℕ) (start b : ℕ) → Ahead U xs b start → walk (widthOf U xs) start b 0 xs ≡ firstAt b xs
+unfolding placeOf
+walk-ahead U xs start b a = walk-first (widthOf U xs) start b 0 xs (λ j h l. rw (zero-add j) (a j h l)) ∙ zero-add (firstAt b xs)
+
+module _ (U : ℕ) (xs : List ℕ) (r : rising 0 U xs ≡ true) where
+  -- below an element's place are as many ones as elements before it
+  place-ones : (j : ℕ) → j < length xs → onesTo (upper (widthOf U xs) 0 xs) (placeOf U xs j) ≡ j
+  unfolding placeOf
+  place-ones j h = rw (zero-add j) at (upper-at (widthOf U xs) U 0 0 xs r j h .1)
+
+  place-is : (j : ℕ) → placeOf U xs j ≡ getD xs j 0 / 2 ^ widthOf U xs + j
+  unfolding placeOf
+  place-is j = refl
+
+  high-le : (j : ℕ) → j < length xs → getD xs j 0 / 2 ^ widthOf U xs ≤ zeros U (widthOf U xs)
+  unfolding zeros
+  high-le j h = shr-mono {a = getD xs j 0} {b = U} (widthOf U xs) (omega (arith, rising-below 0 U xs r j h))
+
+  pub place-lt : (j : ℕ) → j < length xs → placeOf U xs j < bitsOf U xs
+  unfolding placeOf zeros
+  place-lt j h = omega (arith, bits-are U xs (omega arith), high-le j h)
+
+  pub place-mono : (i j : ℕ) → i < j → j < length xs → placeOf U xs i < placeOf U xs j
+  unfolding placeOf
+  place-mono i j l h =
+      let g : getD xs i 0 ≤ getD xs j 0 = omega (arith, rising-lt 0 U xs r i j l h) in
+      omega (arith, shr-mono {a = getD xs i 0} {b = getD xs j 0} (widthOf U xs) g)
+
+  -- ---- jumps
+
+  -- the place after zero number k passes no element whose high part is at least k
+  after-ahead : (k j : ℕ) → j < length xs → k ≤ getD xs j 0 / 2 ^ widthOf U xs
+      → afterZero (bitsOf U xs) (upper (widthOf U xs) 0 xs) k 0 ≤ placeOf U xs j
+  after-ahead zero j h l = rw zero-none (omega arith)
+  after-ahead (suc k) j h l =
+      let w : ℕ = widthOf U xs in
+      let u : ℕ = upper w 0 xs in
+      let b : ℕ = bitsOf U xs in
+      let e = bits-are U xs (omega arith) in
+      let z : 0 + b ≡ b = omega arith in
+      let all : onesTo u b ≡ length xs = upper-ones w U 0 0 xs r b (omega (arith, e)) .1 in
+      let below : onesTo u (placeOf U xs j) ≡ j = place-ones j h in
+      let a = afterZero-is u b (suc k) 0 0 (omega (arith, ones-none u)) (omega arith) (rw z (omega (arith, all, ones-none u, e, high-le j h))) in
+      after-le (onesTo u) (ones-steps u) (0 + suc k) (afterZero b u (suc k) 0) a (placeOf U xs j) (omega (arith, below, place-is j))
+
+  -- no pointer that a seek for b reads passes an element at least b
+  pub pointer-ahead : (b : ℕ) → Ahead U xs b (pointer (bitsOf U xs) (upper (widthOf U xs) 0 xs) (b / 2 ^ widthOf U xs / 256))
+  unfolding pointer
+  pointer-ahead b j h l =
+      let g = shr-mono {a = b} {b = getD xs j 0} (widthOf U xs) l in
+      after-ahead (256 * (b / 2 ^ widthOf U xs / 256)) j h (omega (arith, g))
+
+  -- nor does the bit of a cursor that is on an element up to b
+  pub cursor-ahead : (c : Cursor) (b : ℕ) → Placed xs c → floor U xs c ≤ b → Ahead U xs b (cursorBit U xs c)
+  unfolding cursorBit floor
+  cursor-ahead fresh b p f j h l = omega arith
+  cursor-ahead spent b p f j h l = omega arith
+  cursor-ahead (on i) b p f j h l =
+      elim (decLt i j) [
+        | yes g ↦ omega (arith, place-mono i j g h)
+        | no g ↦
+            elim (decLt j i) [
+              | yes m ↦ absurd (omega (arith, rising-lt 0 U xs r j i m p))
+              | no m ↦
+                  let e : i ≡ j = omega arith in
+                  rw e (omega arith)
+            ]
+      ]
+
+  pub start-ahead : (c : Cursor) (b : ℕ) → Placed xs c → floor U xs c ≤ b → Ahead U xs b (startOf U xs c b)
+  unfolding startOf
+  start-ahead c b p f j h l = omega (arith, cursor-ahead c b p f j h l, pointer-ahead b j h l)
+
+  pub cursor-lt : (c : Cursor) → Placed xs c → 0 < length xs → cursorBit U xs c < bitsOf U xs
+  unfolding cursorBit
+  cursor-lt fresh p h = omega (arith, bits-are U xs h)
+  cursor-lt spent p h = omega (arith, bits-are U xs h)
+  cursor-lt (on i) p h = place-lt i p
+
+  pub start-le : (c : Cursor) (b : ℕ) → Placed xs c → 0 < length xs → startOf U xs c b ≤ bitsOf U xs
+  unfolding startOf
+  start-le c b p h = omega (arith, cursor-lt c p h, pointer-le (bitsOf U xs) (upper (widthOf U xs) 0 xs) (b / 2 ^ widthOf U xs / 256))
