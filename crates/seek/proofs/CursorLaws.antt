@@ -1,0 +1,86 @@
+-- Laws of cursors as structs of numbers: their marks, the rule's cursor that one holds, and what a seek makes of it.
+use mathlib.Core.Bool.{true}
+use mathlib.Core.Path.{_≡_, _∙_}
+use mathlib.Core.List.{List}
+use Prim.Native.Nat.{ℕ, _+_, _-_, _/_, _^_, _≤_, _<_}
+use native.Mathlib.Decide.{decLt}
+use native.Mathlib.Omega.{arith}
+use borrow.Author.Tests.{le-leb, lt-leb, eq-eqb, ne-eqb}
+use lib.ListN.{length, getD}
+use lib.Pow.{shr-mono}
+use Rattle.rules.specs.Limits.{limit}
+use Rattle.rules.specs.List.{rising}
+use Rattle.rules.specs.Seek.{Cursor as Placing, fresh, on, spent, widthOf, placeOf, cursorBit}
+use Rattle.seeklaws.specs.Cursors.{Placed, floor}
+use Rattle.seeklaws.proofs.FirstLaws.{rising-below}
+use Rattle.seek.specs.declared.Cursor.{Cursor}
+use Rattle.seek.specs.Cursors.{spentMark, markOf, rankIn, ruleCursor, Held, markFrom}
+
+-- ---- marks
+
+pub mark-below : (xs : List ℕ) (b i : ℕ) → getD xs i 0 < b → markFrom xs b i ≡ 0
+unfolding markFrom
+mark-below xs b i h = rw (lt-leb b (getD xs i 0) h)
+
+pub mark-from : (xs : List ℕ) (b i : ℕ) → b ≤ getD xs i 0 → markFrom xs b i ≡ getD xs i 0 + 1
+unfolding markFrom
+mark-from xs b i h = rw (le-leb b (getD xs i 0) h)
+
+-- what a mark tells of its element
+pub mark-none : (xs : List ℕ) (b i m : ℕ) → m ≡ markFrom xs b i → m ≡ 0 → getD xs i 0 < b
+mark-none xs b i m e z = elim (decLt (getD xs i 0) b) [ yes l ↦ l | no l ↦ absurd (omega (arith, e, mark-from xs b i (omega arith))) ]
+
+pub mark-some : (xs : List ℕ) (b i m : ℕ) → m ≡ markFrom xs b i → (m ≡ 0 → ⊥) → (b ≤ getD xs i 0) × (m ≡ getD xs i 0 + 1)
+mark-some xs b i m e z =
+    elim (decLt (getD xs i 0) b) [
+      | yes l ↦ absurd (z (e ∙ mark-below xs b i l))
+      | no l ↦
+          let h : b ≤ getD xs i 0 = omega arith in
+          (h, e ∙ mark-from xs b i h)
+    ]
+
+-- an element of a lower bucket is lower
+pub lower-high : (x b w : ℕ) → x / 2 ^ w < b / 2 ^ w → x < b
+lower-high x b w h = elim (decLt x b) [ yes l ↦ l | no l ↦ absurd (omega (arith, shr-mono {a = b} {b = x} w (omega arith))) ]
+
+-- ---- the rule's cursor that a struct holds
+
+module _ (U : ℕ) (xs : List ℕ) (r : rising 0 U xs ≡ true) (within : U ≤ limit) where
+  held-at : (c : Cursor) (a : Placing) → Placed xs a → c .mark ≡ markOf xs a → c .bit ≡ cursorBit U xs a
+      → ruleCursor U xs c ≡ a
+  unfolding ruleCursor rankIn markOf cursorBit placeOf
+  held-at c fresh p m b = rw (eq-eqb (c .mark) 0 m)
+  held-at c spent p m b = rw (ne-eqb (c .mark) 0 (λ e. omega arith), eq-eqb (c .mark) spentMark m)
+  held-at c (on i) p m b =
+      let l = rising-below 0 U xs r i p in
+      let e : c .mark - 1 ≡ getD xs i 0 = omega arith in
+      let d : c .bit - getD xs i 0 / 2 ^ widthOf U xs ≡ i = omega arith in
+      rw (ne-eqb (c .mark) 0 (λ e. omega arith), ne-eqb (c .mark) spentMark (λ e. omega arith), e, d)
+
+  pub held-rule : (c : Cursor) (h : Held U xs c) → ruleCursor U xs c ≡ h .place
+  held-rule c h = held-at c (h .place) (h .placed) (h .mark-is) (h .bit-is)
+
+  floor-at : (a : Placing) (b : ℕ) → markOf xs a ≤ b → b < U → floor U xs a ≤ b
+  unfolding markOf floor
+  floor-at fresh b m l = omega arith
+  floor-at (on i) b m l = omega arith
+  floor-at spent b m l = absurd (omega arith)
+
+  -- a cursor whose mark is up to b, below U, is up to b
+  pub held-floor : (c : Cursor) (h : Held U xs c) (b : ℕ) → c .mark ≤ b → b < U → floor U xs (h .place) ≤ b
+  held-floor c h b m l = floor-at (h .place) b (rw (h .mark-is) at m) l
+
+on-at : (U : ℕ) (xs : List ℕ) (c : Cursor) (a : Placing) → Placed xs a → c .mark ≡ markOf xs a
+    → c .bit ≡ cursorBit U xs a → 0 < c .mark → c .mark < spentMark
+    → (0 < length xs) × ((c .mark - 1) / 2 ^ widthOf U xs ≤ c .bit)
+unfolding markOf cursorBit placeOf
+on-at U xs c fresh p m b l k = absurd (omega arith)
+on-at U xs c spent p m b l k = absurd (omega arith)
+on-at U xs c (on i) p m b l k =
+    let e : c .mark - 1 ≡ getD xs i 0 = omega arith in
+    (omega arith, rw e (omega arith))
+
+-- a cursor on an element is not before the element's high part
+pub held-on : (U : ℕ) (xs : List ℕ) (c : Cursor) → Held U xs c → 0 < c .mark → c .mark < spentMark
+    → (0 < length xs) × ((c .mark - 1) / 2 ^ widthOf U xs ≤ c .bit)
+held-on U xs c h = on-at U xs c (h .place) (h .placed) (h .mark-is) (h .bit-is)

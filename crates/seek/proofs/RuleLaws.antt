@@ -1,0 +1,120 @@
+-- The step rule's seek case by case, as a search ends: it stays, is spent with no look, or has walked from its start.
+use mathlib.Core.Bool.{true}
+use mathlib.Core.Path.{_≡_, refl, sym, ap, _∙_}
+use mathlib.Core.Logic.{_⊎_, inl, inr}
+use mathlib.Core.List.{List}
+use Prim.Native.Nat.{ℕ, _+_, _-_, _/_, _≤_, _<_}
+use native.Mathlib.Decide.{ℕ-discrete}
+use native.Mathlib.Omega.{arith}
+use lib.ListN.{length}
+use Rattle.rules.specs.Limits.{limit}
+use Rattle.rules.specs.Runs.{wordsFor}
+use Rattle.rules.specs.List.{rising}
+use Rattle.rules.specs.Seek.{Cursor as Placing, fresh, on, spent, Sought, placeOf, bitsOf, upperWords, cursorBit, startOf, looksTo, gone, arrived, seek}
+use Rattle.seeklaws.specs.Cursors.{firstAt, cursorAt, Moves}
+use Rattle.seeklaws.proofs.FirstLaws.{firstAt-le, firstAt-at}
+use Rattle.seeklaws.proofs.JumpLaws.{start-ahead}
+use Rattle.seeklaws.proofs.SeekLaws.{cursorAt-spent, cursorAt-on}
+use Rattle.seeklaws.proofs.ArmLaws.{seek-stays, seek-spent, seek-empty, seek-past, seek-end, seek-none, seek-finds}
+use Rattle.seek.specs.declared.Cursor.{Cursor}
+use Rattle.seek.specs.declared.Landing.{Landing}
+use Rattle.seek.specs.Cursors.{spentMark, markOf, ruleCursor, Held, landing}
+use Rattle.seek.specs.Walks.{lastWord}
+use Rattle.seek.proofs.CursorLaws.{held-rule, held-floor}
+use Rattle.seek.proofs.LandLaws.{last-on, last-none}
+
+landing-ext : (r t : Landing) → r .mark ≡ t .mark → r .bit ≡ t .bit → r .looks ≡ t .looks → r ≡ t
+landing-ext r t m b l =
+    let e : _≡_ {A = Landing} (record { mark = r .mark; bit = r .bit; looks = r .looks }) (record { mark = t .mark; bit = t .bit; looks = t .looks }) = rw (m, b, l) in
+    e
+
+-- a cursor behind b moves, or is spent
+moves : (xs : List ℕ) (a : Placing) (b : ℕ) → markOf xs a ≤ b → Moves xs a b ⊎ (a ≡ spent)
+unfolding markOf
+moves xs fresh b l = inl tt
+moves xs (on i) b l = inl (omega arith)
+moves xs spent b l = inr refl
+
+seek-nothing : (U : ℕ) (xs : List ℕ) (a : Placing) (b : ℕ) → markOf xs a ≤ b → (length xs ≡ 0) ⊎ (U ≤ b)
+    → seek U xs a b ≡ gone 0
+seek-nothing U xs a b l h =
+    elim (moves xs a b l) [
+      | inr e ↦ rw e (seek-spent U xs b)
+      | inl m ↦
+          elim (ℕ-discrete (length xs) 0) [
+            | yes e ↦ seek-empty U xs a b m e
+            | no e ↦ elim h [ inl z ↦ absurd (e z) | inr u ↦ seek-past U xs a b m u (omega arith) ]
+          ]
+    ]
+
+-- ---- where a search ends
+
+module _ (U : ℕ) (xs : List ℕ) (rises : rising 0 U xs ≡ true) (within : U ≤ limit) (c : Cursor) (h : Held U xs c) (b : ℕ) where
+  landing-is : (a : Sought) → seek U xs (h .place) b ≡ a → (r : Landing) → r .mark ≡ markOf xs (a .cursor)
+      → r .bit ≡ cursorBit U xs (a .cursor) → r .looks ≡ c .looks + a .looks
+      → r ≡ landing U xs c b
+  unfolding landing
+  landing-is a e r m p l =
+      let d : seek U xs (ruleCursor U xs c) b ≡ a = rw (held-rule U xs rises within c h) e in
+      landing-ext r (landing U xs c b) (rw d m) (rw d p) (rw d l)
+
+  landing-gone : (r : Landing) → seek U xs (h .place) b ≡ gone 0 → r .mark ≡ spentMark → r .bit ≡ 0
+      → r .looks ≡ c .looks → r ≡ landing U xs c b
+  unfolding gone markOf cursorBit
+  landing-gone r e m p l = landing-is (gone 0) e r m p (omega arith)
+
+  -- a cursor on an element at or above b stays, and so does a spent one
+  stays-at : (a : Placing) → b < markOf xs a → (seek U xs a b .cursor ≡ a) × (seek U xs a b .looks ≡ 0)
+  unfolding markOf gone
+  stays-at fresh l = absurd (omega arith)
+  stays-at spent l = rw (seek-spent U xs b) (refl, refl)
+  stays-at (on i) l = rw (seek-stays U xs i b (omega arith)) (unfold arrived in (refl, refl))
+
+  pub landing-stays : (r : Landing) → b < c .mark → r .mark ≡ c .mark → r .bit ≡ c .bit → r .looks ≡ c .looks
+      → r ≡ landing U xs c b
+  landing-stays r g m p l =
+      let s = stays-at (h .place) (rw (h .mark-is) at g) in
+      landing-is (seek U xs (h .place) b) refl r (rw (s .0) (m ∙ h .mark-is)) (rw (s .0) (p ∙ h .bit-is)) (rw (s .1) (omega arith))
+
+  module _ (ahead : c .mark ≤ b) where
+    behind : markOf xs (h .place) ≤ b
+    behind = rw (h .mark-is) at ahead
+
+    pub landing-none : (r : Landing) → (length xs ≡ 0) ⊎ (U ≤ b) → r .mark ≡ spentMark → r .bit ≡ 0
+        → r .looks ≡ c .looks → r ≡ landing U xs c b
+    landing-none r n = landing-gone r (seek-nothing U xs (h .place) b behind n)
+
+    module _ (below : b < U) (some : 0 < length xs) where
+      abbrev start : ℕ
+      start = startOf U xs (h .place) b
+
+      start-is : startOf U xs (ruleCursor U xs c) b ≡ start
+      start-is = ap (λ (a : Placing). startOf U xs a b) (held-rule U xs rises within c h)
+
+      goes : Moves xs (h .place) b
+      unfolding markOf
+      goes = elim (moves xs (h .place) b behind) [ inl m ↦ m | inr e ↦ absurd (omega (arith, rw e at behind)) ]
+
+      pub landing-end : (r : Landing) → startOf U xs (ruleCursor U xs c) b ≡ bitsOf U xs → r .mark ≡ spentMark
+          → r .bit ≡ 0 → r .looks ≡ c .looks → r ≡ landing U xs c b
+      landing-end r e = landing-gone r (seek-end U xs (h .place) b goes some below (sym start-is ∙ e))
+
+      -- the walk ends at the first element at least b, or at the run's last word
+      pub landing-walked : (r : Landing) → startOf U xs (ruleCursor U xs c) b < bitsOf U xs
+          → r .mark ≡ markOf xs (cursorAt xs (firstAt b xs)) → r .bit ≡ cursorBit U xs (cursorAt xs (firstAt b xs))
+          → r .looks + startOf U xs (ruleCursor U xs c) b / 64 ≡ c .looks + 1 + lastWord U xs (firstAt b xs)
+          → r ≡ landing U xs c b
+      unfolding gone arrived looksTo upperWords wordsFor
+      landing-walked r l m p n =
+          let i : ℕ = firstAt b xs in
+          let inside : start < bitsOf U xs = rw start-is at l in
+          let ahead-of = start-ahead U xs rises (h .place) b (h .placed) (held-floor U xs rises within c h b ahead below) in
+          elim (ℕ-discrete i (length xs)) [
+            | yes e ↦
+                landing-is (gone (looksTo start (bitsOf U xs - 1))) (seek-none U xs (h .place) b goes some below rises (h .placed) inside e) r
+                (rw (cursorAt-spent xs i e) at m) (rw (cursorAt-spent xs i e) at p) (omega (arith, rw (start-is, last-none U xs i e) at n))
+            | no e ↦
+                let f : i < length xs = omega (arith, firstAt-le b xs, e) in
+                landing-is (arrived xs i (looksTo start (placeOf U xs i))) (seek-finds U xs (h .place) b goes some below rises (h .placed) inside i refl f) r
+                (rw (cursorAt-on xs i f) at m) (rw (cursorAt-on xs i f) at p) (omega (arith, rw (start-is, last-on U xs i f) at n, ahead-of i f (firstAt-at b xs f)))
+          ]

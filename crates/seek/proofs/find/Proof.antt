@@ -1,0 +1,90 @@
+-- `find` ends where the step rule's seek does, case by case.
+use mathlib.Core.Path.{refl, sym, _∙_}
+use mathlib.Core.Logic.{inl, inr}
+use Prim.Native.Nat.{_<_}
+use native.Mathlib.Omega.{arith}
+use borrow.Author.Needs.{needs}
+use borrow.Author.Tests.{leb-true, leb-false}
+use Rattle.rules.specs.ReadList.{listU, decode}
+use Rattle.seek.specs.Cursors.{Moving}
+use Rattle.seek.proofs.OpenLaws.{open-U, open-within, open-n, open-length, open-rising, open-ruled}
+use Rattle.seek.proofs.RuleLaws.{landing-stays, landing-none, landing-end, landing-walked}
+use Rattle.seek.proofs.find.Statement.{statement}
+use Rattle.seek.proofs.find.Tie as tie
+
+returns : tie.Need-returns
+returns c =
+    let start = c .before .before .before in
+    let a = start .args in
+    let o = start .pre .0 in
+    landing-stays (listU (a .s .now)) (decode (a .s .now)) (open-rising (a .s .now) (a .g) o) (open-within (a .s .now) (a .g) o) (a .c) (start .pre .1) (a .b) _ (c .if1 .taken) refl refl refl
+
+returns-2 : tie.Need-returns-2
+returns-2 c =
+    let start = c .before .before .before .before .before .before in
+    let a = start .args in
+    let o = start .pre .0 in
+    let e = c .none .ensures in
+    let n = open-length (a .s .now) (a .g) o in
+    let u = open-U (a .s .now) (a .g) o in
+    landing-none (listU (a .s .now)) (decode (a .s .now)) (open-rising (a .s .now) (a .g) o) (open-within (a .s .now) (a .g) o) (a .c) (start .pre .1) (a .b)
+    (c .before .before .before .if1 .left) _ (elim (c .before .if2 .came) [ inl w ↦ inl (omega arith) | inr w ↦ inr (omega (arith, leb-true)) ]) (e .0) (e .1) (e .2)
+
+-- past the first tests the cursor moves
+moving : (c : tie.Else3) →
+    let start = c .before .before .before .before .before .before .before in
+    Moving (start .args .s .now) (start .args .c) (start .args .b)
+moving c =
+    let start = c .before .before .before .before .before .before .before in
+    let a = start .args in
+    let o = start .pre .0 in
+    record {
+      cursor = start .pre .1;
+      some = omega (arith, open-n (a .s .now) (a .g) o);
+      ahead = c .before .before .before .before .if1 .left;
+      below = omega (arith, leb-false, open-U (a .s .now) (a .g) o);
+    }
+
+start-requires : tie.Need-start-requires
+start-requires c κs = (c .before .before .before .before .before .before .before .pre .0, moving c)
+
+returns-3 : tie.Need-returns-3
+returns-3 c =
+    let start = c .before .before .before .before .before .before .before .before .before .before .before .before in
+    let a = start .args in
+    let o = start .pre .0 in
+    let n = c .none2 .ensures in
+    let m = moving (c .before .before .before .before .before) in
+    let e = c .before .before .before .before .start .ensures in
+    let some : 0 < a .g .n = omega (arith, m .some, open-n (a .s .now) (a .g) o) in
+    landing-end (listU (a .s .now)) (decode (a .s .now)) (open-rising (a .s .now) (a .g) o) (open-within (a .s .now) (a .g) o) (a .c) (start .pre .1) (a .b)
+    (m .ahead) (m .below) (rw (open-length (a .s .now) (a .g) o) some) _ (sym (e .1) ∙ c .before .if4 .taken ∙ sym (open-ruled (a .s .now) (a .g) o some .bits-is)) (n .0) (n .1) (n .2)
+
+returns-4 : tie.Need-returns-4
+returns-4 c =
+    let start = c .before .before .before .before .before .before .before .before .before .before .before .before .before in
+    let a = start .args in
+    let o = start .pre .0 in
+    let m = moving (c .before .before .before .before .before .before) in
+    let e = c .before .before .before .before .before .start .ensures in
+    let l = c .land .ensures in
+    let some : 0 < a .g .n = omega (arith, m .some, open-n (a .s .now) (a .g) o) in
+    landing-walked (listU (a .s .now)) (decode (a .s .now)) (open-rising (a .s .now) (a .g) o) (open-within (a .s .now) (a .g) o) (a .c) (start .pre .1) (a .b)
+    (m .ahead) (m .below) (rw (open-length (a .s .now) (a .g) o) some) _
+    (omega (arith, e .1, e .0 .within, open-ruled (a .s .now) (a .g) o some .bits-is)) (l .mark-is) (l .bit-is)
+    (rw (← e .1) (omega (arith, l .counted, c .before .pass .ensures .counted)))
+
+pub find-spec : {M : Type 1} → statement M
+find-spec =
+    tie.close
+    (tie.spec
+    (λ c. search needs)
+    returns
+    (λ c κs. tt)
+    returns-2
+    start-requires
+    (λ c κs. tt)
+    returns-3
+    (λ c κs. search needs)
+    (λ c κs. search needs)
+    returns-4)

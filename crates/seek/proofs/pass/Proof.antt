@@ -1,0 +1,77 @@
+-- `pass` stands at the start, or where `skip` takes it.
+use mathlib.Core.Path.{refl, ap, _∙_}
+use Prim.Native.Nat.{ℕ, _*_, _/_, _%_, _^_}
+use native.Mathlib.Omega.{arith}
+use borrow.Author.Needs.{needs}
+use Rattle.readlist.proofs.ReadLaws.{open-reads}
+use Rattle.seek.proofs.OpenLaws.{open-some, open-ruled, look-fits}
+use Rattle.seek.proofs.StartLaws.{start-word, passed-start, skipping-start, passed-skip}
+use Rattle.seek.proofs.pass.Statement.{statement}
+use Rattle.seek.proofs.pass.Tie as tie
+
+shr-h : tie.Need-shr-h
+shr-h c =
+    let start = c .before .before in
+    let r = open-reads (start .args .s .now) (start .args .g) (start .pre .0) in
+    omega arith
+
+look-requires : tie.Need-look-requires
+look-requires c κs =
+    let start = c .before .before .before .before in
+    let a = start .args in
+    let p = start .pre in
+    look-fits (a .s .now) (a .g) (p .0) (a .from .bit / 64) (a .looks) (start-word (a .s .now) (a .g) (p .0) (a .b) (a .from) (p .2) (p .3)) (omega arith)
+
+add-if1 : tie.Need-add-if1
+add-if1 c =
+    let start = c .before .before .before .before .before .before in
+    let t = start .pre .2 in
+    let r = open-reads (start .args .s .now) (start .args .g) (start .pre .0) in
+    record { fits = omega (arith, t .counted) }
+
+sub-t14 : tie.Need-sub-t14
+sub-t14 c =
+    let start = c .before .before .before .before .before .before .before .before .before in
+    omega (arith, start .pre .2 .counted)
+
+returns : tie.Need-returns
+returns c =
+    let start = c .before .before .before .before .before .before .before .before .before in
+    let a = start .args in
+    let p = start .pre in
+    let e = c .before .before .before .before .look .ensures in
+    passed-start (a .s .now) (a .g) (p .0) (a .b) (a .from) (p .2) (p .3) (a .looks) _ (p .4)
+    (c .before .from-place .ensures ∙ ap (λ (x : ℕ). x / 2 ^ (a .from .bit % 64) * 2 ^ (a .from .bit % 64)) (e .0)) refl refl (e .1)
+
+skip-requires : tie.Need-skip-requires
+skip-requires c κs =
+    let start = c .before .before .before .before .before .before .before .before .before in
+    let a = start .args in
+    let p = start .pre in
+    let e = c .before .before .before .before .look .ensures in (
+      p .0,
+      open-ruled (a .s .now) (a .g) (p .0) (open-some (a .s .now) (a .g) (p .0) (omega arith)) .zeros-is (a .b) (p .1),
+      skipping-start (a .s .now) (a .g) (p .0) (a .b) (a .from) (p .2) (p .3) _ (a .looks) _ (p .4) (e .0) (c .from-place2 .ensures) refl refl (e .1) (omega arith),
+    )
+
+returns-2 : tie.Need-returns-2
+returns-2 c =
+    let start = c .before .before .before .before .before .before .before .before .before .before in
+    let a = start .args in
+    let p = start .pre in
+    let e = c .before .before .before .before .before .look .ensures in
+    passed-skip (a .s .now) (a .g) (p .0) (a .b) (a .from) (p .2) (p .3) (a .looks) _ _ (c .skip .ensures) refl (e .1)
+
+pub pass-spec : {M : Type 1} → statement M
+pass-spec =
+    tie.close
+    (tie.spec
+    shr-h
+    look-requires
+    add-if1
+    (λ c κs. search needs)
+    (λ c. search needs)
+    returns
+    (λ c κs. search needs)
+    skip-requires
+    returns-2)
