@@ -1,0 +1,4 @@
+pub mod LeadLaws
+pub mod SourceLaws
+pub mod SlotLaws
+pub mod Theorems

@@ -1,0 +1,3 @@
+pub mod Lists
+pub mod Queries
+pub mod Listings
