@@ -1,0 +1,4 @@
+pub mod RunLaws
+pub mod TurnLaws
+pub mod CallLaws
+pub mod Unique

@@ -1,0 +1,84 @@
+// The call: a card, questions, and room for their answers.
+
+ghost use mathlib.Core.Path.{_≡_};
+ghost use mathlib.Core.Bool.{true};
+ghost use Prim.Native.Nat.{_<_};
+ghost use lib.ListN.{length};
+ghost use Rattle.rules.specs.declared.Refusal.the-variants.{Accepted};
+ghost use Rattle.rules.specs.Index.{indexT, indexRefusal};
+ghost use Rattle.rules.specs.Questions.{answer, goodQuestion};
+ghost use Rattle.rules.specs.Ask.{asked, put, fitted, ask};
+ghost use Rattle.questions.specs.Formed.{formed, answersTo};
+ghost use Rattle.questions.specs.Wrote.{Wrote};
+use rules::Outcome;
+use rules::Refusal;
+
+// The answer of a question that may be asked, whole at the front of the room; 0 where it does not fit.
+fn answer_one(card: &[u8], kind: u32, args: &[u32], room: &mut [u32]) -> usize
+    requires { ⌜ (indexRefusal (now card) ≡ Accepted) × (goodQuestion (indexT (now card)) kind (now args) ≡ true) ⌝ }
+    ensures { λ r. ⌜ Wrote (answer (now (card .entry)) kind (now (args .entry))) (now (room .entry)) r (now (room .exit)) ⌝ }
+{
+    if kind == 1 {
+        return kinds::by_rank(card, args[0] as usize, args[1] as usize, room);
+    }
+    if kind == 2 {
+        return kinds::by_bound(card, args[0], args[1] as usize, room);
+    }
+    if kind == 3 {
+        return bycommon::by_common(card, args, room);
+    }
+    phrases::by_phrase(card, args, room)
+}
+
+// Answers well-formed questions in turn, each behind the answers before it.
+fn answer_all(card: &[u8], questions: &[u32], room: &mut [u32]) -> Outcome
+    requires { ⌜ (indexRefusal (now card) ≡ Accepted) × (formed (indexT (now card)) (now questions) ≡ true) ⌝ }
+    ensures { λ r. ⌜ asked r (now (room .exit)) ≡ put (fitted (length (now (room .entry))) (answersTo (now (card .entry)) (now (questions .entry)))) (now (room .entry)) ⌝ }
+{
+    let mut at = 0;
+    let mut answered = 0;
+    let mut used = 0;
+    while at < questions.len() {
+        let from = at + 2;
+        let to = questions::end_of(questions, at);
+        let size = answer_one(card, questions[at], &questions[from..to], &mut room[used..]);
+        if size == 0 {
+            return Outcome {
+                refusal: Refusal::Room,
+                answered,
+                used,
+            };
+        }
+        used += size;
+        answered += 1;
+        at = to;
+    }
+    Outcome {
+        refusal: Refusal::Accepted,
+        answered,
+        used,
+    }
+}
+
+// The call: the card is checked whole, then all questions, and then each is answered in turn.
+pub fn ask(card: &[u8], questions: &[u32], room: &mut [u32]) -> Outcome
+    ensures { λ r. ⌜ asked r (now (room .exit)) ≡ ask (now (card .entry)) (now (questions .entry)) (now (room .entry)) ⌝ }
+{
+    let refusal = checkindex::check_index(card);
+    if !parts::passed(refusal) {
+        return Outcome {
+            refusal,
+            answered: 0,
+            used: 0,
+        };
+    }
+    let t = bits::read_u16(card, 9) as usize;
+    if !questions::well_formed(questions, t) {
+        return Outcome {
+            refusal: Refusal::Question,
+            answered: 0,
+            used: 0,
+        };
+    }
+    answer_all(card, questions, room)
+}

@@ -1,0 +1,50 @@
+-- `put_ranked` puts the element of that rank, or none.
+use native.Mathlib.Omega.{arith}
+use Rattle.rules.specs.ReadList.{decode}
+use Rattle.readlist.specs.Open.{Open}
+use Rattle.seek.proofs.OpenLaws.{open-length}
+use Rattle.kinds.proofs.KindLaws.{rank-none, rank-some, element-below}
+use borrow.Author.Needs.{needs}
+use Rattle.kinds.proofs.put_ranked.Statement.{statement}
+use Rattle.kinds.proofs.put_ranked.Tie as tie
+
+returns : tie.Need-returns
+returns c =
+    let p = c .before .before in
+    let h = p .before .before .before .before .before in
+    let a = h .before .before .before in
+    let l = open-length (a .args .pages .now) (h .shape-at .result) (record { accepted = a .pre; shape = h .shape-at .ensures }) in
+    rw (rank-none (decode (a .args .pages .now)) (a .args .rank) (omega (arith, p .before .before .before .if1 .taken))) (p .put .ensures)
+
+cast-t13 : tie.Need-cast-t13
+cast-t13 c =
+    let h = c .before .before .before in
+    let a = h .before .before .before in
+    let o : Open (a .args .pages .now) (h .shape-at .result) = record { accepted = a .pre; shape = h .shape-at .ensures } in
+    let b = element-below (a .args .pages .now) (h .shape-at .result) o (a .args .rank) (c .before .if1 .left) in
+    omega (arith, c .element-at .ensures)
+
+returns-2 : tie.Need-returns-2
+returns-2 c =
+    let p = c .before .before in
+    let e = p .before .before .before in
+    let h = e .before .before .before in
+    let a = h .before .before .before in
+    let l = open-length (a .args .pages .now) (h .shape-at .result) (record { accepted = a .pre; shape = h .shape-at .ensures }) in
+    rw (rank-some (decode (a .args .pages .now)) (a .args .rank) (omega (arith, e .before .if1 .left)), ← (e .element-at .ensures)) (p .put2 .ensures)
+
+pub put-ranked-spec : {M : Type 1} → statement M
+put-ranked-spec =
+    tie.close
+    (tie.spec
+    (λ c κs. search needs)
+    (λ c. search needs)
+    (λ c κs. search needs)
+    (λ c. search needs)
+    returns
+    (λ c κs. search needs)
+    cast-t13
+    (λ c. search needs)
+    (λ c κs. search needs)
+    (λ c. search needs)
+    returns-2)

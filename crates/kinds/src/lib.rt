@@ -1,0 +1,84 @@
+// Answers of one list: its element of a rank, and its first element at or above a bound.
+
+ghost use mathlib.Core.Path.{_≡_};
+ghost use Prim.Native.Nat.{_<_};
+ghost use lib.ListN.{length};
+ghost use Rattle.rules.specs.declared.Refusal.the-variants.{Accepted};
+ghost use Rattle.rules.specs.ReadList.{decode, listRefusal};
+ghost use Rattle.rules.specs.ReadTerm.{pagesOf};
+ghost use Rattle.rules.specs.Index.{indexT, termPart, indexRefusal};
+ghost use Rattle.rules.specs.Questions.{pagesIn, byRank, byBound};
+ghost use Rattle.questions.specs.Wrote.{Wrote};
+ghost use Rattle.kinds.specs.Ranks.{rankBy, OnElement};
+use query::Query;
+use seek::SPENT;
+
+// Puts an answer whole at the front of the room; 0 where it does not fit.
+fn put(answer: &[u32], room: &mut [u32]) -> usize
+    requires { ⌜ 0 < length (now answer) ⌝ }
+    ensures { λ r. ⌜ Wrote (now (answer .entry)) (now (room .entry)) r (now (room .exit)) ⌝ }
+{
+    let size = answer.len();
+    if room.len() < size {
+        return 0;
+    }
+    let mut i = 0;
+    while i < size {
+        room[i] = answer[i];
+        i += 1;
+    }
+    size
+}
+
+// The block of a word's pages.
+fn pages_in(card: &[u8], t: usize) -> &[u8]
+    requires { ⌜ (indexRefusal (now card) ≡ Accepted) × (t < indexT (now card)) ⌝ }
+    ensures { λ r. ⌜ now r ≡ pagesOf (termPart t (now (card .entry))) ⌝ }
+{
+    findterm::pages_of(findterm::find_term(card, t))
+}
+
+// The element of that rank, if there is one.
+fn put_ranked(pages: &[u8], rank: usize, room: &mut [u32]) -> usize
+    requires { ⌜ listRefusal (now pages) ≡ Accepted ⌝ }
+    ensures { λ r. ⌜ Wrote (byRank (decode (now (pages .entry))) rank) (now (room .entry)) r (now (room .exit)) ⌝ }
+{
+    let g = readlist::shape_at(pages);
+    if g.n <= rank {
+        return put(&[0], room);
+    }
+    let page = readlist::element_at(pages, g, rank);
+    put(&[1, page as u32], room)
+}
+
+// Kind 1: the page of that rank of word t, if there is one.
+pub fn by_rank(card: &[u8], t: usize, rank: usize, room: &mut [u32]) -> usize
+    requires { ⌜ (indexRefusal (now card) ≡ Accepted) × (t < indexT (now card)) ⌝ }
+    ensures { λ r. ⌜ Wrote (byRank (pagesIn (now (card .entry)) t) rank) (now (room .entry)) r (now (room .exit)) ⌝ }
+{
+    put_ranked(pages_in(card, t), rank, room)
+}
+
+// The rank of the page that cursor i of a query is on, in its list.
+pub fn rank_in(shapes: &[u32], q: Query, i: usize) -> usize
+    requires { ⌜ (length (now shapes) ≡ 64) × (i < 8) × (length (q .cursors) ≡ 8) × OnElement (now shapes) q i ⌝ }
+    ensures { λ r. ⌜ r ≡ rankBy (now (shapes .entry)) q i ⌝ }
+{
+    let c = q.cursors[i];
+    c.bit as usize - ((c.mark as usize - 1) >> query::number(shapes, i, 3))
+}
+
+// Kind 2: the first page at or above the bound, and its rank.
+pub fn by_bound(card: &[u8], t: u32, bound: usize, room: &mut [u32]) -> usize
+    requires { ⌜ (indexRefusal (now card) ≡ Accepted) × (t < indexT (now card)) ⌝ }
+    ensures { λ r. ⌜ Wrote (byBound (pagesIn (now (card .entry)) t) bound) (now (room .entry)) r (now (room .exit)) ⌝ }
+{
+    let mut shapes = [0u32; 64];
+    wordlists::open_pages(card, &[t], &mut shapes);
+    let turn = query::next_common(card, &shapes, Query::new(), 1, bound);
+    if turn.mark == SPENT {
+        return put(&[0], room);
+    }
+    let rank = rank_in(&shapes, turn.q, 0);
+    put(&[2, turn.mark - 1, rank as u32], room)
+}

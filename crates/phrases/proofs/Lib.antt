@@ -1,0 +1,4 @@
+pub mod RankLaws
+pub mod PageLaws
+pub mod PairLaws
+pub mod AnswerLaws

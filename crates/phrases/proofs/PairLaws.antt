@@ -1,0 +1,213 @@
+-- Pairs found page by page, and how they come to be in the room.
+use mathlib.Core.Bool.{true, cond}
+use mathlib.Core.Path.{_≡_, refl, sym, ap, ap₂, _∙_}
+use mathlib.Core.List.{List, [], _∷_, _++_, append-nil, append-assoc}
+use Prim.Native.Nat.{ℕ, zero, suc, _+_, _-_, _*_, _^_, _≤_, _<_}
+use native.Mathlib.Nat.{add-zero, zero-add}
+use native.Mathlib.Omega.{arith}
+use borrow.Author.Tests.{lt-ltb}
+use lib.Dec.{ltb}
+use lib.ListN.{length, getD, set, drop, length-set, length-append, length-drop}
+use Rattle.rules.specs.List.{rising}
+use Rattle.rules.specs.Seek.{fresh}
+use Rattle.rules.specs.Common.{Tally, readersOf, counted, nothing}
+use Rattle.rules.specs.ReadList.{decode}
+use Rattle.rules.specs.ReadTerm.{pagesOf, readWord}
+use Rattle.rules.specs.Index.{wordOf}
+use Rattle.rules.specs.Term.{Word}
+use Rattle.rules.specs.Questions.{starts, withStarts, commonPages, pagesIn as pagesOn, listsIn, wordsIn}
+use Rattle.rules.specs.Write.{laid}
+use Rattle.commonlaws.specs.Readers.{Rise, from}
+use Rattle.commonlaws.proofs.SharedLaws.{from-zero}
+use Rattle.commonlaws.proofs.TallyLaws.{rounds-tallied}
+use Rattle.commonlaws.proofs.CommonLaws.{fresh-ready, readers-ready, readers-pages}
+use Rattle.query.specs.Lists.{span, partAt, pagesAt, pagesIn, boundIn}
+use Rattle.commonlaws.specs.Next.{allRounds}
+use Rattle.seek.specs.Cursors.{spentMark}
+use Rattle.query.specs.declared.Query.{Query}
+use Rattle.query.specs.declared.Turn.{Turn}
+use Rattle.query.specs.declared.Listed.{Listed}
+use Rattle.query.specs.Queries.{newQuery, leadIn, othersIn, seeksOf, looksOf, Turned}
+use Rattle.query.proofs.TurnLaws.{turned-page}
+use Rattle.query.proofs.ListingLaws.{Partway, partway-start, partway-few, partway-step, partway-end}
+use Rattle.phrase.specs.Words.{spanIn}
+use Rattle.phrase.proofs.Theorems.{paged-new}
+use Rattle.query.specs.Listings.{ruleFrom, wholeFrom}
+use Rattle.query.proofs.ListLaws.{list-rises}
+use Rattle.questions.proofs.WroteLaws.{laid-snoc, laid-first}
+use Rattle.wordlists.specs.Lying.{listOf}
+use Rattle.phrases.specs.Asked.{pairOf, foundIn, Asked, AfterPage, Paired}
+use Rattle.phrases.proofs.RankLaws.{asked-lists}
+
+-- ---- page by page
+
+module _ (ws : List Word) where
+  pub with-more : (ps qs : List ℕ) → withStarts ws (ps ++ qs) ≡ withStarts ws ps ++ withStarts ws qs
+  unfolding withStarts pairOf
+  with-more [] qs = refl
+  with-more (p ∷ ps) qs = ap (λ (l : List ℕ). pairOf p (starts ws p) ++ l) (with-more ps qs) ∙ sym (append-assoc (pairOf p (starts ws p)) (withStarts ws ps) (withStarts ws qs))
+
+  pub with-one : (ps : List ℕ) (p : ℕ) → withStarts ws (ps ++ (p ∷ [])) ≡ withStarts ws ps ++ pairOf p (starts ws p)
+  unfolding withStarts pairOf
+  with-one ps p = with-more ps (p ∷ []) ∙ ap (λ (l : List ℕ). withStarts ws ps ++ l) (append-nil (pairOf p (starts ws p)))
+
+  pair-few : (p n : ℕ) → length (pairOf p n) ≤ 2
+  unfolding pairOf
+  pair-few p zero = omega arith
+  pair-few p (suc n) = rw (lt-ltb 0 (suc n) (omega arith)) (omega arith)
+
+  pub with-few : (ps : List ℕ) → length (withStarts ws ps) ≤ 2 * length ps
+  unfolding withStarts pairOf
+  with-few [] = omega arith
+  with-few (p ∷ ps) =
+      let f : length (cond (ltb 0 (starts ws p)) (p ∷ (starts ws p ∷ [])) []) ≤ 2 = pair-few p (starts ws p) in
+      rw length-append (omega (arith, f, with-few ps))
+
+-- ---- one pair
+
+module _ (a : List ℕ) (p : ℕ) where
+  pub pair-none : (room : List ℕ) → Paired a room p 0 (length a) room
+  unfolding pairOf
+  pair-none room = record { found = ap length (sym (append-nil a)); same = refl; laid = λ first e l. rw (append-nil a) e }
+
+  module _ (n : ℕ) (some : 0 < n) where
+    pair-some : pairOf p n ≡ p ∷ (n ∷ [])
+    unfolding pairOf
+    pair-some = rw (lt-ltb 0 n some)
+
+    pair-length : length (a ++ pairOf p n) ≡ length a + 2
+    pair-length = rw pair-some (length-append a (p ∷ (n ∷ [])))
+
+    pub pair-put : (room : List ℕ) → Paired a room p n (length a + 2) (set (set room (length a + 1) p) (length a + 2) n)
+    pair-put room = record {
+      found = sym pair-length;
+      same = length-set (set room (length a + 1) p) (length a + 2) n ∙ length-set room (length a + 1) p;
+      laid = λ first e l. put first e (omega (arith, l, pair-length));
+    }
+      where
+        put : (first : List ℕ) → room ≡ laid (0 ∷ a) first → length a + 2 < length first → set (set room (length a + 1) p) (length a + 2) n ≡ laid (0 ∷ (a ++ pairOf p n)) first
+        put first e l =
+            let x = laid-snoc (0 ∷ a) first (length a + 1) p (omega arith) (omega arith) in
+            let y = laid-snoc (0 ∷ (a ++ (p ∷ []))) first (length a + 2) n (ap suc (length-append a (p ∷ [])) ∙ omega arith) l in
+            rw (e, pair-some) (ap (λ (r : List ℕ). set r (length a + 2) n) x ∙ y ∙ ap (λ (r : List ℕ). laid (0 ∷ r) first) (append-assoc a (p ∷ []) (n ∷ [])))
+
+    pub pair-left : (room : List ℕ) → length room ≤ length a + 2 → Paired a room p n (length a + 2) room
+    pair-left room h = record { found = sym pair-length; same = refl; laid = λ first e l. absurd (over first e (omega (arith, l, pair-length))) }
+      where
+        over : (first : List ℕ) → room ≡ laid (0 ∷ a) first → length a + 2 < length first → ⊥
+        over first e l = omega (arith, ap length e, h, sized first l)
+          where
+            sized : (first : List ℕ) → length a + 2 < length first → length (laid (0 ∷ a) first) ≡ length first
+            sized first l = unfold laid in length-append (0 ∷ a) (drop (length (0 ∷ a)) first) ∙ rw (length-drop (length (0 ∷ a)) first) (omega arith)
+
+-- ---- all common pages
+
+span-rise : (U : ℕ) (f : ℕ → List ℕ) (n i : ℕ) → ((j : ℕ) → i ≤ j → j < i + n → rising 0 U (f j) ≡ true) → Rise U (span f i n)
+unfolding span
+span-rise U f zero i h = tt
+span-rise U f (suc n) i h = (h i (omega arith) (omega arith), span-rise U f n (i + 1) (λ j l m. h j (omega arith) (omega arith)))
+
+rule-listed : (U : ℕ) (ls : List (List ℕ)) → Rise U ls → ruleFrom U ls 0 .listed ≡ commonPages ls
+unfolding ruleFrom commonPages nothing
+rule-listed U [] r = refl
+rule-listed U (l ∷ ls) r =
+    rounds-tallied U (record { pages = l; cursor = fresh }) (readersOf ls) 0 (fresh-ready U 0 l (r .0)) (readers-ready U 0 ls (r .1)) .listed
+    ∙ rw (readers-pages ls, from-zero l)
+
+listed-span : (s : List ℕ) (ts : List ℕ) (f : ℕ → List ℕ) (i : ℕ) → ((j : ℕ) → j < length ts → f (i + j) ≡ pagesOn s (getD ts j 0)) → span f i (length ts) ≡ listsIn s ts
+unfolding span listsIn
+listed-span s [] f i h = refl
+listed-span s (t ∷ ts) f i h =
+    ap₂ _∷_ (ap f (sym (add-zero i)) ∙ h 0 (omega arith))
+    (listed-span s ts f (i + 1) (λ j l.
+    let e : i + 1 + j ≡ i + suc j = omega arith in
+    ap f e ∙ h (suc j) (omega arith)))
+
+module _ (s ts pg ct ps : List ℕ) (a : Asked s ts pg ct ps) where
+  same-pages : (j : ℕ) → j < length ts → pagesAt s pg j ≡ pagesOn s (getD ts j 0)
+  unfolding pagesAt pagesOn wordOf readWord listOf pagesOf
+  same-pages j h = ap decode (a .pages .slot j h .part-is)
+
+  pub whole-found : withStarts (wordsIn s ts) (wholeFrom s pg (length ts) 0 .listed) ≡ foundIn s ts
+  unfolding foundIn pagesIn
+  whole-found =
+      let l = asked-lists s ts pg ct ps a in
+      let rises = span-rise (boundIn pg) (pagesAt s pg) (length ts) 0 (λ j m n. list-rises s pg j (l .each j (omega arith))) in
+      let e = listed-span s ts (pagesAt s pg) 0 (λ j h. rw (zero-add j) (same-pages j h)) in
+      ap (withStarts (wordsIn s ts)) (rule-listed (boundIn pg) (span (pagesAt s pg) 0 (length ts)) rises ∙ ap commonPages e)
+
+-- ---- the loop over the common pages
+
+-- what is laid covers the first number
+pub laid-zero : (x first : List ℕ) → laid (0 ∷ x) (set first 0 0) ≡ laid (0 ∷ x) first
+unfolding laid
+laid-zero x [] = refl
+laid-zero x (y ∷ first) = refl
+
+module _ (s ts pg ct ps room : List ℕ) (a : Asked s ts pg ct ps) where
+  abbrev ws : List Word
+  ws = wordsIn s ts
+
+  -- the pages of `seen` are gone through: their pairs are found, and laid if all fit
+  pub record Going (q at : Query) (b found : ℕ) (now : List ℕ) : Type 0 where
+    pub number : ℕ
+    pub seen : List ℕ
+    pub partway : Partway s pg (length ts) 0 q b number seen
+    pub after : AfterPage s ts ps at b
+    pub found-is : found ≡ length (withStarts ws seen)
+    pub same : length now ≡ length room
+    pub laid-so : length (foundIn s ts) < length room → now ≡ laid (0 ∷ withStarts ws seen) room
+
+  pub going-start : (first : List ℕ) → room ≡ set first 0 0 → 0 < length first → Going newQuery newQuery 0 0 room
+  unfolding withStarts
+  going-start first e h = record {
+    number = 0;
+    seen = [];
+    partway = partway-start s pg (length ts) 0 (asked-lists s ts pg ct ps a);
+    after = λ d xs l t. paged-new s ps (length ts) (a .few) (λ i m. a .positions .slot i m .block) (λ i. spanIn xs i .base);
+    found-is = refl;
+    same = refl;
+    laid-so = λ l. rw e (laid-first first 0 h ∙ sym (laid-zero [] first));
+  }
+
+  module _ (q at : Query) (b found : ℕ) (now : List ℕ) (g : Going q at b found now) where
+    pub going-few : found < 2 ^ 26
+    going-few = omega (arith, g .found-is, with-few ws (g .seen), g .partway .sized, partway-few s pg (length ts) 0 q b (g .number) (g .seen) (g .partway))
+
+    module _ (t : Turn) (u : Turned s pg (length ts) q b t) where
+      pub going-end : t .mark ≡ spentMark → (found ≡ length (foundIn s ts)) × (length (foundIn s ts) < length room → now ≡ laid (0 ∷ foundIn s ts) room)
+      going-end h =
+          let r : Listed = record { found = g .number; seeks = seeksOf (t .q); looks = looksOf (t .q) } in
+          let e = partway-end s pg (length ts) 0 q b (g .number) (g .seen) (g .partway) t u h r (refl, refl, refl) .0 in
+          let f : withStarts ws (g .seen) ≡ foundIn s ts = ap (withStarts ws) (sym e) ∙ whole-found s ts pg ct ps a in
+          (g .found-is ∙ ap length f, λ l. g .laid-so l ∙ ap (λ (x : List ℕ). laid (0 ∷ x) room) f)
+
+      module _ (h : t .mark ≡ spentMark → ⊥) (n : ℕ) (at′ : Query) (is : n ≡ starts ws (t .mark - 1)) (after′ : AfterPage s ts ps at′ (t .mark - 1 + 1)) where
+        abbrev next-way : Partway s pg (length ts) 0 (t .q) (t .mark) (g .number + 1) (g .seen ++ (t .mark - 1) ∷ [])
+        next-way = partway-step s pg (length ts) 0 q b (g .number) (g .seen) (g .partway) t u h
+
+        more : withStarts ws (g .seen ++ (t .mark - 1) ∷ []) ≡ withStarts ws (g .seen) ++ pairOf (t .mark - 1) n
+        more = with-one ws (g .seen) (t .mark - 1) ∙ ap (λ (x : ℕ). withStarts ws (g .seen) ++ pairOf (t .mark - 1) x) (sym is)
+
+        within : length (withStarts ws (g .seen) ++ pairOf (t .mark - 1) n) ≤ length (foundIn s ts)
+        unfolding counted
+        within =
+            let rest : List ℕ = allRounds (boundIn pg) (leadIn s pg (t .q)) (othersIn s pg (length ts) (t .q)) (t .mark) .listed in
+            let e : (g .seen ++ (t .mark - 1) ∷ []) ++ rest ≡ wholeFrom s pg (length ts) 0 .listed = ap (λ (x : Tally). x .listed) (next-way .same) in
+            let f = sym (with-more ws (g .seen ++ (t .mark - 1) ∷ []) rest) ∙ ap (withStarts ws) e ∙ whole-found s ts pg ct ps a in
+            let l = length-append (withStarts ws (g .seen ++ (t .mark - 1) ∷ [])) (withStarts ws rest) in
+            omega (arith, ap length f, l, ap length more)
+
+        pub going-on : (r : ℕ) (now′ : List ℕ) → Paired (withStarts ws (g .seen)) now (t .mark - 1) n r now′ → Going (t .q) at′ (t .mark) r now′
+        going-on r now′ p =
+            let m = turned-page s pg (length ts) q b (g .partway .running .apt) t u h .2 in
+            let e : t .mark - 1 + 1 ≡ t .mark = omega (arith, m) in
+            record {
+              number = g .number + 1;
+              seen = g .seen ++ (t .mark - 1) ∷ [];
+              partway = next-way;
+              after = rw e at after′;
+              found-is = p .found ∙ ap length (sym more);
+              same = p .same ∙ g .same;
+              laid-so = λ l. p .laid room (g .laid-so l) (omega (arith, within, l)) ∙ ap (λ (x : List ℕ). laid (0 ∷ x) room) (sym more);
+            }

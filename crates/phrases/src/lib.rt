@@ -1,0 +1,163 @@
+// Kind 4: the pages on which a phrase starts, each with the number of its starts.
+
+ghost use mathlib.Core.Path.{_≡_};
+ghost use mathlib.Core.Bool.{true};
+ghost use Prim.Native.Nat.{_+_, _-_, _/_, _^_, _≤_, _<_};
+ghost use lib.Dec.{ltb};
+ghost use lib.ListN.{length};
+ghost use Rattle.rules.specs.declared.Refusal.the-variants.{Accepted};
+ghost use Rattle.rules.specs.Index.{indexT, indexRefusal};
+ghost use mathlib.Core.List.{_∷_};
+ghost use Rattle.rules.specs.Questions.{starts, wordsIn, byPhrase};
+ghost use Rattle.rules.specs.Write.{laid};
+ghost use Rattle.questions.specs.Formed.{wordsGood};
+ghost use Rattle.questions.specs.Wrote.{Wrote};
+ghost use Rattle.query.specs.Lists.{numberOf};
+ghost use Rattle.query.specs.Queries.{cursorIn};
+ghost use Rattle.phrases.specs.Asked.{pairOf, foundIn, rankAt, Asked, OnAll, Spanned, AfterPage, PairedBehind};
+use phrase::Starts;
+use query::Query;
+use seek::SPENT;
+
+// The rank of the page that the cursor of word i is on.
+fn rank_at(pages: &[u32], q: Query, i: usize) -> usize
+    requires { ⌜ (length (now pages) ≡ 64) × (i < 8) × (length (q .cursors) ≡ 8) × (numberOf (now pages) i 3 < 64) × (0 < cursorIn q i .mark) × ((cursorIn q i .mark - 1) / 2 ^ numberOf (now pages) i 3 ≤ cursorIn q i .bit) ⌝ }
+    ensures { λ r. ⌜ r ≡ rankAt (now (pages .entry)) q i ⌝ }
+{
+    let c = q.cursors[i];
+    let high = (c.mark as usize - 1) >> query::number(pages, i, 3);
+    c.bit as usize - high
+}
+
+// Puts the spans of the page that all cursors are on, two numbers a word.
+fn put_spans(
+    card: &[u8],
+    terms: &[u32],
+    pages: &[u32],
+    counts: &[u32],
+    positions: &[u32],
+    q: Query,
+    page: usize,
+    spans: &mut [usize],
+)
+    requires { ⌜ Asked (now card) (now terms) (now pages) (now counts) (now positions) × OnAll (now card) (now terms) (now pages) q page × (length (now spans) ≡ 16) ⌝ }
+    ensures { λ _. ⌜ Spanned (now (card .entry)) (now (terms .entry)) (now (positions .entry)) page (length (now (terms .entry))) (now (spans .exit)) ⌝ }
+{
+    let mut i = 0;
+    while i < terms.len() {
+        let rank = rank_at(pages, q, i);
+        let x = phrase::span_at(card, counts, positions, i, rank);
+        spans[2 * i] = x.base;
+        spans[2 * i + 1] = x.end;
+        i += 1;
+    }
+}
+
+// The starts on a page that all cursors q are on; the cursors `at` are those on the positions.
+fn page_starts(
+    card: &[u8],
+    terms: &[u32],
+    pages: &[u32],
+    counts: &[u32],
+    positions: &[u32],
+    q: Query,
+    at: Query,
+    page: usize,
+) -> Starts
+    requires { ⌜ Asked (now card) (now terms) (now pages) (now counts) (now positions) × OnAll (now card) (now terms) (now pages) q page × AfterPage (now card) (now terms) (now positions) at page ⌝ }
+    ensures { λ r. ⌜ (r .count ≡ starts (wordsIn (now (card .entry)) (now (terms .entry))) page) × (r .count < 2 ^ 32) × AfterPage (now (card .entry)) (now (terms .entry)) (now (positions .entry)) (r .q) (page + 1) ⌝ }
+{
+    let mut spans = [0usize; 16];
+    put_spans(card, terms, pages, counts, positions, q, page, &mut spans);
+    phrase::count_starts(card, positions, &spans, at, terms.len())
+}
+
+// Puts a page and its starts behind what was found, if there are any and there is room; how many numbers are found then.
+fn put_pair(room: &mut [u32], found: usize, page: u32, count: u32) -> usize
+    requires { ⌜ found < 2 ^ 32 ⌝ }
+    ensures { λ r. ⌜ PairedBehind found (now (room .entry)) page count r (now (room .exit)) ⌝ }
+{
+    if count == 0 {
+        return found;
+    }
+    if found + 2 < room.len() {
+        room[found + 1] = page;
+        room[found + 2] = count;
+        return found + 2;
+    }
+    found + 2
+}
+
+// Lists the pairs behind the room's first number, as far as there is room, and counts their numbers.
+fn list_starts(
+    card: &[u8],
+    terms: &[u32],
+    pages: &[u32],
+    counts: &[u32],
+    positions: &[u32],
+    room: &mut [u32],
+) -> usize
+    requires { ⌜ Asked (now card) (now terms) (now pages) (now counts) (now positions) × (0 < length (now room)) ⌝ }
+    ensures { λ r. ⌜ (r ≡ length (foundIn (now (card .entry)) (now (terms .entry)))) × (r < 2 ^ 32) × (r < length (now (room .entry)) → now (room .exit) ≡ laid (0 ∷ foundIn (now (card .entry)) (now (terms .entry))) (now (room .entry))) ⌝ }
+{
+    room[0] = 0;
+    let mut q = Query::new();
+    let mut at = Query::new();
+    let mut b = 0;
+    let mut found = 0;
+    loop {
+        let turn = query::next_common(card, pages, q, terms.len(), b);
+        if turn.mark == SPENT {
+            return found;
+        }
+        let s = page_starts(
+            card,
+            terms,
+            pages,
+            counts,
+            positions,
+            turn.q,
+            at,
+            turn.mark as usize - 1,
+        );
+        found = put_pair(room, found, turn.mark - 1, s.count as u32);
+        q = turn.q;
+        at = s.q;
+        b = turn.mark as usize;
+    }
+}
+
+// Whether the answer fits so many numbers.
+fn fits(
+    card: &[u8],
+    terms: &[u32],
+    pages: &[u32],
+    counts: &[u32],
+    positions: &[u32],
+    size: usize,
+) -> bool
+    requires { ⌜ Asked (now card) (now terms) (now pages) (now counts) (now positions) ⌝ }
+    ensures { λ r. ⌜ r ≡ ltb (length (foundIn (now (card .entry)) (now (terms .entry)))) size ⌝ }
+{
+    let mut none = [0u32; 1];
+    list_starts(card, terms, pages, counts, positions, &mut none) < size
+}
+
+// Kind 4: the pages with a start of the phrase, each with the number of its starts.
+pub fn by_phrase(card: &[u8], terms: &[u32], room: &mut [u32]) -> usize
+    requires { ⌜ (indexRefusal (now card) ≡ Accepted) × (wordsGood (indexT (now card)) (now terms) ≡ true) ⌝ }
+    ensures { λ r. ⌜ Wrote (byPhrase (wordsIn (now (card .entry)) (now (terms .entry)))) (now (room .entry)) r (now (room .exit)) ⌝ }
+{
+    let mut pages = [0u32; 64];
+    let mut counts = [0u32; 64];
+    let mut positions = [0u32; 64];
+    openwords::open_words(card, terms, 0, &mut pages);
+    openwords::open_words(card, terms, 1, &mut counts);
+    openwords::open_words(card, terms, 2, &mut positions);
+    if !fits(card, terms, &pages, &counts, &positions, room.len()) {
+        return 0;
+    }
+    let found = list_starts(card, terms, &pages, &counts, &positions, room);
+    room[0] = found as u32;
+    found + 1
+}

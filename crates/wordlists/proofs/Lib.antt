@@ -1,0 +1,2 @@
+pub mod LyingLaws
+pub mod OpenLaws

@@ -1,0 +1,21 @@
+-- The lists of a question's words, opened.
+--
+--   OpenedPages s ts r   the numbers r place the pages of the words ts, the shortest list
+--                        first and the others in their order, so that they are gone through as the step rule has it
+use mathlib.Core.Path.{_≡_}
+use mathlib.Core.List.{List, _∷_}
+use Prim.Native.Nat.{ℕ}
+use lib.ListN.{length}
+use Rattle.rules.specs.Index.{indexN}
+use Rattle.rules.specs.Common.{common}
+use Rattle.rules.specs.Questions.{listsIn}
+use Rattle.commonlaws.specs.Readers.{Rise, leadPages, otherPages}
+use Rattle.query.specs.Lists.{pagesIn, boundIn, Lists}
+use Rattle.query.specs.Listings.{wholeFrom}
+
+pub record OpenedPages (s ts r : List ℕ) : Type 0 where
+  pub lists : Lists s r (length ts)
+  pub pages : pagesIn s r (length ts) ≡ leadPages (listsIn s ts) ∷ otherPages (listsIn s ts)
+  pub bound : boundIn r ≡ indexN s
+  pub rise : Rise (indexN s) (listsIn s ts)
+  pub rule : wholeFrom s r (length ts) 0 ≡ common (indexN s) (listsIn s ts)
