@@ -1,0 +1,4 @@
+pub mod ReplyLaws
+pub mod PrintLaws
+pub mod ToldLaws
+pub mod Unique

@@ -1,0 +1,5 @@
+pub mod PutLaws
+pub mod DigitLaws
+pub mod LineLaws
+pub mod WordLaws
+pub mod RefusedLaws
