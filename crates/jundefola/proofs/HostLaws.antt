@@ -1,0 +1,24 @@
+-- An answer with its number, and the room after it, are what the definition tells.
+use mathlib.Core.Path.{_≡_, subst}
+use mathlib.Core.List.{List}
+use Prim.Native.Nat.{ℕ}
+use Rattle.rules.specs.declared.Written.{Written}
+use Rattle.rules.specs.Refusal.{number}
+use Rattle.rules.specs.Write.{Made, made}
+use Rattle.rules.specs.declared.Outcome.{Outcome}
+use Rattle.rules.specs.Ask.{Asked, asked}
+use Rattle.jundefola.specs.declared.HostAsked.{HostAsked}
+use Rattle.jundefola.specs.declared.HostWritten.{HostWritten}
+use Rattle.jundefola.specs.Host.{told, toldOf, heard, heardOf}
+
+pub told-made : (w : Written) (r : HostWritten) (room : List ℕ) (m : Made)
+    → (r .refusal ≡ number (w .refusal)) × (r .length ≡ w .size) → made w room ≡ m → toldOf r room ≡ told m
+told-made w r room m e f =
+    subst (λ (x : Made). toldOf r room ≡ told x) f (λ i. record { refusal = e .0 i; length = e .1 i; room = room })
+
+pub heard-asked : (o : Outcome) (r : HostAsked) (room : List ℕ) (a : Asked)
+    → (r .refusal ≡ number (o .refusal)) × (r .answered ≡ o .answered) × (r .used ≡ o .used)
+    → asked o room ≡ a → heardOf r room ≡ heard a
+heard-asked o r room a e f =
+    subst (λ (x : Asked). heardOf r room ≡ heard x) f
+    (λ i. record { refusal = e .0 i; answered = e .1 i; used = e .2 i; room = room })

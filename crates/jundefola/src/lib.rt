@@ -1,0 +1,115 @@
+// The calls that a host makes, in C or Rust: include/jundefola.h tells of them, and none asks anything beforehand.
+
+ghost use mathlib.Core.Path.{_≡_};
+ghost use Rattle.rules.specs.Refusal.{number};
+ghost use Rattle.rules.specs.ReadList.{listRefusal};
+ghost use Rattle.rules.specs.Write.{writeList};
+ghost use Rattle.rules.specs.Term.{writeTerm};
+ghost use Rattle.rules.specs.ReadTerm.{termRefusal};
+ghost use Rattle.rules.specs.Index.{indexRefusal, closeIndex};
+ghost use Rattle.rules.specs.Ask.{ask};
+ghost use Rattle.writeterm.specs.Reach.{wordOf};
+ghost use Rattle.jundefola.specs.Host.{told, toldOf, heard, heardOf};
+use rules::Outcome;
+use rules::Refusal;
+use rules::Written;
+
+// What a writer, or closing an index, answers.
+#[repr(C)]
+pub struct HostWritten {
+    pub refusal: u32,
+    pub length: usize,
+}
+
+// What a run of questions answers.
+#[repr(C)]
+pub struct HostAsked {
+    pub refusal: u32,
+    pub answered: usize,
+    pub used: usize,
+}
+
+// A writer's answer with its number.
+fn written(w: Written) -> HostWritten
+    ensures { λ r. ⌜ (r .refusal ≡ number (w .refusal)) × (r .length ≡ w .size) ⌝ }
+{
+    let refusal = w.refusal;
+    HostWritten {
+        refusal: numbers::number_of(refusal),
+        length: w.size,
+    }
+}
+
+// The outcome of a run of questions with its number.
+fn outcome(o: Outcome) -> HostAsked
+    ensures { λ r. ⌜ (r .refusal ≡ number (o .refusal)) × (r .answered ≡ o .answered) × (r .used ≡ o .used) ⌝ }
+{
+    let refusal = o.refusal;
+    HostAsked {
+        refusal: numbers::number_of(refusal),
+        answered: o.answered,
+        used: o.used,
+    }
+}
+
+// Writes a list below u into the room.
+#[no_mangle]
+pub extern "C" fn jf_write_list(u: u32, list: &[u32], room: &mut [u8]) -> HostWritten
+    ensures { λ r. ⌜ toldOf r (now (room .exit)) ≡ told (writeList u (now (list .entry)) (now (room .entry))) ⌝ }
+{
+    written(writelist::write_list(u, list, room))
+}
+
+// The refusal of a list block.
+#[no_mangle]
+pub extern "C" fn jf_check_list(block: &[u8]) -> u32
+    ensures { λ r. ⌜ r ≡ number (listRefusal (now (block .entry))) ⌝ }
+{
+    numbers::number_of(checklist::check_list(block))
+}
+
+// Writes a word of an index of n pages into the room.
+#[no_mangle]
+pub extern "C" fn jf_write_term(
+    n: u32,
+    pages: &[u32],
+    counts: &[u32],
+    positions: &[u32],
+    room: &mut [u8],
+) -> HostWritten
+    ensures { λ r. ⌜ toldOf r (now (room .exit)) ≡ told (writeTerm n (wordOf (now (pages .entry)) (now (counts .entry)) (now (positions .entry))) (now (room .entry))) ⌝ }
+{
+    written(writeterm::write_term(n, pages, counts, positions, room))
+}
+
+// The refusal of a term block.
+#[no_mangle]
+pub extern "C" fn jf_check_term(block: &[u8]) -> u32
+    ensures { λ r. ⌜ r ≡ number (termRefusal (now (block .entry))) ⌝ }
+{
+    numbers::number_of(checkterm::check_term(block))
+}
+
+// Closes an index of t terms that lie from byte 11 on in the first `used` bytes of the buffer.
+#[no_mangle]
+pub extern "C" fn jf_close_index(buffer: &mut [u8], used: usize, n: u32, t: u32) -> HostWritten
+    ensures { λ r. ⌜ toldOf r (now (buffer .exit)) ≡ told (closeIndex (now (buffer .entry)) used n t) ⌝ }
+{
+    written(closeindex::close_index(buffer, used, n, t))
+}
+
+// The refusal of an index.
+#[no_mangle]
+pub extern "C" fn jf_check_index(card: &[u8]) -> u32
+    ensures { λ r. ⌜ r ≡ number (indexRefusal (now (card .entry))) ⌝ }
+{
+    numbers::number_of(checkindex::check_index(card))
+}
+
+// Asks the card: the answers stand one after the other in the room.
+#[no_mangle]
+pub extern "C" fn jf_ask(card: &[u8], questions: &[u32], room: &mut [u32]) -> HostAsked
+    ensures { λ r. ⌜ heardOf r (now (room .exit)) ≡ heard (ask (now (card .entry)) (now (questions .entry)) (now (room .entry))) ⌝ }
+{
+    outcome(ask::ask(card, questions, room))
+}
