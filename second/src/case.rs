@@ -1,0 +1,282 @@
+//! One case, the run of it on one side, and its outcome.
+
+use crate::host_calls::HostCalls;
+
+/// The calls that are compared, and the program.
+#[derive(Clone, Copy, Debug, PartialEq, Eq)]
+pub enum Kind {
+    /// `jf_write_list`.
+    WriteList,
+    /// `jf_check_list`.
+    CheckList,
+    /// `jf_write_term`.
+    WriteTerm,
+    /// `jf_check_term`.
+    CheckTerm,
+    /// `jf_close_index`.
+    CloseIndex,
+    /// `jf_check_index`.
+    CheckIndex,
+    /// `jf_ask`.
+    Ask,
+    /// A run of the program.
+    Program,
+}
+
+impl Kind {
+    /// Every kind, the program last.
+    pub const ALL: [Kind; 8] = [
+        Kind::WriteList,
+        Kind::CheckList,
+        Kind::WriteTerm,
+        Kind::CheckTerm,
+        Kind::CloseIndex,
+        Kind::CheckIndex,
+        Kind::Ask,
+        Kind::Program,
+    ];
+
+    /// The name used in case files and reports.
+    pub fn name(self) -> &'static str {
+        match self {
+            Kind::WriteList => "write_list",
+            Kind::CheckList => "check_list",
+            Kind::WriteTerm => "write_term",
+            Kind::CheckTerm => "check_term",
+            Kind::CloseIndex => "close_index",
+            Kind::CheckIndex => "check_index",
+            Kind::Ask => "ask",
+            Kind::Program => "program",
+        }
+    }
+
+    /// The numbers of refusal that can occur, 0 for none.
+    pub fn can_occur(self) -> &'static [u32] {
+        match self {
+            Kind::WriteList | Kind::WriteTerm => &[0, 4, 9, 10],
+            Kind::CheckList => &[0, 1, 2, 3, 4, 5, 6],
+            Kind::CheckTerm | Kind::CheckIndex => &[0, 1, 2, 3, 4, 5, 6, 7],
+            Kind::CloseIndex => &[0, 1, 2, 3, 4, 5, 6, 7, 9],
+            Kind::Ask | Kind::Program => &[0, 1, 2, 3, 4, 5, 6, 7, 8, 9],
+        }
+    }
+}
+
+/// What lies at a path that the program is given.
+#[derive(Clone, Debug, PartialEq, Eq)]
+pub enum FileGiven {
+    /// A file of these bytes.
+    Bytes(Vec<u8>),
+    /// Nothing at all.
+    Absent,
+    /// A folder, which can't be read as a file.
+    Folder,
+}
+
+impl FileGiven {
+    /// The bytes that can be read, if any.
+    pub fn readable(&self) -> Option<&[u8]> {
+        match self {
+            FileGiven::Bytes(bytes) => Some(bytes),
+            FileGiven::Absent | FileGiven::Folder => None,
+        }
+    }
+}
+
+/// The whole input of one call, rooms with what they hold before it.
+#[derive(Clone, Debug, PartialEq, Eq)]
+pub enum Case {
+    /// U, the list and the room of `jf_write_list`.
+    WriteList {
+        bound: u32,
+        list: Vec<u32>,
+        room: Vec<u8>,
+    },
+    /// The block of `jf_check_list`.
+    CheckList { block: Vec<u8> },
+    /// N, the three lists and the room of `jf_write_term`.
+    WriteTerm {
+        card_pages: u32,
+        pages: Vec<u32>,
+        counts: Vec<u32>,
+        positions: Vec<u32>,
+        room: Vec<u8>,
+    },
+    /// The block of `jf_check_term`.
+    CheckTerm { block: Vec<u8> },
+    /// The buffer, used length, N and T of `jf_close_index`.
+    CloseIndex {
+        buffer: Vec<u8>,
+        used: usize,
+        card_pages: u32,
+        term_count: u32,
+    },
+    /// The card of `jf_check_index`.
+    CheckIndex { card: Vec<u8> },
+    /// The card, questions and room of `jf_ask`.
+    Ask {
+        card: Vec<u8>,
+        questions: Vec<u32>,
+        room: Vec<u32>,
+    },
+    /// The two files of a run of the program.
+    Program {
+        card: FileGiven,
+        questions: FileGiven,
+    },
+}
+
+impl Case {
+    /// The call this case makes.
+    pub fn kind(&self) -> Kind {
+        match self {
+            Case::WriteList { .. } => Kind::WriteList,
+            Case::CheckList { .. } => Kind::CheckList,
+            Case::WriteTerm { .. } => Kind::WriteTerm,
+            Case::CheckTerm { .. } => Kind::CheckTerm,
+            Case::CloseIndex { .. } => Kind::CloseIndex,
+            Case::CheckIndex { .. } => Kind::CheckIndex,
+            Case::Ask { .. } => Kind::Ask,
+            Case::Program { .. } => Kind::Program,
+        }
+    }
+}
+
+/// A room after the call.
+#[derive(Clone, Debug, PartialEq, Eq)]
+pub struct RoomAfter<T> {
+    /// The room itself.
+    pub room: Vec<T>,
+    /// Whether what lies before and behind the room is as it was.
+    pub surroundings_kept: bool,
+}
+
+/// Everything a call shows of itself.
+#[derive(Clone, Debug, PartialEq, Eq)]
+pub enum Outcome {
+    /// What a check gives.
+    Checked { refusal: u32 },
+    /// What a writer or the closing gives.
+    Written {
+        refusal: u32,
+        length: usize,
+        after: RoomAfter<u8>,
+    },
+    /// What asking gives.
+    Asked {
+        refusal: u32,
+        answered: usize,
+        used: usize,
+        after: RoomAfter<u32>,
+    },
+    /// What the program prints.
+    Printed { text: String },
+}
+
+impl Outcome {
+    /// The number of refusal, 0 if none.
+    pub fn refusal(&self) -> u32 {
+        match self {
+            Outcome::Checked { refusal }
+            | Outcome::Written { refusal, .. }
+            | Outcome::Asked { refusal, .. } => *refusal,
+            Outcome::Printed { text } => printed_refusal(text),
+        }
+    }
+}
+
+fn printed_refusal(text: &str) -> u32 {
+    let last = text.lines().last().unwrap_or("");
+    let number = last.strip_prefix("refused ");
+    number.and_then(|digits| digits.parse().ok()).unwrap_or(0)
+}
+
+/// Runs a host call on one side. A program case gives `None`.
+pub fn run_call(side: &dyn HostCalls, case: &Case) -> Option<Outcome> {
+    let outcome = match case {
+        Case::WriteList { bound, list, room } => {
+            let (written, after) = lend(room, |room| side.write_list(*bound, list, room));
+            Outcome::Written {
+                refusal: written.refusal,
+                length: written.length,
+                after,
+            }
+        }
+        Case::CheckList { block } => Outcome::Checked {
+            refusal: side.check_list(block),
+        },
+        Case::WriteTerm {
+            card_pages,
+            pages,
+            counts,
+            positions,
+            room,
+        } => {
+            let (written, after) = lend(room, |room| {
+                side.write_term(*card_pages, pages, counts, positions, room)
+            });
+            Outcome::Written {
+                refusal: written.refusal,
+                length: written.length,
+                after,
+            }
+        }
+        Case::CheckTerm { block } => Outcome::Checked {
+            refusal: side.check_term(block),
+        },
+        Case::CloseIndex {
+            buffer,
+            used,
+            card_pages,
+            term_count,
+        } => {
+            let (written, after) = lend(buffer, |buffer| {
+                side.close_index(buffer, *used, *card_pages, *term_count)
+            });
+            Outcome::Written {
+                refusal: written.refusal,
+                length: written.length,
+                after,
+            }
+        }
+        Case::CheckIndex { card } => Outcome::Checked {
+            refusal: side.check_index(card),
+        },
+        Case::Ask {
+            card,
+            questions,
+            room,
+        } => {
+            let (asked, after) = lend(room, |room| side.ask(card, questions, room));
+            Outcome::Asked {
+                refusal: asked.refusal,
+                answered: asked.answered,
+                used: asked.used,
+                after,
+            }
+        }
+        Case::Program { .. } => return None,
+    };
+    Some(outcome)
+}
+
+/// Items kept on each side of a lent room, to see a write outside it.
+const SURROUNDING: usize = 13;
+
+/// Lends a copy of a room to a call, and tells how the copy came back.
+fn lend<T, R>(room: &[T], call: impl FnOnce(&mut [T]) -> R) -> (R, RoomAfter<T>)
+where
+    T: Copy + PartialEq + From<u8>,
+{
+    let surrounding = [T::from(0xC3); SURROUNDING];
+    let mut lent = [&surrounding[..], room, &surrounding[..]].concat();
+    let end = SURROUNDING + room.len();
+    let result = call(&mut lent[SURROUNDING..end]);
+    let surroundings_kept = lent[..SURROUNDING] == surrounding && lent[end..] == surrounding;
+    lent.truncate(end);
+    let after = RoomAfter {
+        room: lent.split_off(SURROUNDING),
+        surroundings_kept,
+    };
+    (result, after)
+}

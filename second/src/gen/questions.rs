@@ -1,0 +1,152 @@
+//! Questions good and bad.
+
+use super::cards::Card;
+use super::random::Random;
+
+/// Some questions over a card, as one list of numbers.
+pub fn questions(random: &mut Random, card: &Card) -> Vec<u32> {
+    let mut numbers = Vec::new();
+    if !card.words.is_empty() {
+        let most = random.pick(&[1, 3, 12]);
+        for _ in 0..random.from_to(0, most) {
+            numbers.extend(question(random, card));
+        }
+    }
+    numbers
+}
+
+/// Questions with one or more faults in them.
+pub fn bad_questions(random: &mut Random, card: &Card) -> Vec<u32> {
+    let mut numbers = questions(random, card);
+    match random.from_to(0, 5) {
+        0 => {
+            let place = random.place(numbers.len() + 1);
+            numbers.truncate(place);
+        }
+        1 => {
+            let place = random.place(numbers.len().max(1));
+            if let Some(number) = numbers.get_mut(place) {
+                *number = random.pick(&[0, 1, 5, 9, u32::MAX, 1 << 31]);
+            }
+        }
+        2 => numbers.insert(random.place(numbers.len() + 1), random.from_to(0, 9)),
+        3 => {
+            numbers.extend(bad_question(random, card));
+            numbers.extend(questions(random, card));
+        }
+        _ => numbers.extend(bad_question(random, card)),
+    }
+    numbers
+}
+
+/// One good question.
+fn question(random: &mut Random, card: &Card) -> Vec<u32> {
+    match random.from_to(1, 9) {
+        1 => {
+            let term = any_term(random, card);
+            let rank = any_rank(random, card, term);
+            vec![1, 2, term, rank]
+        }
+        2 | 3 => {
+            let term = any_term(random, card);
+            let bound = any_bound(random, card, term);
+            vec![2, 2, term, bound]
+        }
+        4..=6 => of_terms(3, terms(random, card)),
+        7 => of_terms(4, terms(random, card)),
+        _ => of_terms(4, words_of_a_page(random, card)),
+    }
+}
+
+fn of_terms(kind: u32, terms: Vec<u32>) -> Vec<u32> {
+    [vec![kind, terms.len() as u32], terms].concat()
+}
+
+fn any_term(random: &mut Random, card: &Card) -> u32 {
+    let last = card.words.len() as u32 - 1;
+    match random.from_to(0, 5) {
+        0 => 0,
+        1 => last,
+        _ => random.from_to(0, last),
+    }
+}
+
+fn any_rank(random: &mut Random, card: &Card, term: u32) -> u32 {
+    let count = card.words[term as usize].pages.len() as u32;
+    match random.from_to(0, 4) {
+        0 => count,
+        1 => count.saturating_sub(1),
+        2 => random.pick(&[0, u32::MAX, 1 << 31, count + 1]),
+        _ => random.from_to(0, count),
+    }
+}
+
+fn any_bound(random: &mut Random, card: &Card, term: u32) -> u32 {
+    let pages = &card.words[term as usize].pages;
+    let page = match pages.is_empty() {
+        true => 0,
+        false => random.pick(pages),
+    };
+    match random.from_to(0, 5) {
+        0 => page,
+        1 => page + 1,
+        2 => page.saturating_sub(1),
+        3 => random.pick(&[0, card.pages, card.pages.saturating_sub(1), u32::MAX]),
+        _ => random.from_to(0, card.pages),
+    }
+}
+
+fn terms(random: &mut Random, card: &Card) -> Vec<u32> {
+    let most = random.pick(&[2, 3, 8]);
+    (0..random.from_to(1, most))
+        .map(|_| any_term(random, card))
+        .collect()
+}
+
+/// Words that stand one behind the other on some page.
+fn words_of_a_page(random: &mut Random, card: &Card) -> Vec<u32> {
+    let text = text_of_page(card, random.from_to(0, card.pages.max(1) - 1));
+    let wanted = random.pick(&[1, 2, 2, 3, 4, 8]);
+    let first = random.place(text.len().max(1));
+    let run: Vec<u32> = text.into_iter().skip(first).take(wanted).collect();
+    if run.is_empty() {
+        terms(random, card)
+    } else {
+        run
+    }
+}
+
+/// The words of a page in the order of their positions.
+fn text_of_page(card: &Card, page: u32) -> Vec<u32> {
+    let mut text = Vec::new();
+    for (number, word) in card.words.iter().enumerate() {
+        if let Ok(rank) = word.pages.binary_search(&page) {
+            let first: u32 = word.counts[..rank].iter().sum();
+            let positions = &word.positions[first as usize..][..word.counts[rank] as usize];
+            text.extend(positions.iter().map(|position| (*position, number as u32)));
+        }
+    }
+    text.sort_unstable();
+    text.into_iter().map(|(_, number)| number).collect()
+}
+
+/// One question with a fault that shows in itself.
+fn bad_question(random: &mut Random, card: &Card) -> Vec<u32> {
+    let count = card.words.len() as u32;
+    let not_a_term = random.pick(&[count, count + 1, u32::MAX, 65_536 + count]);
+    let mut eight = vec![0; 8];
+    eight[random.place(8)] = not_a_term;
+    match random.from_to(0, 10) {
+        0 => vec![random.pick(&[0, 5, 6, u32::MAX]), 2, 0, 0],
+        1 => vec![random.pick(&[1, 2]), 1, 0],
+        2 => vec![random.pick(&[1, 2]), 3, 0, 0, 0],
+        3 => vec![random.pick(&[1, 2, 3, 4]), 0],
+        4 => [vec![random.pick(&[3, 4]), 9], vec![0; 9]].concat(),
+        5 => [vec![random.pick(&[3, 4]), u32::MAX], vec![0; 4]].concat(),
+        6 => vec![random.pick(&[1, 2]), 2, not_a_term, 0],
+        7 => of_terms(random.pick(&[3, 4]), eight),
+        8 => vec![random.pick(&[1, 2, 3, 4])],
+        9 => vec![random.pick(&[1, 2, 3, 4]), 2, 0],
+        _ => vec![random.pick(&[3, 4]), u32::MAX - 1],
+    }
+}

@@ -1,0 +1,12 @@
+//! The second program: document 01 read afresh on plain lists, a generator of
+//! cases, and a comparison of every host call with the library.
+
+pub mod case;
+pub mod compare;
+pub mod gen;
+pub mod host_calls;
+pub mod long_closing;
+pub mod plain;
+pub mod stored;
+pub mod tally;
+pub mod text;

@@ -1,0 +1,41 @@
+//! Compares every host call of the library, and the text its program prints,
+//! with the plain program, on stored edges and on seeded cases.
+
+#[cfg(not(feature = "self"))]
+mod host;
+mod options;
+mod session;
+
+use options::{Options, Task};
+use std::process::ExitCode;
+
+/// The side that the plain program is compared with.
+#[cfg(not(feature = "self"))]
+static OTHER_SIDE: host::Archive = host::Archive;
+
+/// Without the library, the plain program itself is the other side.
+#[cfg(feature = "self")]
+static OTHER_SIDE: second::host_calls::Plain = second::host_calls::Plain;
+
+fn main() -> ExitCode {
+    let options = match Options::read(std::env::args().skip(1)) {
+        Ok(options) => options,
+        Err(message) => {
+            eprintln!("{message}\n\n{}", options::USAGE);
+            return ExitCode::from(2);
+        }
+    };
+    let result = match &options.task {
+        Task::Compare => session::compare_all(&options, &OTHER_SIDE),
+        Task::OneJob(job) => session::compare_one(&options, &OTHER_SIDE, *job),
+        Task::Replay(file) => session::replay(&options, &OTHER_SIDE, file),
+    };
+    match result {
+        Ok(true) => ExitCode::SUCCESS,
+        Ok(false) => ExitCode::from(1),
+        Err(message) => {
+            eprintln!("{message}");
+            ExitCode::from(2)
+        }
+    }
+}

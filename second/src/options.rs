@@ -1,0 +1,126 @@
+//! The command line.
+
+use std::fmt;
+use std::path::PathBuf;
+
+/// What the command line takes.
+pub const USAGE: &str = "\
+usage: second [--seed S] [--calls C] [--runs R] [--program PATH]
+              [--threads K] [--out FOLDER] [--replay FILE | --case JOB]
+
+  --seed S        the seed of the cases (default 1)
+  --calls C       seeded host calls to compare (default 200000)
+  --runs R        seeded runs of the program to compare (default 1000)
+  --program PATH  the program whose printed text is compared
+  --threads K     threads at work (default: as many as there are cores)
+  --out FOLDER    where differences are written (default target/differences)
+  --replay FILE   compare the cases of a case file only
+  --case JOB      compare one job only, such as call:17 or run:4, and write
+                  its case file before it is tried";
+
+/// One piece of work, numbered so that it can be done again.
+#[derive(Clone, Copy, Debug, PartialEq, Eq)]
+pub enum Job {
+    /// A stored edge or a small change to one.
+    Stored(usize),
+    /// A seeded host call.
+    Call(u64),
+    /// A seeded run of the program.
+    Run(u64),
+}
+
+impl fmt::Display for Job {
+    fn fmt(&self, f: &mut fmt::Formatter) -> fmt::Result {
+        match self {
+            Job::Stored(number) => write!(f, "stored:{number}"),
+            Job::Call(number) => write!(f, "call:{number}"),
+            Job::Run(number) => write!(f, "run:{number}"),
+        }
+    }
+}
+
+impl Job {
+    fn read(text: &str) -> Option<Job> {
+        let (kind, number) = text.split_once(':')?;
+        match kind {
+            "stored" => number.parse().ok().map(Job::Stored),
+            "call" => number.parse().ok().map(Job::Call),
+            "run" => number.parse().ok().map(Job::Run),
+            _ => None,
+        }
+    }
+}
+
+/// What is to be done.
+#[derive(Clone, Debug, PartialEq, Eq)]
+pub enum Task {
+    /// Compare everything.
+    Compare,
+    /// Compare one job.
+    OneJob(Job),
+    /// Compare the cases of a file.
+    Replay(PathBuf),
+}
+
+/// The command line, read.
+#[derive(Clone, Debug, PartialEq, Eq)]
+pub struct Options {
+    /// The seed of the cases.
+    pub seed: u64,
+    /// Seeded host calls.
+    pub calls: u64,
+    /// Seeded runs of the program.
+    pub runs: u64,
+    /// The program, if it is compared.
+    pub program: Option<PathBuf>,
+    /// Threads at work.
+    pub threads: usize,
+    /// Where differences are written.
+    pub out: PathBuf,
+    /// What is to be done.
+    pub task: Task,
+}
+
+impl Options {
+    /// Reads the words after the program's name.
+    pub fn read(words: impl Iterator<Item = String>) -> Result<Options, String> {
+        let mut options = Options {
+            seed: 1,
+            calls: 200_000,
+            runs: 1_000,
+            program: None,
+            threads: std::thread::available_parallelism().map_or(1, usize::from),
+            out: PathBuf::from("target/differences"),
+            task: Task::Compare,
+        };
+        let mut words = words;
+        while let Some(name) = words.next() {
+            let value = words.next().ok_or(format!("{name} needs a value"))?;
+            options.set(&name, &value)?;
+        }
+        Ok(options)
+    }
+
+    fn set(&mut self, name: &str, value: &str) -> Result<(), String> {
+        match name {
+            "--seed" => self.seed = number(name, value)?,
+            "--calls" => self.calls = number(name, value)?,
+            "--runs" => self.runs = number(name, value)?,
+            "--threads" => self.threads = number::<usize>(name, value)?.max(1),
+            "--program" => self.program = Some(PathBuf::from(value)),
+            "--out" => self.out = PathBuf::from(value),
+            "--replay" => self.task = Task::Replay(PathBuf::from(value)),
+            "--case" => {
+                let job = Job::read(value).ok_or(format!("{value} names no job"))?;
+                self.task = Task::OneJob(job);
+            }
+            _ => return Err(format!("{name} is not known")),
+        }
+        Ok(())
+    }
+}
+
+fn number<T: std::str::FromStr>(name: &str, value: &str) -> Result<T, String> {
+    let parsed = value.parse();
+    parsed.map_err(|_| format!("{name} {value}: not a number"))
+}

@@ -1,0 +1,250 @@
+//! Questions over a card.
+
+use super::index::check_index;
+use super::list::List;
+use super::seek::{seek, Cursor};
+use super::term::Term;
+use super::{refusal, GREATEST_WORDS};
+
+/// What asking gives: the refusal or 0, and each whole answer that fitted.
+#[derive(Clone, Debug, PartialEq, Eq)]
+pub struct Reply {
+    /// The refusal, 0 if none.
+    pub refusal: u32,
+    /// One list of numbers for each question answered.
+    pub answers: Vec<Vec<u32>>,
+}
+
+impl Reply {
+    /// A refusal before any answer.
+    pub fn refused(refusal: u32) -> Reply {
+        Reply {
+            refusal,
+            answers: Vec::new(),
+        }
+    }
+}
+
+/// A question of good form, with its terms looked up.
+enum Question<'a> {
+    AtRank(&'a Term, u32),
+    AtBound(&'a Term, u32),
+    Common(Vec<&'a Term>),
+    Phrase(Vec<&'a Term>),
+}
+
+/// Answers the questions in turn, as long as they fit in so many numbers.
+pub fn reply(card: &[u8], questions: &[u32], room: usize) -> Reply {
+    let terms = match check_index(card) {
+        Ok(terms) => terms,
+        Err(refusal) => return Reply::refused(refusal),
+    };
+    match all_questions(&terms, questions) {
+        Some(questions) => answer_all(&questions, room),
+        None => Reply::refused(refusal::QUESTION),
+    }
+}
+
+/// Writes the answers into the room; gives refusal, number answered, room used.
+pub fn ask(card: &[u8], questions: &[u32], room: &mut [u32]) -> (u32, usize, usize) {
+    let reply = reply(card, questions, room.len());
+    let numbers = reply.answers.concat();
+    room[..numbers.len()].copy_from_slice(&numbers);
+    (reply.refusal, reply.answers.len(), numbers.len())
+}
+
+fn all_questions<'a>(terms: &'a [Term], numbers: &[u32]) -> Option<Vec<Question<'a>>> {
+    let mut rest = numbers;
+    let mut questions = Vec::new();
+    while !rest.is_empty() {
+        questions.push(next_question(terms, &mut rest)?);
+    }
+    Some(questions)
+}
+
+fn next_question<'a>(terms: &'a [Term], rest: &mut &[u32]) -> Option<Question<'a>> {
+    let kind = *rest.first()?;
+    let count = *rest.get(1)? as usize;
+    let given = rest.get(2..count.checked_add(2)?)?;
+    *rest = &rest[count + 2..];
+    let all_terms = || named_terms(terms, given);
+    match kind {
+        1 if count == 2 => Some(Question::AtRank(terms.get(given[0] as usize)?, given[1])),
+        2 if count == 2 => Some(Question::AtBound(terms.get(given[0] as usize)?, given[1])),
+        3 => all_terms().map(Question::Common),
+        4 => all_terms().map(Question::Phrase),
+        _ => None,
+    }
+}
+
+fn named_terms<'a>(terms: &'a [Term], numbers: &[u32]) -> Option<Vec<&'a Term>> {
+    if numbers.is_empty() || numbers.len() > GREATEST_WORDS {
+        return None;
+    }
+    numbers
+        .iter()
+        .map(|number| terms.get(*number as usize))
+        .collect()
+}
+
+fn answer_all(questions: &[Question], room: usize) -> Reply {
+    let mut left = room;
+    let mut answers = Vec::new();
+    for question in questions {
+        let answer = answer(question);
+        if answer.len() > left {
+            return Reply {
+                refusal: refusal::ROOM,
+                answers,
+            };
+        }
+        left -= answer.len();
+        answers.push(answer);
+    }
+    Reply {
+        refusal: 0,
+        answers,
+    }
+}
+
+/// One answer: how many numbers follow, then those numbers.
+fn answer(question: &Question) -> Vec<u32> {
+    let mut numbers = match question {
+        Question::AtRank(term, rank) => at_rank(&term.pages, *rank),
+        Question::AtBound(term, bound) => at_bound(&term.pages, *bound),
+        Question::Common(terms) => common(terms),
+        Question::Phrase(terms) => phrase(terms),
+    };
+    numbers.insert(0, numbers.len() as u32);
+    numbers
+}
+
+fn at_rank(pages: &List, rank: u32) -> Vec<u32> {
+    let page = pages.elements.get(rank as usize);
+    page.copied().into_iter().collect()
+}
+
+fn at_bound(pages: &List, bound: u32) -> Vec<u32> {
+    match pages.elements.iter().position(|page| *page >= bound) {
+        Some(rank) => vec![pages.elements[rank], rank as u32],
+        None => Vec::new(),
+    }
+}
+
+/// Seeks, looks, then the common pages.
+fn common(terms: &[&Term]) -> Vec<u32> {
+    let mut lists: Vec<&List> = terms.iter().map(|term| &term.pages).collect();
+    let shortest = lists.iter().map(|list| list.elements.len()).min();
+    let lead = lists
+        .iter()
+        .position(|list| Some(list.elements.len()) == shortest);
+    let lead = lists.remove(lead.expect("a question has a word"));
+    let mut meeting = Meeting {
+        lead: Seeker::on(lead),
+        others: lists.into_iter().map(Seeker::on).collect(),
+        seeks: 0,
+        looks: 0,
+    };
+    let pages = meeting.common_pages();
+    [vec![meeting.seeks, meeting.looks], pages].concat()
+}
+
+/// A list with the cursor that seeks on it.
+struct Seeker<'a> {
+    list: &'a List,
+    cursor: Cursor,
+}
+
+impl<'a> Seeker<'a> {
+    fn on(list: &'a List) -> Seeker<'a> {
+        Seeker {
+            list,
+            cursor: Cursor::Fresh,
+        }
+    }
+}
+
+/// The lead and the others on their way through common pages.
+struct Meeting<'a> {
+    lead: Seeker<'a>,
+    others: Vec<Seeker<'a>>,
+    seeks: u32,
+    looks: u32,
+}
+
+/// What the others answer when each is sought for the lead's page.
+enum Round {
+    AllThere,
+    Ahead(u32),
+    OneSpent,
+}
+
+impl Meeting<'_> {
+    fn common_pages(&mut self) -> Vec<u32> {
+        let mut pages = Vec::new();
+        let mut wanted = 0;
+        while let Some(page) = self.seek_lead(wanted) {
+            match self.seek_others(page) {
+                Round::AllThere => {
+                    pages.push(page);
+                    wanted = page + 1;
+                }
+                Round::Ahead(further) => wanted = further,
+                Round::OneSpent => break,
+            }
+        }
+        pages
+    }
+
+    fn seek_lead(&mut self, wanted: u32) -> Option<u32> {
+        let (found, looks) = seek(self.lead.list, &mut self.lead.cursor, wanted);
+        self.seeks += 1;
+        self.looks += looks;
+        found
+    }
+
+    fn seek_others(&mut self, page: u32) -> Round {
+        for other in &mut self.others {
+            let (found, looks) = seek(other.list, &mut other.cursor, page);
+            self.seeks += 1;
+            self.looks += looks;
+            match found {
+                None => return Round::OneSpent,
+                Some(further) if further > page => return Round::Ahead(further),
+                Some(_) => {}
+            }
+        }
+        Round::AllThere
+    }
+}
+
+/// Each page with a start, and the number of its starts.
+fn phrase(terms: &[&Term]) -> Vec<u32> {
+    let mut numbers = Vec::new();
+    for page in &terms[0].pages.elements {
+        let starts = starts_on(terms, *page);
+        if starts > 0 {
+            numbers.extend([*page, starts]);
+        }
+    }
+    numbers
+}
+
+fn starts_on(terms: &[&Term], page: u32) -> u32 {
+    let mut words = Vec::new();
+    for term in terms {
+        match term.pages.elements.binary_search(&page) {
+            Ok(rank) => words.push(term.positions_on(rank)),
+            Err(_) => return 0,
+        }
+    }
+    let is_start = |start: &&u32| {
+        let mut place = **start;
+        words.iter().all(|positions| {
+            let stands = positions.binary_search(&place).is_ok();
+            place += 1;
+            stands
+        })
+    };
+    words[0].iter().filter(is_start).count() as u32
+}

@@ -1,0 +1,169 @@
+//! How a seek moves and what it counts, on the list itself.
+
+use super::list::{List, Shape};
+
+/// Where a cursor stands on its list.
+#[derive(Clone, Copy, Debug, PartialEq, Eq)]
+pub enum Cursor {
+    /// No seek has been made.
+    Fresh,
+    /// On the element of this number.
+    On(usize),
+    /// A seek has answered none.
+    Spent,
+}
+
+/// Seeks for `bound`: moves the cursor, gives the element found and the looks.
+pub fn seek(list: &List, cursor: &mut Cursor, bound: u32) -> (Option<u32>, u32) {
+    if let Cursor::On(i) = *cursor {
+        if list.elements[i] >= bound {
+            return (Some(list.elements[i]), 0);
+        }
+    }
+    let walk = match list.shape() {
+        Some(shape) if *cursor != Cursor::Spent && bound < list.bound => {
+            Walk::of(list, shape, *cursor, bound)
+        }
+        _ => Walk::NOWHERE,
+    };
+    *cursor = walk.found.map_or(Cursor::Spent, Cursor::On);
+    (walk.found.map(|i| list.elements[i]), walk.looks)
+}
+
+/// A walk over the upper run: the number of the element found, and the looks.
+struct Walk {
+    found: Option<usize>,
+    looks: u32,
+}
+
+impl Walk {
+    const NOWHERE: Walk = Walk {
+        found: None,
+        looks: 0,
+    };
+
+    fn of(list: &List, shape: Shape, cursor: Cursor, bound: u32) -> Walk {
+        let bit_of = |i: usize| (list.elements[i] >> shape.width) as usize + i;
+        let (first, own_bit) = match cursor {
+            Cursor::On(i) => (i, bit_of(i)),
+            _ => (0, 0),
+        };
+        let pointer_number = (bound >> shape.width) as usize / 256;
+        let start = own_bit.max(pointer(list, shape, pointer_number));
+        let run_end = list.elements.len() + shape.zeros;
+        if start == run_end {
+            return Walk::NOWHERE;
+        }
+        let found = (first..list.elements.len())
+            .find(|i| bit_of(*i) >= start && list.elements[*i] >= bound);
+        let last_word = found.map_or(run_end - 1, bit_of) / 64;
+        Walk {
+            found,
+            looks: (last_word - start / 64 + 1) as u32,
+        }
+    }
+}
+
+/// The bit place just after zero number 256 times `number`: the zeros up to
+/// it, and the elements whose bits come before it.
+fn pointer(list: &List, shape: Shape, number: usize) -> usize {
+    let zeros = 256 * number;
+    let ones = list
+        .elements
+        .partition_point(|x| ((x >> shape.width) as usize) < zeros);
+    zeros + ones
+}
+
+#[cfg(test)]
+mod tests {
+    use super::*;
+    use crate::gen::lists;
+    use crate::gen::random::Random;
+    use crate::plain::bits::bytes_to_run;
+    use crate::plain::bytes::number_at;
+
+    fn fresh_seek(list: &List, bound: u32) -> (Option<u32>, u32) {
+        seek(list, &mut Cursor::Fresh, bound)
+    }
+
+    #[test]
+    fn s8_has_two_looks_for_299_and_eight_for_255() {
+        let list = List {
+            bound: 300,
+            elements: (0..300).collect(),
+        };
+        assert_eq!(fresh_seek(&list, 299), (Some(299), 2));
+        assert_eq!(fresh_seek(&list, 255), (Some(255), 8));
+    }
+
+    #[test]
+    fn s5_to_s7_find_21_and_43_and_none() {
+        let list = List {
+            bound: 44,
+            elements: vec![3, 4, 7, 13, 14, 15, 21, 43],
+        };
+        assert_eq!(fresh_seek(&list, 16), (Some(21), 1));
+        assert_eq!(fresh_seek(&list, 43), (Some(43), 1));
+        assert_eq!(fresh_seek(&list, 44), (None, 0));
+    }
+
+    #[test]
+    fn a_seek_that_starts_at_the_end_of_the_run_looks_at_nothing() {
+        let list = List {
+            bound: 513,
+            elements: (0..256).map(|i| 2 * i).collect(),
+        };
+        let shape = list.shape().expect("it has elements");
+        assert_eq!((shape.width, shape.zeros), (1, 256));
+        assert_eq!(fresh_seek(&list, 512), (None, 0));
+    }
+
+    /// The seek as a walk over the block's bits, its pointers read from it.
+    fn walked(list: &List, from: Option<usize>, bound: u32) -> (Option<u32>, u32) {
+        let block = list.block();
+        let shape = list.shape().expect("it has elements");
+        let run_end = list.elements.len() + shape.zeros;
+        let upper = bytes_to_run(&block[block.len() - run_end.div_ceil(64) * 8..]);
+        let pointer = match (bound >> shape.width) / 256 {
+            0 => 0,
+            number => number_at(&block, 13 + 4 * (number as usize - 1)) as usize,
+        };
+        let start = pointer.max(from.unwrap_or(0));
+        let mut rank = upper[..start].iter().filter(|bit| **bit).count();
+        for (place, bit) in upper.iter().enumerate().take(run_end).skip(start) {
+            if *bit {
+                if list.elements[rank] >= bound {
+                    let looks = place / 64 - start / 64 + 1;
+                    return (Some(list.elements[rank]), looks as u32);
+                }
+                rank += 1;
+            }
+        }
+        let looks = match start == run_end {
+            true => 0,
+            false => (run_end - 1) / 64 - start / 64 + 1,
+        };
+        (None, looks as u32)
+    }
+
+    #[test]
+    fn seeks_agree_with_a_walk_over_the_bits() {
+        let mut random = Random::of_case(7, 0, 0);
+        for _ in 0..600 {
+            let list = lists::list(&mut random);
+            let Some(shape) = list.shape() else { continue };
+            let first = random.from_to(0, list.bound - 1);
+            let second = random.from_to(first, list.bound - 1);
+            let mut cursor = Cursor::Fresh;
+            let found = seek(&list, &mut cursor, first);
+            assert_eq!(found, walked(&list, None, first));
+            if let Cursor::On(i) = cursor {
+                if list.elements[i] < second {
+                    let bit = (list.elements[i] >> shape.width) as usize + i;
+                    let found = seek(&list, &mut cursor, second);
+                    assert_eq!(found, walked(&list, Some(bit), second));
+                }
+            }
+        }
+    }
+}
