@@ -1,0 +1,146 @@
+/* Writes a list, makes a card of two words, asks it the four kinds of question and prints the answers. */
+#include <inttypes.h>
+#include <stdio.h>
+#include <stdlib.h>
+
+#include "jundefola.h"
+
+#define LENGTH(array) (sizeof(array) / sizeof((array)[0]))
+
+/* The pages of this small manual. */
+enum { PAGES = 44 };
+
+/* The pages of the word "torque", the count on each, and the positions, page after page. */
+static const uint32_t torque_pages[] = {3, 4, 7, 13, 14, 15, 21, 43};
+static const uint32_t torque_counts[] = {1, 1, 1, 1, 1, 2, 1, 1};
+static const uint32_t torque_positions[] = {8, 0, 5, 2, 9, 2, 5, 1, 0};
+
+/* The same of the word "bolt". */
+static const uint32_t bolt_pages[] = {4, 15};
+static const uint32_t bolt_counts[] = {1, 2};
+static const uint32_t bolt_positions[] = {1, 3, 6};
+
+/* The words' numbers on the card. */
+enum { TORQUE, BOLT, WORDS };
+
+/* Ends the program where a call refused. */
+static void expect_accepted(const char *call, uint32_t refusal)
+{
+    if (refusal != JF_ACCEPTED) {
+        fprintf(stderr, "%s: refused %" PRIu32 "\n", call, refusal);
+        exit(EXIT_FAILURE);
+    }
+}
+
+/* Writes the pages of "torque" as a list block and prints its bytes. */
+static void show_list(void)
+{
+    uint8_t block[JF_LIST_ROOM(LENGTH(torque_pages))];
+    jf_written list = jf_write_list(PAGES, torque_pages, LENGTH(torque_pages), block, sizeof block);
+    expect_accepted("jf_write_list", list.refusal);
+    expect_accepted("jf_check_list", jf_check_list(block, list.length));
+    printf("list block of %zu bytes:", list.length);
+    for (size_t i = 0; i < list.length; i++) {
+        printf(" %02X", (unsigned)block[i]);
+    }
+    printf("\n");
+}
+
+/* Writes the two words behind the card's header, closes the card and returns its length. */
+static size_t make_card(uint8_t *buffer, size_t buffer_len)
+{
+    size_t used = JF_CARD_HEADER;
+    jf_written torque = jf_write_term(PAGES, torque_pages, LENGTH(torque_pages), torque_counts, LENGTH(torque_counts),
+                                      torque_positions, LENGTH(torque_positions), buffer + used, buffer_len - used);
+    expect_accepted("jf_write_term", torque.refusal);
+    expect_accepted("jf_check_term", jf_check_term(buffer + used, torque.length));
+    used += torque.length;
+    jf_written bolt = jf_write_term(PAGES, bolt_pages, LENGTH(bolt_pages), bolt_counts, LENGTH(bolt_counts),
+                                    bolt_positions, LENGTH(bolt_positions), buffer + used, buffer_len - used);
+    expect_accepted("jf_write_term", bolt.refusal);
+    used += bolt.length;
+    jf_written card = jf_close_index(buffer, buffer_len, used, PAGES, WORDS);
+    expect_accepted("jf_close_index", card.refusal);
+    return card.length;
+}
+
+/* Asks one question into a room that is grown until the answer fits, and returns that room. */
+static uint32_t *ask(const uint8_t *card, size_t card_len, const uint32_t *question, size_t question_len)
+{
+    uint32_t *room = NULL;
+    size_t room_len = 0;
+    jf_asked asked = jf_ask(card, card_len, question, question_len, room, room_len);
+    while (asked.refusal == JF_ROOM) {
+        room_len = room_len == 0 ? 4 : 2 * room_len;
+        uint32_t *larger = realloc(room, room_len * sizeof *room);
+        if (larger == NULL) {
+            fprintf(stderr, "no memory for an answer\n");
+            exit(EXIT_FAILURE);
+        }
+        room = larger;
+        asked = jf_ask(card, card_len, question, question_len, room, room_len);
+    }
+    expect_accepted("jf_ask", asked.refusal);
+    return room;
+}
+
+/* Prints which page is at rank 5 of "torque". */
+static void ask_rank(const uint8_t *card, size_t card_len)
+{
+    const uint32_t question[] = {JF_KIND_RANK, 2, TORQUE, 5};
+    uint32_t *answer = ask(card, card_len, question, LENGTH(question));
+    if (answer[0] != 0) {
+        printf("rank 5 of torque: page %" PRIu32 "\n", answer[1]);
+    }
+    free(answer);
+}
+
+/* Prints the first page of "torque" from page 16 on. */
+static void ask_bound(const uint8_t *card, size_t card_len)
+{
+    const uint32_t question[] = {JF_KIND_BOUND, 2, TORQUE, 16};
+    uint32_t *answer = ask(card, card_len, question, LENGTH(question));
+    if (answer[0] != 0) {
+        printf("torque from page 16 on: page %" PRIu32 ", rank %" PRIu32 "\n", answer[1], answer[2]);
+    }
+    free(answer);
+}
+
+/* Prints the pages that have both words, and what finding them took. */
+static void ask_common(const uint8_t *card, size_t card_len)
+{
+    const uint32_t question[] = {JF_KIND_COMMON, 2, TORQUE, BOLT};
+    uint32_t *answer = ask(card, card_len, question, LENGTH(question));
+    printf("torque and bolt: pages");
+    for (uint32_t i = 3; i <= answer[0]; i++) {
+        printf(" %" PRIu32, answer[i]);
+    }
+    printf(" (%" PRIu32 " seeks, %" PRIu32 " looks)\n", answer[1], answer[2]);
+    free(answer);
+}
+
+/* Prints the pages where "bolt" stands right behind "torque". */
+static void ask_phrase(const uint8_t *card, size_t card_len)
+{
+    const uint32_t question[] = {JF_KIND_PHRASE, 2, TORQUE, BOLT};
+    uint32_t *answer = ask(card, card_len, question, LENGTH(question));
+    for (uint32_t i = 1; i < answer[0]; i += 2) {
+        printf("torque bolt: page %" PRIu32 ", starts %" PRIu32 "\n", answer[i], answer[i + 1]);
+    }
+    free(answer);
+}
+
+int main(void)
+{
+    uint8_t buffer[JF_CARD_HEADER + JF_TERM_ROOM(LENGTH(torque_pages), LENGTH(torque_positions)) +
+                   JF_TERM_ROOM(LENGTH(bolt_pages), LENGTH(bolt_positions))];
+    show_list();
+    size_t card_len = make_card(buffer, sizeof buffer);
+    expect_accepted("jf_check_index", jf_check_index(buffer, card_len));
+    printf("card of %d words, %zu bytes\n", WORDS, card_len);
+    ask_rank(buffer, card_len);
+    ask_bound(buffer, card_len);
+    ask_common(buffer, card_len);
+    ask_phrase(buffer, card_len);
+    return EXIT_SUCCESS;
+}

@@ -1,0 +1,212 @@
+//! `check`: whether a card is accepted, or which refusal it meets and where.
+
+use std::fmt;
+use std::io::Write;
+use std::path::Path;
+
+use jundefola::{check_index, check_list, check_term, Refusal, CARD_HEADER};
+
+use crate::card::{self, split_part};
+use crate::numbers::counted;
+use crate::problem::Problem;
+use crate::{files, list};
+
+/// The part of a card at which it is refused.
+#[derive(Debug, PartialEq, Eq)]
+enum Place {
+    /// The card's own header.
+    Header,
+    /// A term as a whole.
+    Term(u16),
+    /// A list of a term.
+    List(u16, &'static str),
+    /// A term's pages against those of the card.
+    Pages(u16),
+    /// The bytes behind the last term.
+    Behind,
+}
+
+impl fmt::Display for Place {
+    fn fmt(&self, f: &mut fmt::Formatter<'_>) -> fmt::Result {
+        match self {
+            Place::Header => write!(f, "in the card's header"),
+            Place::Term(term) => write!(f, "in term {term}"),
+            Place::List(term, list) => write!(f, "in term {term}, the list of {list}"),
+            Place::Pages(term) => write!(f, "in term {term}, its number of pages and the card's"),
+            Place::Behind => write!(f, "behind the last term"),
+        }
+    }
+}
+
+/// Prints the verdict on a card.
+pub fn check(file: &Path, out: &mut dyn Write) -> Result<(), Problem> {
+    let card = files::read(file)?;
+    let verdict = check_index(&card).map_err(|refusal| told(refusal, &card));
+    match &verdict {
+        Ok(()) => writeln!(out, "{}: accepted: {}", file.display(), summary(&card))?,
+        Err(refused) => writeln!(out, "{}: {refused}", file.display())?,
+    }
+    verdict.map_err(|_| Problem::Refused)
+}
+
+/// Gives an accepted card, and a problem for a refused one.
+pub fn accepted(file: &Path) -> Result<Vec<u8>, Problem> {
+    let card = files::read(file)?;
+    match check_index(&card) {
+        Ok(()) => Ok(card),
+        Err(refusal) => Err(refused(file, refusal, &card)),
+    }
+}
+
+/// The problem of a refused card.
+pub fn refused(file: &Path, refusal: Refusal, card: &[u8]) -> Problem {
+    Problem::in_file(file, told(refusal, card))
+}
+
+/// What an accepted card holds, in a few words.
+pub fn summary(card: &[u8]) -> String {
+    let words = counted(card::term_count(card).into(), "word");
+    let pages = counted(card::pages(card) as usize, "page");
+    format!("{words}, {pages}, {}", counted(card.len(), "byte"))
+}
+
+fn told(refusal: Refusal, card: &[u8]) -> String {
+    format!("{refusal} ({})", place(card))
+}
+
+/// The first part of a refused card that the library refuses.
+fn place(card: &[u8]) -> Place {
+    if !header_is_sound(card) {
+        return Place::Header;
+    }
+    let mut rest = &card[CARD_HEADER..];
+    for term in 0..card::term_count(card) {
+        let Some((block, behind)) = split_part(rest, card::SHORTEST_TERM) else {
+            return Place::Term(term);
+        };
+        if check_term(block).is_err() {
+            return place_in_term(term, block);
+        }
+        if list::range(&block[card::TERM_HEADER..]) != card::pages(card) {
+            return Place::Pages(term);
+        }
+        rest = behind;
+    }
+    Place::Behind
+}
+
+/// Whether the header has nothing to refuse: alone, with its own length, it is refused at most for want of a term.
+fn header_is_sound(card: &[u8]) -> bool {
+    let Some(&header) = card.first_chunk::<CARD_HEADER>() else {
+        return false;
+    };
+    let mut alone = header;
+    alone[..4].copy_from_slice(&(CARD_HEADER as u32).to_be_bytes());
+    card::four_bytes(&header, 0) as usize == card.len()
+        && matches!(check_index(&alone), Ok(()) | Err(Refusal::Short))
+}
+
+/// The first part of a refused term that the library refuses.
+fn place_in_term(term: u16, block: &[u8]) -> Place {
+    if block[4] != card::VERSION {
+        return Place::Term(term);
+    }
+    let mut rest = &block[card::TERM_HEADER..];
+    for name in ["pages", "counts", "positions"] {
+        match split_part(rest, list::HEADER) {
+            Some((list, behind)) if check_list(list).is_ok() => rest = behind,
+            _ => return Place::List(term, name),
+        }
+    }
+    Place::Term(term)
+}
+
+#[cfg(test)]
+mod tests {
+    use super::*;
+    use jundefola::CardWriter;
+
+    /// A card of an empty word and one on page 1 at positions 0 and 2: 139 bytes, its second term at 55, with lists at
+    /// 60, 89 and 118.
+    fn card() -> Vec<u8> {
+        let mut writer = CardWriter::new(3);
+        writer.add(&[], &[], &[]).unwrap();
+        writer.add(&[1], &[2], &[0, 2]).unwrap();
+        writer.close().unwrap()
+    }
+
+    fn assert_refused(damage: impl Fn(&mut Vec<u8>), refusal: Refusal, at: Place) {
+        let mut card = card();
+        damage(&mut card);
+        assert_eq!(check_index(&card), Err(refusal));
+        assert_eq!(place(&card), at);
+    }
+
+    /// Adds bytes, and tells them in the lengths that are stated at these places.
+    fn lengthen(card: &mut Vec<u8>, lengths: &[usize]) {
+        card.push(0);
+        for &place in lengths {
+            card[place + 3] += 1;
+        }
+    }
+
+    #[test]
+    fn faults_of_the_header_are_placed() {
+        assert_refused(|card| card.truncate(10), Refusal::Short, Place::Header);
+        assert_refused(|card| card.truncate(0), Refusal::Short, Place::Header);
+        assert_refused(|card| card.push(0), Refusal::Length, Place::Header);
+        assert_refused(|card| card[4] = 2, Refusal::Version, Place::Header);
+        assert_refused(|card| card[5] = 2, Refusal::Limit, Place::Header);
+        assert_refused(|card| card[9] = 0x11, Refusal::Limit, Place::Header);
+    }
+
+    #[test]
+    fn faults_of_terms_are_placed() {
+        assert_refused(|card| card[10] = 3, Refusal::Short, Place::Term(2));
+        assert_refused(|card| card[14] = 43, Refusal::Length, Place::Term(0));
+        assert_refused(|card| card[58] += 1, Refusal::Length, Place::Term(1));
+        assert_refused(|card| card[59] = 0, Refusal::Version, Place::Term(1));
+        assert_refused(
+            |card| lengthen(card, &[0, 55]),
+            Refusal::Layout,
+            Place::Term(1),
+        );
+        assert_refused(|card| card[8] = 4, Refusal::Parts, Place::Pages(0));
+        assert_refused(|card| lengthen(card, &[0]), Refusal::Layout, Place::Behind);
+        assert_refused(|card| card[10] = 1, Refusal::Layout, Place::Behind);
+    }
+
+    #[test]
+    fn faults_of_lists_are_placed() {
+        assert_refused(
+            |card| card[63] = 12,
+            Refusal::Length,
+            Place::List(1, "pages"),
+        );
+        assert_refused(
+            |card| card[93] = 3,
+            Refusal::Version,
+            Place::List(1, "counts"),
+        );
+        assert_refused(
+            |card| card[138] = 0x19,
+            Refusal::Runs,
+            Place::List(1, "positions"),
+        );
+        assert_refused(
+            |card| card[28] = 1,
+            Refusal::Layout,
+            Place::List(0, "pages"),
+        );
+        assert_refused(|card| card[37] = 1, Refusal::Parts, Place::Term(0));
+    }
+
+    #[test]
+    fn a_term_s_version_comes_before_its_lists() {
+        let damage = |card: &mut Vec<u8>| {
+            card[59] = 2;
+            card[138] = 0xFF;
+        };
+        assert_refused(damage, Refusal::Version, Place::Term(1));
+    }
+}

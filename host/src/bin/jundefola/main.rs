@@ -1,0 +1,64 @@
+//! The command `jundefola`: makes, checks, shows and asks cards. docs/COMMAND.md describes it.
+
+mod answers;
+mod ask;
+mod card;
+mod check;
+mod files;
+mod list;
+mod listing;
+mod make;
+mod numbers;
+mod problem;
+mod questions;
+mod show;
+mod word;
+
+use std::env;
+use std::ffi::OsString;
+use std::io::{self, BufWriter, Write};
+use std::path::Path;
+use std::process::ExitCode;
+
+use problem::Problem;
+
+const USAGE: &str = "\
+usage: jundefola make LISTING CARD      make a card from a listing
+       jundefola check CARD             say whether a card is accepted, or what is refused and where
+       jundefola show CARD              print a card as a listing
+       jundefola ask CARD [QUESTION..]  answer questions, or those on standard input, one a line
+
+A listing is a line `pages N`, then a line for each word: page:position,position page:position ..
+An empty line is a word on no page, and `#` starts a comment. Pages, positions and words count from 0.
+
+Questions: rank TERM RANK     the page of the term with that rank
+           at TERM PAGE       the term's first page at or above that page
+           common TERM..      the pages that have all the terms
+           phrase TERM..      the pages where the terms stand one after the other
+
+Exit status: 0 done, 1 refused or bad input, 2 wrong usage
+";
+
+fn main() -> ExitCode {
+    let arguments: Vec<OsString> = env::args_os().skip(1).collect();
+    let mut out = BufWriter::new(io::stdout().lock());
+    let done = run(&arguments, &mut out);
+    let flushed = out.flush().map_err(Problem::from);
+    match done.and(flushed) {
+        Ok(()) => ExitCode::SUCCESS,
+        Err(problem) => problem.report(USAGE),
+    }
+}
+
+/// Runs the command that the arguments name.
+fn run(arguments: &[OsString], out: &mut dyn Write) -> Result<(), Problem> {
+    let (name, rest) = arguments.split_first().ok_or(Problem::Usage)?;
+    match (name.to_str(), rest) {
+        (Some("make"), [listing, card]) => make::make(Path::new(listing), Path::new(card), out),
+        (Some("check"), [card]) => check::check(Path::new(card), out),
+        (Some("show"), [card]) => show::show(Path::new(card), out),
+        (Some("ask"), [card, questions @ ..]) => ask::ask(Path::new(card), questions, out),
+        (Some("help" | "--help" | "-h"), []) => Ok(out.write_all(USAGE.as_bytes())?),
+        _ => Err(Problem::Usage),
+    }
+}

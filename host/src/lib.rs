@@ -1,0 +1,53 @@
+//! Posting lists, the words of a manual, cards that index them, and questions over cards.
+//!
+//! The work is done by the proved library, whose archive this crate links. Here are its calls on slices
+//! ([`write_list`], [`check_list`], [`write_term`], [`check_term`], [`close_index`], [`check_index`], [`ask`]),
+//! the same on vectors ([`list_block`], [`term_block`], [`CardWriter`], [`ask_all`]), and names for what they
+//! take and answer ([`Question`], [`Answer`], [`Refusal`]).
+//!
+//! A card has N pages, numbered from 0, and T words, its terms, numbered from 0:
+//!
+//! ```
+//! use jundefola::{ask_all, Answer, CardWriter, PageStarts, Question};
+//!
+//! let mut writer = CardWriter::new(44);
+//! // "torque" is on page 4 at positions 0 and 7, and on page 15 at position 2
+//! writer.add(&[4, 15], &[2, 1], &[0, 7, 2])?;
+//! // "bolt" is on page 4 at position 1, and on page 21 at position 9
+//! writer.add(&[4, 21], &[1, 1], &[1, 9])?;
+//! let card = writer.close()?;
+//!
+//! let questions = [Question::Common(vec![0, 1]), Question::Phrase(vec![0, 1])];
+//! for answer in &ask_all(&card, &questions)? {
+//!     match answer {
+//!         Answer::Common { pages, .. } => assert_eq!(pages, [4]),
+//!         Answer::Phrase(pages) => {
+//!             assert_eq!(pages.collect::<Vec<_>>(), [PageStarts { page: 4, starts: 1 }])
+//!         }
+//!         _ => unreachable!("no other kind was asked"),
+//!     }
+//! }
+//! # Ok::<(), jundefola::Refusal>(())
+//! ```
+
+#![deny(unsafe_code)]
+#![warn(missing_docs)]
+
+mod answer;
+mod ask;
+mod blocks;
+#[allow(unsafe_code)]
+mod calls;
+mod question;
+mod refusal;
+mod room;
+
+pub use answer::{Answer, AnswerIter, Answers, Found, PageStarts, Starts};
+pub use ask::ask_all;
+pub use blocks::{list_block, term_block, CardWriter};
+pub use calls::{
+    ask, check_index, check_list, check_term, close_index, write_list, write_term, Asked,
+};
+pub use question::{question_numbers, Question};
+pub use refusal::Refusal;
+pub use room::{list_room, term_room, CARD_HEADER};

@@ -1,0 +1,284 @@
+//! The command `jundefola`, run as a person would.
+
+use std::fs;
+use std::io::Write;
+use std::path::PathBuf;
+use std::process::{Command, Output, Stdio};
+
+/// A folder of one test's own, removed when the test ends well.
+struct Folder(PathBuf);
+
+impl Folder {
+    fn new(test: &str) -> Folder {
+        let path = PathBuf::from(env!("CARGO_TARGET_TMPDIR")).join(test);
+        let _ = fs::remove_dir_all(&path);
+        fs::create_dir_all(&path).unwrap();
+        Folder(path)
+    }
+
+    fn write(&self, name: &str, content: impl AsRef<[u8]>) {
+        fs::write(self.0.join(name), content).unwrap();
+    }
+
+    fn read(&self, name: &str) -> Vec<u8> {
+        fs::read(self.0.join(name)).unwrap()
+    }
+
+    /// The names of all files, sorted.
+    fn names(&self) -> Vec<String> {
+        let entries = fs::read_dir(&self.0).unwrap();
+        let mut names: Vec<String> = entries
+            .map(|entry| entry.unwrap().file_name().into_string().unwrap())
+            .collect();
+        names.sort();
+        names
+    }
+
+    /// Runs the command in the folder, with this on standard input.
+    fn run_on(&self, arguments: &[&str], input: &str) -> Outcome {
+        let mut child = Command::new(env!("CARGO_BIN_EXE_jundefola"))
+            .args(arguments)
+            .current_dir(&self.0)
+            .stdin(Stdio::piped())
+            .stdout(Stdio::piped())
+            .stderr(Stdio::piped())
+            .spawn()
+            .unwrap();
+        let mut stdin = child.stdin.take().unwrap();
+        // a command that does not read its input may close it early
+        let _ = stdin.write_all(input.as_bytes());
+        drop(stdin);
+        Outcome::from(child.wait_with_output().unwrap())
+    }
+
+    fn run(&self, arguments: &[&str]) -> Outcome {
+        self.run_on(arguments, "")
+    }
+
+    /// A folder with the card of a listing.
+    fn with_card(test: &str, listing: &str) -> Folder {
+        let folder = Folder::new(test);
+        folder.write("listing", listing);
+        let made = folder.run(&["make", "listing", "card"]);
+        assert_eq!(made.status, 0, "{}", made.errors);
+        folder
+    }
+}
+
+impl Drop for Folder {
+    fn drop(&mut self) {
+        if !std::thread::panicking() {
+            fs::remove_dir_all(&self.0).unwrap();
+        }
+    }
+}
+
+/// What a run of the command printed, and its exit status.
+struct Outcome {
+    status: i32,
+    printed: String,
+    errors: String,
+}
+
+impl From<Output> for Outcome {
+    fn from(output: Output) -> Outcome {
+        Outcome {
+            status: output.status.code().unwrap(),
+            printed: String::from_utf8(output.stdout).unwrap(),
+            errors: String::from_utf8(output.stderr).unwrap(),
+        }
+    }
+}
+
+const TWO_WORDS: &str = "\
+# torque and bolt
+pages 44
+3:8 4:0 7:5 13:2 14:9 15:2,5 21:1 43:0
+4:1 15:3,6
+";
+
+#[test]
+fn make_of_show_is_the_same_card() {
+    let listing = "# header\n\npages 40 # leaves\n0:1,5 39:0 # first\n\n  \n# none\n7:3";
+    let folder = Folder::with_card("make_of_show", listing);
+    let shown = folder.run(&["show", "card"]);
+    assert_eq!(shown.printed, "pages 40\n0:1,5 39:0\n\n\n7:3\n");
+    folder.write("shown", &shown.printed);
+    let made = folder.run(&["make", "shown", "again"]);
+    assert_eq!(made.printed, "again: 4 words, 40 pages, 267 bytes\n");
+    assert_eq!(folder.read("again"), folder.read("card"));
+}
+
+#[test]
+fn the_smallest_card() {
+    let folder = Folder::with_card("smallest", "pages 0\n");
+    let checked = folder.run(&["check", "card"]);
+    assert_eq!(
+        checked.printed,
+        "card: accepted: 0 words, 0 pages, 11 bytes\n"
+    );
+    assert_eq!(folder.run(&["show", "card"]).printed, "pages 0\n");
+}
+
+#[test]
+fn questions_among_the_arguments() {
+    let folder = Folder::with_card("arguments", TWO_WORDS);
+    let quoted = folder.run(&["ask", "card", "common 0 1", "phrase 0 1"]);
+    let expected = "common 0 1: pages 4 15 (5 seeks, 5 looks)\n\
+                    phrase 0 1: pages 4 (1 start), 15 (2 starts)\n";
+    assert_eq!(quoted.printed, expected);
+    let plain = folder.run(&["ask", "card", "common", "0", "1", "phrase", "0", "1"]);
+    assert_eq!(plain.printed, expected);
+}
+
+#[test]
+fn questions_on_standard_input() {
+    let folder = Folder::with_card("input", TWO_WORDS);
+    let input = "# ranks\nrank 0 5\nrank 0 8\n\nat 0 16 # and up\nat 0 44\nphrase 1 0\nrank 1 0";
+    let asked = folder.run_on(&["ask", "card"], input);
+    let expected =
+        "rank 0 5: page 15\nrank 0 8: no page\nat 0 16: page 21, rank 6\nat 0 44: no page\n\
+                    phrase 1 0: no page\nrank 1 0: page 4\n";
+    assert_eq!(asked.printed, expected);
+    assert_eq!(asked.status, 0);
+    assert_eq!(folder.run_on(&["ask", "card"], "").printed, "");
+}
+
+#[test]
+fn bad_questions_are_told_with_their_place() {
+    let folder = Folder::with_card("bad_questions", TWO_WORDS);
+    let asked = folder.run_on(&["ask", "card"], "rank 0 5\n\ncommon 0 2\nrank 9 9\n");
+    assert_eq!(asked.status, 1);
+    assert_eq!(asked.printed, "");
+    assert!(asked
+        .errors
+        .starts_with("jundefola: standard input:3: `common 0 2`: refused 8: "));
+    let asked = folder.run_on(&["ask", "card"], "rank 0\n");
+    let expected = "jundefola: standard input:1: this has to be `rank TERM RANK`\n";
+    assert_eq!(asked.errors, expected);
+    let asked = folder.run(&["ask", "card", "rank 0 1", "find 3"]);
+    assert!(asked
+        .errors
+        .starts_with("jundefola: question 2: `find` is no question"));
+    assert_eq!(asked.status, 1);
+}
+
+#[test]
+fn bad_listings_are_told_with_their_line_and_leave_nothing() {
+    let cases = [
+        ("", "listing:1: the first line has to be `pages N`"),
+        (
+            "# only\n4:1\n",
+            "listing:2: the first line has to be `pages N`",
+        ),
+        ("pages 16777217\n", "listing:1: 16777217 pages: refused 4: "),
+        ("pages 4\n0:1\n4:1\n", "listing:3: page 4 is not below 4"),
+        ("pages 4\n0:1 0:2\n", "listing:2: page 0 comes after page 0"),
+        (
+            "pages 4\n0:16777216\n",
+            "listing:2: the positions of this word: refused 4: ",
+        ),
+        ("pages 4\n\u{e9}:0\n", "listing:2: `\u{e9}` is not a number"),
+    ];
+    let folder = Folder::new("bad_listings");
+    for (listing, expected) in cases {
+        folder.write("listing", listing);
+        let made = folder.run(&["make", "listing", "card"]);
+        let told = made.errors.strip_prefix("jundefola: ").unwrap();
+        assert!(told.starts_with(expected), "{listing:?}: {told}");
+        assert_eq!(made.status, 1);
+        assert_eq!(folder.names(), ["listing"]);
+    }
+}
+
+#[test]
+fn bytes_that_are_no_text_are_told_with_their_line() {
+    let folder = Folder::new("no_text");
+    folder.write("listing", b"pages 4\n0:1\n\xFF:1\n");
+    let made = folder.run(&["make", "listing", "card"]);
+    assert_eq!(
+        made.errors,
+        "jundefola: listing:3: this is not text in UTF-8\n"
+    );
+}
+
+#[test]
+fn too_many_words_are_told() {
+    let folder = Folder::new("too_many");
+    folder.write("listing", format!("pages 1\n{}", "\n".repeat(4097)));
+    let made = folder.run(&["make", "listing", "card"]);
+    assert!(made
+        .errors
+        .starts_with("jundefola: listing: 4097 words: refused 4: "));
+    assert_eq!(folder.names(), ["listing"]);
+}
+
+#[test]
+fn a_failed_make_leaves_the_old_card() {
+    let folder = Folder::with_card("old_card", TWO_WORDS);
+    let card = folder.read("card");
+    folder.write("listing", "pages 4\n9:0\n");
+    assert_eq!(folder.run(&["make", "listing", "card"]).status, 1);
+    assert_eq!(folder.read("card"), card);
+    assert_eq!(folder.names(), ["card", "listing"]);
+}
+
+#[test]
+fn a_card_that_cannot_be_written_is_told() {
+    let folder = Folder::new("no_target");
+    folder.write("listing", TWO_WORDS);
+    fs::create_dir(folder.0.join("taken")).unwrap();
+    let made = folder.run(&["make", "listing", "taken"]);
+    assert_eq!(made.errors, "jundefola: taken: this is not a plain file\n");
+    let made = folder.run(&["make", "listing", "nowhere/card"]);
+    assert!(made.errors.starts_with("jundefola: nowhere/card: "));
+    assert_eq!(made.status, 1);
+    assert_eq!(folder.names(), ["listing", "taken"]);
+}
+
+#[test]
+fn damaged_cards_are_told_with_their_place() {
+    let folder = Folder::with_card("damaged", TWO_WORDS);
+    let mut card = folder.read("card");
+    let last = card.len() - 1;
+    card[last] ^= 1;
+    folder.write("card", &card);
+    let told = "card: refused 6: the runs or pointers are not those of a valid list \
+                (in term 1, the list of positions)\n";
+    let checked = folder.run(&["check", "card"]);
+    assert_eq!((checked.printed.as_str(), checked.status), (told, 1));
+    for arguments in [&["show", "card"][..], &["ask", "card", "rank 0 0"]] {
+        let refused = folder.run(arguments);
+        assert_eq!((refused.printed.as_str(), refused.status), ("", 1));
+        assert_eq!(refused.errors, format!("jundefola: {told}"));
+    }
+}
+
+#[test]
+fn files_that_are_not_there_are_told() {
+    let folder = Folder::new("not_there");
+    for command in ["check", "show", "ask"] {
+        let run = folder.run(&[command, "card"]);
+        assert!(run.errors.starts_with("jundefola: card: "), "{command}");
+        assert_eq!(run.status, 1);
+    }
+}
+
+#[test]
+fn wrong_usage_is_told() {
+    let folder = Folder::new("usage");
+    for arguments in [
+        &[][..],
+        &["make", "listing"],
+        &["check"],
+        &["press", "card"],
+        &["help", "me"],
+    ] {
+        let run = folder.run(arguments);
+        assert!(run.errors.starts_with("usage: jundefola make LISTING CARD"));
+        assert_eq!((run.status, run.printed.as_str()), (2, ""));
+    }
+    let help = folder.run(&["--help"]);
+    assert!(help.printed.starts_with("usage: "));
+    assert_eq!(help.status, 0);
+}

@@ -1,0 +1,193 @@
+//! The sample cards S1 to S12 of document 01 and its edges.
+
+use jundefola::{
+    ask, ask_all, check_index, check_list, list_block, Answer, CardWriter, Found, PageStarts,
+    Question, Refusal,
+};
+
+const S1_LIST: [u32; 8] = [3, 4, 7, 13, 14, 15, 21, 43];
+
+/// The bytes of hexadecimal text, blanks aside.
+fn hex(text: &str) -> Vec<u8> {
+    let digits: Vec<u8> = text
+        .chars()
+        .filter_map(|c| c.to_digit(16))
+        .map(|digit| digit as u8)
+        .collect();
+    digits
+        .chunks(2)
+        .map(|pair| pair[0] << 4 | pair[1])
+        .collect()
+}
+
+/// A card whose words stand at position 0 of each of their pages.
+fn card_of_pages(n: u32, words: &[&[u32]]) -> Vec<u8> {
+    let mut writer = CardWriter::new(n);
+    for pages in words {
+        let ones = vec![1; pages.len()];
+        let zeros = vec![0; pages.len()];
+        writer.add(pages, &ones, &zeros).unwrap();
+    }
+    writer.close().unwrap()
+}
+
+/// The numbers of the answers to one question.
+fn answer(card: &[u8], question: &[u32]) -> Vec<u32> {
+    let mut room = [0; 1000];
+    let asked = ask(card, question, &mut room);
+    assert_eq!(asked.refusal, None);
+    assert_eq!(asked.answered, 1);
+    room[..asked.used].to_vec()
+}
+
+fn s9_card() -> Vec<u8> {
+    let mut writer = CardWriter::new(3);
+    writer.add(&[1], &[2], &[0, 2]).unwrap();
+    writer.close().unwrap()
+}
+
+#[test]
+fn s1_a_list_of_eight() {
+    let block = list_block(44, &S1_LIST).unwrap();
+    let expected = hex("0000001D 01 0000002C 00000008 000000000000DE73 00000000000209CD");
+    assert_eq!(block, expected);
+    assert_eq!(check_list(&block), Ok(()));
+}
+
+#[test]
+fn s2_an_empty_list() {
+    assert_eq!(
+        list_block(5, &[]).unwrap(),
+        hex("0000000D 01 00000005 00000000")
+    );
+}
+
+#[test]
+fn s3_a_list_of_one() {
+    let expected = hex("00000015 01 00000001 00000001 0000000000000001");
+    assert_eq!(list_block(1, &[0]).unwrap(), expected);
+}
+
+#[test]
+fn s4_a_full_list() {
+    let expected = hex("00000015 01 00000003 00000003 0000000000000015");
+    assert_eq!(list_block(3, &[0, 1, 2]).unwrap(), expected);
+}
+
+#[test]
+fn s5_to_s7_bounds() {
+    let card = card_of_pages(44, &[&S1_LIST]);
+    assert_eq!(answer(&card, &[2, 2, 0, 16]), [2, 21, 6]);
+    assert_eq!(answer(&card, &[2, 2, 0, 43]), [2, 43, 7]);
+    assert_eq!(answer(&card, &[2, 2, 0, 44]), [0]);
+}
+
+#[test]
+fn s8_a_list_with_a_pointer() {
+    let full: Vec<u32> = (0..300).collect();
+    let block = list_block(300, &full).unwrap();
+    assert_eq!(block.len(), 97);
+    assert_eq!(block[13..17], 512_u32.to_be_bytes());
+    // the full list's first seek is for the other word's page; the other word's own seeks take the looks that are left
+    let card = card_of_pages(300, &[&full, &[299], &[255]]);
+    assert_eq!(answer(&card, &[3, 2, 0, 1]), [3, 3, 1 + 2, 299]);
+    assert_eq!(answer(&card, &[3, 2, 0, 2]), [3, 3, 1 + 8 + 1, 255]);
+}
+
+#[test]
+fn s9_to_s11_a_card_of_one_word() {
+    let card = s9_card();
+    let expected = hex("0000005F 01 00000003 0001 00000054 01 \
+         0000001D 01 00000003 00000001 0000000000000001 0000000000000001 \
+         0000001D 01 00000002 00000001 0000000000000001 0000000000000001 \
+         00000015 01 00000003 00000002 0000000000000009");
+    assert_eq!(card, expected);
+    assert_eq!(answer(&card, &[3, 1, 0]), [3, 2, 2, 1]);
+    assert_eq!(answer(&card, &[4, 2, 0, 0]), [0]);
+    assert_eq!(answer(&card, &[4, 1, 0]), [2, 1, 2]);
+}
+
+#[test]
+fn s12_common_pages() {
+    let card = card_of_pages(44, &[&S1_LIST, &[4, 15]]);
+    assert_eq!(answer(&card, &[3, 2, 0, 1]), [4, 5, 5, 4, 15]);
+}
+
+#[test]
+fn s5_to_s12_as_typed_answers() {
+    let card = card_of_pages(44, &[&S1_LIST, &[4, 15]]);
+    let questions = [
+        Question::Rank { term: 0, rank: 5 },
+        Question::Rank { term: 0, rank: 8 },
+        Question::Bound { term: 0, bound: 16 },
+        Question::Bound { term: 0, bound: 44 },
+        Question::Common(vec![0, 1]),
+    ];
+    let answers = ask_all(&card, &questions).unwrap();
+    let expected = [
+        Answer::Rank(Some(15)),
+        Answer::Rank(None),
+        Answer::Bound(Some(Found { page: 21, rank: 6 })),
+        Answer::Bound(None),
+        Answer::Common {
+            seeks: 5,
+            looks: 5,
+            pages: &[4, 15],
+        },
+    ];
+    assert!(answers.iter().eq(expected));
+
+    let phrase = ask_all(&s9_card(), &[Question::Phrase(vec![0])]).unwrap();
+    let Some(Answer::Phrase(starts)) = phrase.iter().next() else {
+        panic!("a phrase was asked")
+    };
+    assert!(starts.eq([PageStarts { page: 1, starts: 2 }]));
+}
+
+#[test]
+fn edges_of_u() {
+    assert_eq!(check_list(&list_block(16_777_216, &[]).unwrap()), Ok(()));
+    assert_eq!(list_block(16_777_217, &[]), Err(Refusal::Limit));
+    let mut block = list_block(16_777_216, &[]).unwrap();
+    block[8] = 1;
+    assert_eq!(check_list(&block), Err(Refusal::Limit));
+}
+
+#[test]
+fn edges_of_t() {
+    let words = |count| {
+        let mut writer = CardWriter::new(0);
+        for _ in 0..count {
+            writer.add(&[], &[], &[]).unwrap();
+        }
+        writer.close()
+    };
+    assert_eq!(check_index(&words(4096).unwrap()), Ok(()));
+    assert_eq!(words(4097), Err(Refusal::Limit));
+    let mut card = words(4096).unwrap();
+    card[10] = 1;
+    assert_eq!(check_index(&card), Err(Refusal::Limit));
+}
+
+#[test]
+fn edges_of_questions() {
+    let card = s9_card();
+    assert!(ask_all(&card, &[Question::Common(vec![0; 8])]).is_ok());
+    let refused = |question| ask_all(&card, &[question]) == Err(Refusal::Question);
+    assert!(refused(Question::Common(vec![0; 9])));
+    assert!(refused(Question::Phrase(vec![0; 9])));
+    assert!(refused(Question::Common(vec![])));
+    assert!(refused(Question::Rank { term: 1, rank: 0 }));
+}
+
+#[test]
+fn edges_of_runs_and_pointers() {
+    let mut s1 = list_block(44, &S1_LIST).unwrap();
+    s1[29 - 3] |= 1 << 3;
+    assert_eq!(check_list(&s1), Err(Refusal::Runs));
+    let mut s8 = list_block(300, &(0..300).collect::<Vec<u32>>()).unwrap();
+    s8[13..17].copy_from_slice(&511_u32.to_be_bytes());
+    assert_eq!(check_list(&s8), Err(Refusal::Runs));
+    let s2 = list_block(5, &[]).unwrap();
+    assert_eq!(check_list(&s2[..12]), Err(Refusal::Short));
+}

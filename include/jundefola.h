@@ -1,0 +1,130 @@
+/*
+ * Jundefola: posting lists in Elias-Fano form, the words of a manual, cards that index them, and questions over cards.
+ *
+ * For C99 and C++. Link the archive target/staticlib/libjundefola.a, which `rt staticlib jundefola` makes.
+ *
+ * - A call keeps nothing: it reads what it is lent, writes the room it is lent, and allocates nothing. Calls from
+ *   several threads may run at once, as long as nobody writes what another call reads or writes.
+ * - A slice is a pointer and a length, the length counted in elements. Where the length is 0 the pointer may be null.
+ *   Else it points to that many elements, and numbers are aligned as uint32_t. A room overlaps no other slice.
+ * - Every input has an answer; nothing is left undefined by the bytes or numbers in a slice.
+ * - A refusal leaves the room as it was, but for jf_ask with JF_ROOM, whose earlier answers stand.
+ *
+ * The bytes of the blocks are described in docs/FORMAT.md.
+ */
+#ifndef JUNDEFOLA_H
+#define JUNDEFOLA_H
+
+#include <stddef.h>
+#include <stdint.h>
+
+#ifdef __cplusplus
+extern "C" {
+#endif
+
+/* Why a call refused; JF_ACCEPTED where it did not. The first reason found is the one reported. */
+typedef enum jf_refusal {
+    JF_ACCEPTED = 0, /* nothing is refused */
+    JF_SHORT = 1,    /* fewer bytes than the header: list 13, term 44, card 11 */
+    JF_LENGTH = 2,   /* the stated length differs from the bytes given, or does not fit its container */
+    JF_VERSION = 3,  /* the version is not 1 */
+    JF_LIMIT = 4,    /* U, N or T over its limit, or a closed card whose length does not fit four bytes */
+    JF_LAYOUT = 5,   /* n above U, a length that U and n do not give, or bytes left after the last part */
+    JF_RUNS = 6,     /* runs or pointers are not those of a valid list */
+    JF_PARTS = 7,    /* the parts of a term or a card disagree */
+    JF_QUESTION = 8, /* a bad question: an unknown kind, a wrong count, a word not below T, or cut short */
+    JF_ROOM = 9,     /* the room lent is too small */
+    JF_LISTS = 10    /* the lists handed to a writer are not valid */
+} jf_refusal;
+
+/* The kinds of question; what each is asked and answers is told at jf_ask. */
+typedef enum jf_kind {
+    JF_KIND_RANK = 1,   /* the page at a rank */
+    JF_KIND_BOUND = 2,  /* the first page at or above a bound */
+    JF_KIND_COMMON = 3, /* the pages that all words share */
+    JF_KIND_PHRASE = 4  /* the pages where the words stand one after the other */
+} jf_kind;
+
+/* The limits of document 01. */
+#define JF_MAX_U 16777216u /* U of a list, and N, the pages of a card */
+#define JF_MAX_T 4096u     /* T, the words of a card */
+#define JF_MAX_WORDS 8u    /* the words in one question */
+
+/* The bytes of a card before its first term block. */
+#define JF_CARD_HEADER ((size_t)11)
+
+/* Bytes that are enough for the block of any list of n numbers; the block may be shorter. */
+#define JF_LIST_ROOM(n) ((size_t)29 + (size_t)4 * (size_t)(n))
+
+/* Bytes that are enough for the term block of any word on that many pages, at that many positions in all. */
+#define JF_TERM_ROOM(pages, positions) \
+    ((size_t)5 + (size_t)2 * JF_LIST_ROOM(pages) + JF_LIST_ROOM(positions))
+
+/* What a writer reports: a refusal of jf_refusal, and the bytes written (0 where it refused). */
+typedef struct jf_written {
+    uint32_t refusal;
+    size_t length;
+} jf_written;
+
+/* What asking reports: a refusal, the questions answered whole, and the numbers of the room that they use. */
+typedef struct jf_asked {
+    uint32_t refusal;
+    size_t answered;
+    size_t used;
+} jf_asked;
+
+/*
+ * Writes the block of a list of strictly rising numbers, each below u, to the start of the room.
+ * Refuses with JF_LIMIT (u), JF_LISTS or JF_ROOM. JF_LIST_ROOM(list_len) bytes are enough.
+ */
+jf_written jf_write_list(uint32_t u, const uint32_t *list, size_t list_len, uint8_t *room, size_t room_len);
+
+/* Checks a list block, which must fill the bytes given; returns the refusal. */
+uint32_t jf_check_list(const uint8_t *block, size_t block_len);
+
+/*
+ * Writes the term block of one word of a card with n pages to the start of the room: its pages, rising and below n, the
+ * count of positions on each page, at least 1, and the positions, page after page, rising within a page.
+ * Refuses with JF_LIMIT (n), JF_LISTS, JF_LIMIT (positions too high in sum) or JF_ROOM.
+ * JF_TERM_ROOM(pages_len, positions_len) bytes are enough.
+ */
+jf_written jf_write_term(uint32_t n, const uint32_t *pages, size_t pages_len, const uint32_t *counts,
+                         size_t counts_len, const uint32_t *positions, size_t positions_len, uint8_t *room,
+                         size_t room_len);
+
+/* Checks a term block, which must fill the bytes given; returns the refusal. */
+uint32_t jf_check_term(const uint8_t *block, size_t block_len);
+
+/*
+ * Makes a card of t term blocks that lie one after the other in the buffer, from byte JF_CARD_HEADER up to byte `used`.
+ * It checks them and writes the header alone. The card is the first `length` bytes, which is `used`.
+ *
+ * To fill the buffer, start with used = JF_CARD_HEADER and, for each word, write its term block to buffer + used with
+ * room buffer_len - used, then add the length reported.
+ */
+jf_written jf_close_index(uint8_t *buffer, size_t buffer_len, size_t used, uint32_t n, uint32_t t);
+
+/* Checks a card, which must fill the bytes given; returns the refusal. */
+uint32_t jf_check_index(const uint8_t *card, size_t card_len);
+
+/*
+ * Checks a card, then the questions, then answers them in turn into the room. Words are numbered from 0.
+ *
+ * question (numbers)         answer (numbers)                                      room that is enough
+ * 1, 2, word, rank           1, page; or 0 if the word has no such rank             2
+ * 2, 2, word, bound          2, page, rank; or 0 if no page is at or above it       3
+ * 3, c, c words (1 to 8)     m + 2, seeks, looks, the m common pages                3 + the fewest pages of a word
+ * 4, c, c words (1 to 8)     2 m, then page and number of starts, m times           1 + twice the fewest pages
+ *
+ * Each answer starts with the count of the numbers behind it. Where an answer does not fit whole, the refusal is
+ * JF_ROOM: the answers before it stand, `answered` of them in `used` numbers, and the rest of the room is unchanged.
+ * Go on by asking again from that question, with more room. On any other refusal nothing is answered or written.
+ */
+jf_asked jf_ask(const uint8_t *card, size_t card_len, const uint32_t *questions, size_t questions_len, uint32_t *room,
+                size_t room_len);
+
+#ifdef __cplusplus
+}
+#endif
+
+#endif
