@@ -2,11 +2,8 @@
 // damaged as well, so that only the order decides; the lengths of its term and of the term's lists; and what closing answers.
 
 use libc::STDOUT_FILENO;
-use rules::Refusal;
-ghost use mathlib.Core.Path.{_≡_};
 ghost use Prim.Native.Nat.{_≤_, _<_};
 ghost use lib.ListN.{length};
-ghost use Rattle.rules.specs.Refusal.{number};
 
 fn show(n: u64) {
     io::write_all(STDOUT_FILENO, b" ");
@@ -17,27 +14,8 @@ fn end() {
     io::write_all(STDOUT_FILENO, b"\n");
 }
 
-// Document 01's number of a refusal.
-fn number(r: Refusal) -> u64
-    ensures { λ n. ⌜ n ≡ number r ⌝ }
-{
-    match r {
-        Refusal::Accepted => 0,
-        Refusal::Short => 1,
-        Refusal::Length => 2,
-        Refusal::Version => 3,
-        Refusal::Limit => 4,
-        Refusal::Layout => 5,
-        Refusal::Runs => 6,
-        Refusal::Parts => 7,
-        Refusal::Question => 8,
-        Refusal::Room => 9,
-        Refusal::Lists => 10,
-    }
-}
-
 fn show_check(card: &[u8]) {
-    show(number(checkindex::check_index(card)));
+    show(numbers::number_of(checkindex::check_index(card)) as u64);
 }
 
 fn store(card: &mut [u8], at: usize, x: u8)
@@ -110,7 +88,7 @@ fn damage_term(card: &mut [u8])
 fn show_close(buffer: &mut [u8], used: usize, n: u32, t: u32) {
     let r = closeindex::close_index(buffer, used, n, t);
     let refusal = r.refusal;
-    show(number(refusal));
+    show(numbers::number_of(refusal) as u64);
     show(r.size as u64);
 }
 

@@ -3,7 +3,6 @@
 // Last come the whole cards of S9 and S12, made by the writer of a term and closed.
 
 use libc::STDOUT_FILENO;
-use rules::Refusal;
 ghost use Prim.Native.Nat.{_<_};
 
 fn digit(x: u8) -> u8
@@ -29,20 +28,10 @@ fn show(s: &[u8], n: usize) {
     io::write_all(STDOUT_FILENO, b"\n");
 }
 
-fn number(r: Refusal) -> u64 {
-    match r {
-        Refusal::Accepted => 0,
-        Refusal::Limit => 4,
-        Refusal::Room => 9,
-        Refusal::Lists => 10,
-        _ => 99,
-    }
-}
-
 fn show_term(n: u32, pages: &[u32], counts: &[u32], positions: &[u32], room: &mut [u8]) {
     let w = writeterm::write_term(n, pages, counts, positions, room);
     let refusal = w.refusal;
-    io::print_decimal(STDOUT_FILENO, number(refusal));
+    io::print_decimal(STDOUT_FILENO, numbers::number_of(refusal) as u64);
     if 0 < w.size {
         io::write_all(STDOUT_FILENO, b" ");
     }
