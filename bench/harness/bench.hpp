@@ -1,0 +1,70 @@
+// What every group of measurements shares, and the groups.
+#pragma once
+
+#include <functional>
+#include <memory>
+#include <string>
+#include <utility>
+#include <vector>
+
+#include "cards.hpp"
+#include "contender.hpp"
+#include "race.hpp"
+#include "record.hpp"
+
+struct Bench {
+    Record &record;
+    std::vector<std::unique_ptr<Contender>> contenders;
+    bool quick;
+    Pace pace;
+};
+
+using Times = std::vector<std::pair<std::string, double>>;
+
+// another contender's work on the first `count` questions of a run: it writes what it finds, and returns how much
+struct Other {
+    std::string name;
+    size_t count;
+    std::function<size_t(uint32_t *)> answer;
+};
+
+// the numbers of an archive's answers that the others give too
+using Essence = List (*)(const List &answers);
+
+// Compares all answers, then times a run of the questions and a run of none: nanoseconds of one question.
+Times time_questions(const Bench &bench, const Bytes &card, const Questions &questions,
+                     const std::vector<Other> &others, Essence essence);
+
+// Compares the answers, then times whole runs, the card's check included.
+Times time_runs(const Bench &bench, const Bytes &card, const Questions &questions);
+
+// "U=1048576 n=65536" and the like
+std::string parameters(std::initializer_list<std::pair<const char *, size_t>> pairs);
+
+void measure_lists(Bench &bench);
+void measure_reading(Bench &bench);
+void measure_common(Bench &bench);
+void measure_phrases(Bench &bench);
+void measure_lookup(Bench &bench);
+void measure_cards(Bench &bench);
+void measure_runs(Bench &bench);
+void measure_program(Bench &bench, const char *folder);
+void measure_growth(Bench &bench);
+
+// one list written and checked
+void one_list(Bench &bench, const std::string &family, uint32_t u, const List &list);
+
+// elements by rank and fresh seeks on one list
+void one_reading(Bench &bench, const std::string &family, uint32_t u, const List &list);
+
+// random words looked up on a card of t words
+void one_lookup(Bench &bench, const std::string &family, uint32_t t);
+
+// makes the k lists of one question
+using MakeGroup = std::function<std::vector<List>(Random &, uint32_t u, uint32_t k)>;
+
+// common pages of k words
+void one_common(Bench &bench, const std::string &family, uint32_t u, uint32_t k, const MakeGroup &make);
+
+// words as a manual has them: a few on most pages, most on a few
+std::vector<Word> zipf_words(Random &random, uint32_t n, uint32_t t, uint32_t most_pages);

@@ -1,0 +1,37 @@
+#include "engine.hpp"
+
+#include "peer.h"
+
+namespace {
+
+jf_written as_written(peer_written w) { return {w.refusal, w.length}; }
+
+jf_written write_list(uint32_t u, const uint32_t *list, size_t list_len, uint8_t *room, size_t room_len) {
+    return as_written(peer_write_list(u, list, list_len, room, room_len));
+}
+
+jf_written write_term(uint32_t n, const uint32_t *pages, size_t pages_len, const uint32_t *counts, size_t counts_len,
+                      const uint32_t *positions, size_t positions_len, uint8_t *room, size_t room_len) {
+    return as_written(
+        peer_write_term(n, pages, pages_len, counts, counts_len, positions, positions_len, room, room_len));
+}
+
+jf_written close_index(uint8_t *buffer, size_t buffer_len, size_t used, uint32_t n, uint32_t t) {
+    return as_written(peer_close_index(buffer, buffer_len, used, n, t));
+}
+
+jf_asked ask(const uint8_t *card, size_t card_len, const uint32_t *questions, size_t questions_len, uint32_t *room,
+             size_t room_len) {
+    const peer_asked asked = peer_ask(card, card_len, questions, questions_len, room, room_len);
+    return {asked.refusal, asked.answered, asked.used};
+}
+
+} // namespace
+
+const Engine archive = {"archive",     jf_write_list,  jf_check_list,  jf_write_term,
+                        jf_check_term, jf_close_index, jf_check_index, jf_ask};
+
+const Engine peer = {"peer",          write_list,  peer_check_list,  write_term,
+                     peer_check_term, close_index, peer_check_index, ask};
+
+const Engine *const engines[2] = {&archive, &peer};

@@ -1,0 +1,175 @@
+// Pages common to 2, 4 and 8 words (kind 3): a question in all, and one seek inside it.
+#include <algorithm>
+#include <cmath>
+
+#include "bench.hpp"
+#include "families.hpp"
+
+namespace {
+
+constexpr size_t most_groups = 4;
+constexpr size_t most_elements = 1 << 20;
+
+// the lists of a card, and the words of each question on it
+struct Groups {
+    std::vector<List> lists;
+    std::vector<List> words;
+};
+
+// several groups of lists where they are short, so that a run is not one question learnt by heart
+Groups make_groups(uint32_t u, uint32_t k, const MakeGroup &make) {
+    Random random(u + k);
+    Groups groups;
+    size_t elements = 0;
+    while (groups.words.size() < most_groups && elements < most_elements) {
+        List words;
+        for (List &list : make(random, u, k)) {
+            words.push_back(static_cast<uint32_t>(groups.lists.size()));
+            elements += list.size();
+            groups.lists.push_back(std::move(list));
+        }
+        for (size_t i = words.size(); i > 1; i--) std::swap(words[i - 1], words[random.below(static_cast<uint32_t>(i))]);
+        groups.words.push_back(words);
+    }
+    return groups;
+}
+
+// of answers to kind 3: the pages alone
+List common_pages(const List &answers) {
+    List pages;
+    for (size_t i = 0; i < answers.size(); i += 1 + answers[i]) {
+        pages.insert(pages.end(), answers.begin() + static_cast<long>(i) + 3,
+                     answers.begin() + static_cast<long>(i + 1 + answers[i]));
+    }
+    return pages;
+}
+
+Questions repeated(const Groups &groups, size_t rounds) {
+    Questions questions;
+    for (size_t round = 0; round < rounds; round++) {
+        for (const List &words : groups.words) questions.add(JF_KIND_COMMON, words);
+    }
+    for (const List &list : groups.lists) questions.most = std::max(questions.most, 3 + list.size());
+    return questions;
+}
+
+// the seeks that one round of the questions reports
+double seeks_of(const Bytes &card, const Questions &questions) {
+    List room(room_for(card, questions));
+    const List &q = questions.numbers;
+    const jf_asked asked = archive.ask(card.data(), card.size(), q.data(), q.size(), room.data(), room.size());
+    double seeks = 0;
+    for (size_t i = 0; i < asked.used; i += 1 + room[i]) seeks += room[i + 1];
+    return seeks;
+}
+
+// so many rounds that the questions take about as long as the card's check, or longer
+size_t enough_rounds(const Bytes &card, double seeks) {
+    const double check_ns = 8.0 * static_cast<double>(card.size());
+    return static_cast<size_t>(std::clamp(check_ns / (15.0 * seeks), 1.0, 2000.0));
+}
+
+std::vector<Other> others_for(const Bench &bench, const std::vector<List> &words, size_t rounds) {
+    std::vector<Other> others;
+    for (const auto &contender : bench.contenders) {
+        const Contender *c = contender.get();
+        others.push_back({c->name(), words.size() * rounds, [c, &words, rounds](uint32_t *pages) {
+                              size_t found = 0;
+                              for (size_t round = 0; round < rounds; round++) {
+                                  for (const List &group : words) found += c->common(group, pages + found);
+                              }
+                              return found;
+                          }});
+    }
+    return others;
+}
+
+// lengths in steps of ten, up to a quarter of the pages
+std::vector<List> skewed(Random &random, uint32_t u, uint32_t k) {
+    std::vector<List> lists;
+    double length = u / 1024.0;
+    for (uint32_t i = 0; i < k; i++) {
+        lists.push_back(of_length(random, u, static_cast<uint32_t>(std::min(length, u / 4.0))));
+        length *= 10;
+    }
+    return lists;
+}
+
+// parts of one list, with noise
+MakeGroup correlated(double density) {
+    return [density](Random &random, uint32_t u, uint32_t k) {
+        const List base = scattered(random, u, density);
+        std::vector<List> lists;
+        for (uint32_t i = 0; i < k; i++) lists.push_back(noisy_part(random, u, base, 0.8, density / 10));
+        return lists;
+    };
+}
+
+MakeGroup independent(double density) {
+    return [density](Random &random, uint32_t u, uint32_t k) {
+        std::vector<List> lists;
+        for (uint32_t i = 0; i < k; i++) lists.push_back(scattered(random, u, density));
+        return lists;
+    };
+}
+
+// in the same chapters of some 200 pages, of which each word has these
+MakeGroup in_chapters(double starts_density, double kept) {
+    return [=](Random &random, uint32_t u, uint32_t k) {
+        const List starts = scattered(random, u, starts_density);
+        std::vector<List> lists;
+        for (uint32_t i = 0; i < k; i++) lists.push_back(shared_runs(random, u, starts, 200, kept));
+        return lists;
+    };
+}
+
+struct CommonFamily {
+    const char *name;
+    uint32_t u;
+    MakeGroup make;
+};
+
+std::vector<CommonFamily> common_families(bool quick) {
+    std::vector<CommonFamily> families{{"skewed", small_u, skewed},
+                                       {"correlated 1 in 16", small_u, correlated(1.0 / 16)},
+                                       {"correlated 1 in 256", small_u, correlated(1.0 / 256)},
+                                       {"independent 1 in 2", small_u, independent(1.0 / 2)},
+                                       {"independent 1 in 16", small_u, independent(1.0 / 16)},
+                                       {"independent 1 in 256", small_u, independent(1.0 / 256)},
+                                       {"clustered runs", small_u, in_chapters(1.0 / 3200, 1)},
+                                       {"clustered 1 in 3", small_u, in_chapters(1.0 / 3200, 1.0 / 3)}};
+    if (quick) return families;
+    families.push_back({"skewed", large_u, skewed});
+    families.push_back({"correlated 1 in 256", large_u, correlated(1.0 / 256)});
+    families.push_back({"independent 1 in 256", large_u, independent(1.0 / 256)});
+    families.push_back({"independent 1 in 4096", large_u, independent(1.0 / 4096)});
+    families.push_back({"clustered runs", large_u, in_chapters(1.0 / 25600, 1)});
+    families.push_back({"clustered 1 in 3", large_u, in_chapters(1.0 / 25600, 1.0 / 3)});
+    return families;
+}
+
+} // namespace
+
+void one_common(Bench &bench, const std::string &family, uint32_t u, uint32_t k, const MakeGroup &make) {
+    const Groups groups = make_groups(u, k, make);
+    const Bytes card = card_of_lists(u, groups.lists);
+    for (const auto &contender : bench.contenders) contender->take(u, groups.lists);
+    const double seeks = seeks_of(card, repeated(groups, 1));
+    const size_t rounds = enough_rounds(card, seeks);
+    const Times times = time_questions(bench, card, repeated(groups, rounds),
+                                       others_for(bench, groups.words, rounds), common_pages);
+
+    const double seeks_each = seeks / static_cast<double>(groups.words.size());
+    const std::string text = parameters({{"U", u}, {"k", k}, {"seeks", static_cast<size_t>(seeks_each)}});
+    bench.record.add({"common pages", family, text, "question", 0, times});
+    Times each;
+    for (const Engine *engine : engines) each.push_back({engine->name, 0});
+    for (size_t e = 0; e < each.size(); e++) each[e].second = times[e].second / seeks_each;
+    bench.record.add({"seek in common pages", family, text, "seek", 0, each});
+}
+
+void measure_common(Bench &bench) {
+    for (const CommonFamily &family : common_families(bench.quick)) {
+        for (uint32_t k : {2u, 4u, 8u}) one_common(bench, family.name, family.u, k, family.make);
+    }
+}

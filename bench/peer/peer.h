@@ -1,0 +1,51 @@
+/*
+ * The peer: document 01's format without proofs, written to be fast, for measuring only.
+ *
+ * For C99 and C++. The calls, structs and numbers are those of include/jundefola.h, with peer_ in place of jf_.
+ * Link libjundefola_peer.a, which `cargo build --release` makes, with -lpthread -ldl.
+ */
+#ifndef JUNDEFOLA_PEER_H
+#define JUNDEFOLA_PEER_H
+
+#include <stddef.h>
+#include <stdint.h>
+
+#ifdef __cplusplus
+extern "C" {
+#endif
+
+/* What a writer reports: a refusal, 0 if none, and the bytes written (0 where it refused). */
+typedef struct peer_written {
+    uint32_t refusal;
+    size_t length;
+} peer_written;
+
+/* What asking reports: a refusal, the questions answered whole, and the numbers of the room that they use. */
+typedef struct peer_asked {
+    uint32_t refusal;
+    size_t answered;
+    size_t used;
+} peer_asked;
+
+peer_written peer_write_list(uint32_t u, const uint32_t *list, size_t list_len, uint8_t *room, size_t room_len);
+
+uint32_t peer_check_list(const uint8_t *block, size_t block_len);
+
+peer_written peer_write_term(uint32_t n, const uint32_t *pages, size_t pages_len, const uint32_t *counts,
+                             size_t counts_len, const uint32_t *positions, size_t positions_len, uint8_t *room,
+                             size_t room_len);
+
+uint32_t peer_check_term(const uint8_t *block, size_t block_len);
+
+peer_written peer_close_index(uint8_t *buffer, size_t buffer_len, size_t used, uint32_t n, uint32_t t);
+
+uint32_t peer_check_index(const uint8_t *card, size_t card_len);
+
+peer_asked peer_ask(const uint8_t *card, size_t card_len, const uint32_t *questions, size_t questions_len,
+                    uint32_t *room, size_t room_len);
+
+#ifdef __cplusplus
+}
+#endif
+
+#endif

@@ -1,0 +1,254 @@
+//! Questions over a card.
+
+use crate::card::{check_index, find_terms};
+use crate::check::TERM_OPENING;
+use crate::common::{common_pages, lead_of, Effort};
+use crate::cursor::{Cursor, NONE};
+use crate::phrase::{starts, Places};
+use crate::{refusal, Asked};
+
+const RANK: u32 = 1;
+const BOUND: u32 = 2;
+const COMMON: u32 = 3;
+const PHRASE: u32 = 4;
+
+/// Checks card and questions, then answers the questions into the room.
+pub fn ask(card: &[u8], questions: &[u32], room: &mut [u32]) -> Asked {
+    let checked = check_index(card).and_then(|terms| check_questions(questions, terms));
+    let mut asked = Asked {
+        refusal: checked.err().unwrap_or(0),
+        answered: 0,
+        used: 0,
+    };
+    let mut rest = match checked {
+        Ok(()) => questions,
+        Err(_) => &[],
+    };
+    while let [kind, count, numbers @ ..] = rest {
+        let (numbers, after) = numbers.split_at(*count as usize);
+        let room = &mut room[asked.used..];
+        match unsafe { answer(card.as_ptr(), *kind, numbers, room) } {
+            Some(length) => asked.used += length,
+            None => {
+                asked.refusal = refusal::ROOM;
+                break;
+            }
+        }
+        asked.answered += 1;
+        rest = after;
+    }
+    asked
+}
+
+fn check_questions(questions: &[u32], terms: u32) -> Result<(), u32> {
+    let mut rest = questions;
+    while !rest.is_empty() {
+        rest = behind_question(rest, terms).ok_or(refusal::QUESTION)?;
+    }
+    Ok(())
+}
+
+/// What follows a good question.
+#[inline(always)]
+fn behind_question(questions: &[u32], terms: u32) -> Option<&[u32]> {
+    let [kind, count, rest @ ..] = questions else {
+        return None;
+    };
+    let words = match (*kind, *count) {
+        (RANK | BOUND, 2) => 1,
+        (COMMON | PHRASE, 1..=8) => *count as usize,
+        _ => return None,
+    };
+    let (numbers, after) = rest.split_at_checked(*count as usize)?;
+    let all_known = numbers[..words].iter().all(|term| *term < terms);
+    all_known.then_some(after)
+}
+
+/// Answers a good question; gives the answer's length, or `None` if it does not fit.
+#[inline(always)]
+unsafe fn answer(card: *const u8, kind: u32, numbers: &[u32], room: &mut [u32]) -> Option<usize> {
+    match kind {
+        RANK => put(room, &page_at(pages(card, numbers[0]), numbers[1])),
+        BOUND => put(room, &page_from(pages(card, numbers[0]), numbers[1])),
+        COMMON => common(card, numbers, room),
+        _ => phrase(card, numbers, room),
+    }
+}
+
+/// A fresh cursor on the pages of a term.
+#[inline(always)]
+unsafe fn pages(card: *const u8, term: u32) -> Cursor {
+    let mut found = [card; 8];
+    find_terms(card, &[term], &mut found);
+    Cursor::on(found[0].add(TERM_OPENING))
+}
+
+/// An answer that begins with the count of the numbers behind it.
+type Short = [u32; 3];
+
+#[inline(always)]
+unsafe fn page_at(mut cursor: Cursor, rank: u32) -> Short {
+    if rank >= cursor.n {
+        return [0; 3];
+    }
+    cursor.jump_to(rank);
+    [1, cursor.place.mark - 1, 0]
+}
+
+#[inline(always)]
+unsafe fn page_from(mut cursor: Cursor, bound: u32) -> Short {
+    match cursor.seek(bound, &mut 0) {
+        NONE => [0; 3],
+        page => [2, page, cursor.place.passed - 1],
+    }
+}
+
+#[inline(always)]
+fn put(room: &mut [u32], answer: &Short) -> Option<usize> {
+    let length = answer[0] as usize + 1;
+    room.get_mut(..length)?.copy_from_slice(&answer[..length]);
+    Some(length)
+}
+
+/// The words of a question: where they lie, and a cursor on the pages of each, the lead's first.
+struct Words {
+    terms: [*const u8; 8],
+    cursors: [Cursor; 8],
+    /// The place in the question of the word at each place here.
+    order: [usize; 8],
+    count: usize,
+}
+
+impl Words {
+    #[inline(always)]
+    unsafe fn open(card: *const u8, numbers: &[u32]) -> Words {
+        let mut words = Words {
+            terms: [card; 8],
+            cursors: [Cursor::NOWHERE; 8],
+            order: [0, 1, 2, 3, 4, 5, 6, 7],
+            count: numbers.len(),
+        };
+        find_terms(card, numbers, &mut words.terms);
+        for i in 0..words.count {
+            words.cursors[i] = Cursor::on(words.terms[i].add(TERM_OPENING));
+        }
+        let lead = lead_of(&words.cursors[..words.count]);
+        words.cursors[..=lead].rotate_right(1);
+        words.terms[..=lead].rotate_right(1);
+        words.order[..=lead].rotate_right(1);
+        words
+    }
+
+    /// The most pages that can be common.
+    fn most(&self) -> usize {
+        self.cursors[0].n as usize
+    }
+
+    /// Goes over the common pages with fresh cursors.
+    #[inline(always)]
+    unsafe fn go_over(&self, each: impl FnMut(u32, &Cursor, &[Cursor])) -> Effort {
+        let mut others = self.cursors;
+        common_pages(self.cursors[0], &mut others[1..self.count], each)
+    }
+}
+
+/// Answers a question for common pages.
+unsafe fn common(card: *const u8, numbers: &[u32], room: &mut [u32]) -> Option<usize> {
+    if room.len() < 3 {
+        return None;
+    }
+    if let [term] = numbers {
+        return all_pages(pages(card, *term), room);
+    }
+    let words = Words::open(card, numbers);
+    if room.len() - 3 < words.most() && room.len() - 3 < count_common(&words) {
+        return None;
+    }
+    let begin = room.as_mut_ptr().add(3);
+    let mut at = begin;
+    let effort = words.go_over(|page, _, _| {
+        at.write(page);
+        at = at.add(1);
+    });
+    let length = at.offset_from(begin) as usize;
+    room[0] = length as u32 + 2;
+    room[1] = effort.seeks;
+    room[2] = effort.looks;
+    Some(length + 3)
+}
+
+/// Answers a question for the pages of one word, in a room of at least 3 numbers.
+unsafe fn all_pages(mut cursor: Cursor, room: &mut [u32]) -> Option<usize> {
+    let n = cursor.n as usize;
+    if room.len() - 3 < n {
+        return None;
+    }
+    let looks = match n {
+        0 => 0,
+        _ => cursor.list_all(room.as_mut_ptr().add(3)),
+    };
+    room[..3].copy_from_slice(&[cursor.n + 2, cursor.n + 1, looks]);
+    Some(n + 3)
+}
+
+#[cold]
+#[inline(never)]
+unsafe fn count_common(words: &Words) -> usize {
+    let mut count = 0;
+    words.go_over(|_, _, _| count += 1);
+    count
+}
+
+/// Answers a question for a phrase.
+unsafe fn phrase(card: *const u8, numbers: &[u32], room: &mut [u32]) -> Option<usize> {
+    if room.is_empty() {
+        return None;
+    }
+    let words = Words::open(card, numbers);
+    if room.len() - 1 < 2 * words.most() && room.len() - 1 < 2 * count_phrase_pages(&words) {
+        return None;
+    }
+    let begin = room.as_mut_ptr().add(1);
+    let mut at = begin;
+    go_over_phrase(&words, |page, starts| {
+        at.write(page);
+        at.add(1).write(starts);
+        at = at.add(2);
+    });
+    let length = at.offset_from(begin) as usize;
+    room[0] = length as u32;
+    Some(length + 1)
+}
+
+#[cold]
+#[inline(never)]
+unsafe fn count_phrase_pages(words: &Words) -> usize {
+    let mut count = 0;
+    go_over_phrase(words, |_, _| count += 1);
+    count
+}
+
+/// Goes over the pages with a start and tells each with the number of its starts.
+#[inline(always)]
+unsafe fn go_over_phrase(words: &Words, mut each: impl FnMut(u32, u32)) {
+    let mut places = [Places::NOWHERE; 8];
+    for (i, place) in places[..words.count].iter_mut().enumerate() {
+        *place = Places::of(words.terms[i], words.order[i] as u32);
+    }
+    if words.count == 1 {
+        let word = &mut places[0];
+        words.go_over(|page, lead, _| each(page, word.count(lead.place.passed - 1)));
+        return;
+    }
+    let places = &mut places[..words.count];
+    words.go_over(|page, lead, others| {
+        let mut ranks = [lead.place.passed - 1; 8];
+        for (rank, other) in ranks[1..].iter_mut().zip(others) {
+            *rank = other.place.passed - 1;
+        }
+        match starts(places, &ranks) {
+            0 => {}
+            found => each(page, found),
+        }
+    });
+}

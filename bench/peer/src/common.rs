@@ -1,0 +1,51 @@
+//! The pages that all words of a question share.
+
+use crate::cursor::{Cursor, NONE};
+
+/// The seeks and looks that were made.
+#[derive(Clone, Copy, Default)]
+pub struct Effort {
+    pub seeks: u32,
+    pub looks: u32,
+}
+
+/// The number of the shortest list, the first of equals.
+#[inline(always)]
+pub fn lead_of(cursors: &[Cursor]) -> usize {
+    let mut lead = 0;
+    for (i, cursor) in cursors.iter().enumerate() {
+        if cursor.n < cursors[lead].n {
+            lead = i;
+        }
+    }
+    lead
+}
+
+/// Goes over the common pages in rising order; each is told with the lead's and the others' cursors on it.
+#[inline(always)]
+pub unsafe fn common_pages(
+    mut lead: Cursor,
+    others: &mut [Cursor],
+    mut each: impl FnMut(u32, &Cursor, &[Cursor]),
+) -> Effort {
+    let mut effort = Effort { seeks: 1, looks: 0 };
+    let mut page = lead.next(&mut effort.looks);
+    'pages: while page != NONE {
+        for i in 0..others.len() {
+            effort.seeks += 1;
+            let found = others.get_unchecked_mut(i).seek(page, &mut effort.looks);
+            if found != page {
+                if found == NONE {
+                    break 'pages;
+                }
+                effort.seeks += 1;
+                page = lead.seek(found, &mut effort.looks);
+                continue 'pages;
+            }
+        }
+        each(page, &lead, others);
+        effort.seeks += 1;
+        page = lead.next(&mut effort.looks);
+    }
+    effort
+}

@@ -1,0 +1,166 @@
+//! The peer of the benchmark: document 01's format written by hand to be fast, without proofs.
+//!
+//! It answers and refuses exactly as the library does, allocates nothing in a call, and builds no directory of a
+//! card. It shares no code with the library. The calls are those of include/jundefola.h with the prefix `peer_`.
+
+mod ask;
+mod bits;
+mod card;
+mod check;
+mod common;
+mod cursor;
+mod phrase;
+mod shape;
+mod term;
+mod write;
+
+use std::slice;
+
+/// The numbers of refusal.
+mod refusal {
+    pub const SHORT: u32 = 1;
+    pub const LENGTH: u32 = 2;
+    pub const VERSION: u32 = 3;
+    pub const LIMIT: u32 = 4;
+    pub const LAYOUT: u32 = 5;
+    pub const RUNS: u32 = 6;
+    pub const PARTS: u32 = 7;
+    pub const QUESTION: u32 = 8;
+    pub const ROOM: u32 = 9;
+    pub const LISTS: u32 = 10;
+}
+
+/// What a writer reports.
+#[repr(C)]
+#[derive(Clone, Copy, Debug, PartialEq, Eq)]
+pub struct Written {
+    /// The refusal, 0 if none.
+    pub refusal: u32,
+    /// The bytes written, 0 on a refusal.
+    pub length: usize,
+}
+
+/// What asking reports.
+#[repr(C)]
+#[derive(Clone, Copy, Debug, PartialEq, Eq)]
+pub struct Asked {
+    /// The refusal, 0 if none.
+    pub refusal: u32,
+    /// The questions answered whole.
+    pub answered: usize,
+    /// The numbers of the room that they use.
+    pub used: usize,
+}
+
+impl From<Result<usize, u32>> for Written {
+    fn from(result: Result<usize, u32>) -> Written {
+        match result {
+            Ok(length) => Written { refusal: 0, length },
+            Err(refusal) => Written { refusal, length: 0 },
+        }
+    }
+}
+
+fn number<T>(result: Result<T, u32>) -> u32 {
+    result.err().unwrap_or(0)
+}
+
+/// A lent slice; its address may be null where it is empty.
+unsafe fn lent<'a, T>(at: *const T, length: usize) -> &'a [T] {
+    match length {
+        0 => &[],
+        _ => slice::from_raw_parts(at, length),
+    }
+}
+
+/// A lent room; its address may be null where it is empty.
+unsafe fn lent_room<'a, T>(at: *mut T, length: usize) -> &'a mut [T] {
+    match length {
+        0 => &mut [],
+        _ => slice::from_raw_parts_mut(at, length),
+    }
+}
+
+/// # Safety
+/// Each address comes with its number of elements, and a room overlaps nothing.
+#[no_mangle]
+pub unsafe extern "C" fn peer_write_list(
+    u: u32,
+    list: *const u32,
+    list_len: usize,
+    room: *mut u8,
+    room_len: usize,
+) -> Written {
+    write::write_list(u, lent(list, list_len), lent_room(room, room_len)).into()
+}
+
+/// # Safety
+/// The address comes with its number of bytes.
+#[no_mangle]
+pub unsafe extern "C" fn peer_check_list(block: *const u8, block_len: usize) -> u32 {
+    number(check::check_list(lent(block, block_len)))
+}
+
+/// # Safety
+/// Each address comes with its number of elements, and a room overlaps nothing.
+#[no_mangle]
+pub unsafe extern "C" fn peer_write_term(
+    n: u32,
+    pages: *const u32,
+    pages_len: usize,
+    counts: *const u32,
+    counts_len: usize,
+    positions: *const u32,
+    positions_len: usize,
+    room: *mut u8,
+    room_len: usize,
+) -> Written {
+    let word = term::Word {
+        pages: lent(pages, pages_len),
+        counts: lent(counts, counts_len),
+        positions: lent(positions, positions_len),
+    };
+    term::write_term(n, &word, lent_room(room, room_len)).into()
+}
+
+/// # Safety
+/// The address comes with its number of bytes.
+#[no_mangle]
+pub unsafe extern "C" fn peer_check_term(block: *const u8, block_len: usize) -> u32 {
+    number(check::check_term(lent(block, block_len)))
+}
+
+/// # Safety
+/// The address comes with its number of bytes.
+#[no_mangle]
+pub unsafe extern "C" fn peer_close_index(
+    buffer: *mut u8,
+    buffer_len: usize,
+    used: usize,
+    n: u32,
+    t: u32,
+) -> Written {
+    card::close_index(lent_room(buffer, buffer_len), used, n, t).into()
+}
+
+/// # Safety
+/// The address comes with its number of bytes.
+#[no_mangle]
+pub unsafe extern "C" fn peer_check_index(card: *const u8, card_len: usize) -> u32 {
+    number(card::check_index(lent(card, card_len)))
+}
+
+/// # Safety
+/// Each address comes with its number of elements, and a room overlaps nothing.
+#[no_mangle]
+pub unsafe extern "C" fn peer_ask(
+    card: *const u8,
+    card_len: usize,
+    questions: *const u32,
+    questions_len: usize,
+    room: *mut u32,
+    room_len: usize,
+) -> Asked {
+    let questions = lent(questions, questions_len);
+    ask::ask(lent(card, card_len), questions, lent_room(room, room_len))
+}

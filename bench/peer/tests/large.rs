@@ -1,0 +1,160 @@
+//! The peer on lists that are longer than the second program's generator makes: long runs of neighbours, far jumps
+//! and phrases over many positions, against the second program's reading of the same card.
+
+use jundefola_peer::{peer_ask, peer_check_index, peer_close_index, peer_write_term};
+use second::gen::random::Random;
+use second::plain::ask::reply;
+use second::plain::index::check_index;
+use second::plain::term::Term;
+
+const CARD_HEADER: usize = 11;
+
+/// A word as the writer is handed it.
+#[derive(Default)]
+struct Word {
+    pages: Vec<u32>,
+    counts: Vec<u32>,
+    positions: Vec<u32>,
+}
+
+impl Word {
+    fn stand(&mut self, page: u32, positions: impl Iterator<Item = u32>) {
+        let before = self.positions.len();
+        self.positions.extend(positions);
+        self.pages.push(page);
+        self.counts.push((self.positions.len() - before) as u32);
+    }
+}
+
+/// Pages in runs of up to `run` neighbours, with gaps up to `gap`.
+fn pages(random: &mut Random, card_pages: u32, run: u32, gap: u32, most: usize) -> Vec<u32> {
+    let mut pages = Vec::new();
+    let mut next = random.from_to(0, gap);
+    while next < card_pages && pages.len() < most {
+        let end = (next + random.from_to(1, run)).min(card_pages);
+        pages.extend(next..end);
+        next = end + 1 + random.from_to(0, gap);
+    }
+    pages
+}
+
+/// A word on these pages, with up to `most` positions on each.
+fn word(random: &mut Random, pages: Vec<u32>, most: u32) -> Word {
+    let mut word = Word::default();
+    for page in pages {
+        let (mut next, mut positions) = (random.from_to(0, 3), Vec::new());
+        for _ in 0..random.from_to(1, most) {
+            positions.push(next);
+            next += 1 + random.from_to(0, 2);
+        }
+        word.stand(page, positions.into_iter());
+    }
+    word
+}
+
+fn term_block(card_pages: u32, word: &Word) -> Vec<u8> {
+    let mut room = vec![0xA5; 200 + 8 * word.pages.len() + 4 * word.positions.len()];
+    let written = unsafe {
+        peer_write_term(
+            card_pages,
+            word.pages.as_ptr(),
+            word.pages.len(),
+            word.counts.as_ptr(),
+            word.counts.len(),
+            word.positions.as_ptr(),
+            word.positions.len(),
+            room.as_mut_ptr(),
+            room.len(),
+        )
+    };
+    assert_eq!(written.refusal, 0);
+    room.truncate(written.length);
+    let plain = Term::from_inputs(card_pages, &word.pages, &word.counts, &word.positions);
+    assert_eq!(plain.map(|term| term.block()), Ok(room.clone()));
+    room
+}
+
+fn card_of(card_pages: u32, words: &[Word]) -> Vec<u8> {
+    let mut card = vec![0; CARD_HEADER];
+    words
+        .iter()
+        .for_each(|word| card.extend(term_block(card_pages, word)));
+    let (length, terms) = (card.len(), words.len() as u32);
+    let closed = unsafe { peer_close_index(card.as_mut_ptr(), length, length, card_pages, terms) };
+    assert_eq!((closed.refusal, closed.length), (0, length));
+    assert!(check_index(&card).is_ok());
+    card
+}
+
+/// Questions of all kinds over some words.
+fn questions(random: &mut Random, card_pages: u32, words: &[Word]) -> Vec<u32> {
+    let mut questions = Vec::new();
+    for _ in 0..60 {
+        let term = random.place(words.len());
+        let rank = random.from_to(0, words[term].pages.len() as u32);
+        let bound = random.from_to(0, card_pages);
+        questions.extend([1, 2, term as u32, rank, 2, 2, term as u32, bound]);
+    }
+    for kind in [3, 4] {
+        for _ in 0..6 {
+            let count = random.from_to(1, 4);
+            questions.extend([kind, count]);
+            questions.extend((0..count).map(|_| random.place(words.len()) as u32));
+        }
+    }
+    questions
+}
+
+fn compare(card: &[u8], questions: &[u32]) {
+    let plain = reply(card, questions, usize::MAX);
+    let numbers = plain.answers.concat();
+    for spare in [0, 100_000] {
+        let mut room = vec![0; numbers.len() + spare];
+        let (at, size) = (room.as_mut_ptr(), room.len());
+        let (asked, length) = (questions.as_ptr(), questions.len());
+        let given = unsafe { peer_ask(card.as_ptr(), card.len(), asked, length, at, size) };
+        assert_eq!((given.refusal, given.answered), (0, plain.answers.len()));
+        assert_eq!(&room[..given.used], &numbers);
+    }
+}
+
+/// Cards of four words each; runs and gaps decide how the upper runs look.
+fn compare_cards(card_pages: u32, run: u32, gap: u32, most: usize, positions: u32) {
+    for seed in 0..4 {
+        let mut random = Random::of_case(seed, u64::from(run), u64::from(gap));
+        let mut words: Vec<Word> = (0..4)
+            .map(|i| {
+                let on = pages(&mut random, card_pages, run, gap >> i, most);
+                word(&mut random, on, positions)
+            })
+            .collect();
+        words.push(Word::default());
+        let card = card_of(card_pages, &words);
+        assert_eq!(unsafe { peer_check_index(card.as_ptr(), card.len()) }, 0);
+        compare(&card, &questions(&mut random, card_pages, &words));
+    }
+}
+
+#[test]
+fn long_runs_of_neighbours() {
+    compare_cards(16_777_216, 3_000, 2_000_000, 12_000, 2);
+    compare_cards(400_000, 900, 30_000, 12_000, 2);
+}
+
+#[test]
+fn single_pages_far_apart() {
+    compare_cards(16_777_216, 1, 9_000, 12_000, 2);
+    compare_cards(300_000, 2, 300, 12_000, 2);
+}
+
+#[test]
+fn dense_lists() {
+    compare_cards(12_000, 5, 2, 12_000, 2);
+    compare_cards(12_000, 40, 2, 12_000, 1);
+}
+
+#[test]
+fn many_positions_on_a_page() {
+    compare_cards(200, 5, 4, 200, 400);
+    compare_cards(2_000, 3, 9, 2_000, 12);
+}

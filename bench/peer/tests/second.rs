@@ -1,0 +1,163 @@
+//! The peer against the second program's reading of document 01, over every call and the program.
+
+use jundefola_peer as peer;
+use second::case::{Case, Kind};
+use second::compare::Other;
+use second::gen::{calls, files};
+use second::host_calls::{Asked, HostCalls, Written};
+use second::long_closing;
+use second::stored;
+use second::tally::Tally;
+use second::text::Stored;
+use std::fs;
+use std::path::{Path, PathBuf};
+use std::ptr;
+
+struct Peer;
+
+fn address<T>(list: &[T]) -> *const T {
+    match list.is_empty() {
+        true => ptr::null(),
+        false => list.as_ptr(),
+    }
+}
+
+fn room_address<T>(room: &mut [T]) -> *mut T {
+    match room.is_empty() {
+        true => ptr::null_mut(),
+        false => room.as_mut_ptr(),
+    }
+}
+
+fn written(written: peer::Written) -> Written {
+    Written {
+        refusal: written.refusal,
+        length: written.length,
+    }
+}
+
+impl HostCalls for Peer {
+    fn write_list(&self, bound: u32, list: &[u32], room: &mut [u8]) -> Written {
+        let (at, size) = (room_address(room), room.len());
+        written(unsafe { peer::peer_write_list(bound, address(list), list.len(), at, size) })
+    }
+
+    fn check_list(&self, block: &[u8]) -> u32 {
+        unsafe { peer::peer_check_list(address(block), block.len()) }
+    }
+
+    fn write_term(
+        &self,
+        card_pages: u32,
+        pages: &[u32],
+        counts: &[u32],
+        positions: &[u32],
+        room: &mut [u8],
+    ) -> Written {
+        let (at, size) = (room_address(room), room.len());
+        written(unsafe {
+            peer::peer_write_term(
+                card_pages,
+                address(pages),
+                pages.len(),
+                address(counts),
+                counts.len(),
+                address(positions),
+                positions.len(),
+                at,
+                size,
+            )
+        })
+    }
+
+    fn check_term(&self, block: &[u8]) -> u32 {
+        unsafe { peer::peer_check_term(address(block), block.len()) }
+    }
+
+    fn close_index(&self, buffer: &mut [u8], used: usize, pages: u32, terms: u32) -> Written {
+        let (at, size) = (room_address(buffer), buffer.len());
+        written(unsafe { peer::peer_close_index(at, size, used, pages, terms) })
+    }
+
+    fn check_index(&self, card: &[u8]) -> u32 {
+        unsafe { peer::peer_check_index(address(card), card.len()) }
+    }
+
+    fn ask(&self, card: &[u8], questions: &[u32], room: &mut [u32]) -> Asked {
+        let (at, size) = (room_address(room), room.len());
+        let (numbers, length) = (address(questions), questions.len());
+        let asked = unsafe { peer::peer_ask(address(card), card.len(), numbers, length, at, size) };
+        Asked {
+            refusal: asked.refusal,
+            answered: asked.answered,
+            used: asked.used,
+        }
+    }
+}
+
+/// How many are compared, and by which seed: the usual number, or what the environment asks for.
+fn asked_for(name: &str, usual: u64) -> u64 {
+    let given = std::env::var(name).ok();
+    given.map_or(usual, |text| text.parse().expect("a number"))
+}
+
+fn scratch(name: &str) -> PathBuf {
+    let folder = Path::new(env!("CARGO_TARGET_TMPDIR")).join(name);
+    fs::create_dir_all(&folder).expect("a scratch folder");
+    folder
+}
+
+fn compare_all(name: &str, cases: impl Iterator<Item = Stored>) -> Tally {
+    let program = Path::new(env!("CARGO_BIN_EXE_peer_lookup"));
+    let other = Other {
+        calls: &Peer,
+        program: Some(program),
+        scratch: scratch(name),
+    };
+    let mut tally = Tally::default();
+    for stored in cases {
+        let compared = other.compare(&stored).expect("the program is given");
+        tally.count(&stored.case, compared.refusal);
+        if let Some(difference) = compared.difference {
+            panic!("a difference:\n{difference}");
+        }
+    }
+    tally
+}
+
+fn seeded(case: Case) -> Stored {
+    Stored { case, gives: None }
+}
+
+#[test]
+fn samples_and_edges_give_what_is_stored() {
+    let edges = stored::edges().expect("the edges can be read");
+    let changes = stored::small_changes(&edges);
+    assert!(edges.len() > 90 && changes.len() > 4_000);
+    let edges = edges.into_iter().map(|(_, stored)| stored);
+    let tally = compare_all("edges", edges.chain(changes.into_iter().map(seeded)));
+    println!("{} calls on edges", tally.calls());
+}
+
+#[test]
+fn seeded_calls_and_runs_are_answered_alike() {
+    let seed = asked_for("PEER_SEED", 1);
+    let calls = (0..asked_for("PEER_CALLS", 60_000)).map(|i| calls::call(seed, i));
+    let runs = (0..asked_for("PEER_RUNS", 500)).map(|i| files::run(seed, i));
+    let mut tally = compare_all("seeded", calls.chain(runs).map(seeded));
+    if let Some(differences) = long_closing::compare(&Peer, &mut tally) {
+        assert_eq!(differences, Vec::<String>::new());
+    }
+    print!("{}", tally.report());
+    println!(
+        "{} calls, {} runs",
+        tally.calls(),
+        tally.of_kind(Kind::Program)
+    );
+    let is_usual = ["PEER_SEED", "PEER_CALLS", "PEER_RUNS"]
+        .iter()
+        .all(|name| std::env::var_os(name).is_none());
+    if is_usual {
+        assert_eq!(tally.unseen(true), Vec::<String>::new());
+    }
+}
