@@ -98,6 +98,8 @@ uint32_t jf_check_term(const uint8_t *block, size_t block_len);
 /*
  * Makes a card of t term blocks that lie one after the other in the buffer, from byte JF_CARD_HEADER up to byte `used`.
  * It checks them and writes the header alone. The card is the first `length` bytes, which is `used`.
+ * Refuses with JF_ROOM (used above buffer_len), JF_SHORT (used below JF_CARD_HEADER), JF_LIMIT (n, t, or a length past
+ * four bytes), or as jf_check_index refuses the terms and what is left behind them.
  *
  * To fill the buffer, start with used = JF_CARD_HEADER and, for each word, write its term block to buffer + used with
  * room buffer_len - used, then add the length reported.

@@ -1,4 +1,3 @@
 pub mod RunLaws
 pub mod TurnLaws
 pub mod CallLaws
-pub mod Unique

@@ -7,7 +7,8 @@ ghost use lib.ListN.{length};
 ghost use Rattle.rules.specs.declared.Refusal.the-variants.{Accepted};
 ghost use Rattle.rules.specs.Index.{indexT, indexRefusal};
 ghost use Rattle.rules.specs.Questions.{answer, goodQuestion};
-ghost use Rattle.rules.specs.Ask.{asked, put, fitted, ask};
+ghost use Rattle.rules.specs.Ask.{asked, put, fitted};
+ghost use Rattle.rules.specs.Promises.{Answered};
 ghost use Rattle.questions.specs.Formed.{formed, answersTo};
 ghost use Rattle.questions.specs.Wrote.{Wrote};
 use rules::Outcome;
@@ -62,7 +63,7 @@ fn answer_all(card: &[u8], questions: &[u32], room: &mut [u32]) -> Outcome
 
 // The call: the card is checked whole, then all questions, and then each is answered in turn.
 pub fn ask(card: &[u8], questions: &[u32], room: &mut [u32]) -> Outcome
-    ensures { λ r. ⌜ asked r (now (room .exit)) ≡ ask (now (card .entry)) (now (questions .entry)) (now (room .entry)) ⌝ }
+    ensures { λ r. ⌜ Answered (now (card .entry)) (now (questions .entry)) (now (room .entry)) r (now (room .exit)) ⌝ }
 {
     let refusal = checkindex::check_index(card);
     if !parts::passed(refusal) {

@@ -3,19 +3,23 @@ use mathlib.Core.Path.{_≡_, refl, sym, ap, ap₂, _∙_, subst}
 use mathlib.Core.Bool.{Bool, true, false, _&&_}
 use mathlib.Core.Logic.{_⊎_, inl, inr}
 use Prim.Native.Nat.{ℕ, zero, suc, _+_, _-_, _*_, _/_, _%_, _^_, _≤_, _<_, min}
-use native.Mathlib.Nat.{mul-le-mul-right, add-assoc, div-one, mul-mod-left, mod-eq-of-lt, add-mod-mod, div-add-mod', zero-add, zero-lt-suc, one-le-pow, mod-one, pow-suc, mul-add, mul-right-comm, mul-add-mod-self-right, add-mul, mul-assoc, mod-lt, lt-of-lt-of-le}
+use native.Mathlib.Nat.{mul-le-mul-right, add-assoc, div-one, mul-mod-left, mod-eq-of-lt, add-mod-mod, div-add-mod'}
+use native.Mathlib.Nat.{zero-add, zero-lt-suc, one-le-pow, mod-one, pow-suc, mul-add, mul-right-comm}
+use native.Mathlib.Nat.{mul-add-mod-self-right, add-mul, mul-assoc, mod-lt, lt-of-lt-of-le}
 use native.Mathlib.Decide.{decLt}
 use native.Mathlib.Omega.{arith}
-use lib.Bits.{bitAnd, bitOr, or-block, or-shifted-r, or-add-and, and-le-l, and-high, and-mask, and-step, and-self, and-block, and-zero-r, and-le-r}
+use lib.Bits.{bitAnd, bitOr, or-block, or-shifted-r, or-add-and, and-le-l, and-high}
+use lib.Bits.{and-mask, and-step, and-self, and-block, and-zero-r, and-le-r}
 use lib.Count.{ones, ones-le, trailingZeros}
 use lib.Dec.{T, eqb, eqb→eq, lit<}
 use lib.Arith.{digits-lt, mod-mul}
 use lib.Pow.{split, pow-pos, pow-add, pow-mono, shr-lt, shr-shr, shl-shr, field, mod-mod-pow}
-use Rattle.laws.proofs.BitLaws.{drop-low, shl-keeps}
+use Rattle.laws.proofs.BitLaws.{drop-low, shl-keeps, digit}
 use Rattle.laws.proofs.CountLaws.{ones-parts}
 use Rattle.bits.specs.Words.{placeOfOne}
 use Rattle.bits.specs.ByteCounts.{byteOnes, runningOnes}
-use Rattle.bits.proofs.WordLaws.{digit, place-past, place-here, place-next, place-shl, place-trailing, place-none, place-empty, place-mod, place-low, place-high}
+use Rattle.bits.proofs.WordLaws.{place-past, place-here, place-next, place-shl, place-trailing}
+use Rattle.bits.proofs.WordLaws.{place-none, place-empty, place-mod, place-low, place-high}
 
 -- ---- the lowest one taken away
 
@@ -31,7 +35,8 @@ place-drop (suc k) x j h =
           let s : bitAnd x (x - 1) ≡ bitAnd (x / 2) (x / 2 - 1) * 2 + min 0 1 = and-step x (x - 1) ∙ rw (a, b, e) in
           let y : ℕ = bitAnd x (x - 1) in
           let h : y / 2 ≡ bitAnd (x / 2) (x / 2 - 1) = omega (arith, s) in
-          place-past k y j (omega (arith, s)) ∙ rw h (ap suc (place-drop k (x / 2) j (omega arith))) ∙ sym (place-past k x (suc j) e)
+          place-past k y j (omega (arith, s)) ∙ rw h (ap suc (place-drop k (x / 2) j (omega arith)))
+          ∙ sym (place-past k x (suc j) e)
       | inr e ↦
           let a : (x - 1) / 2 ≡ x / 2 = omega arith in
           let b : (x - 1) % 2 ≡ 0 = omega arith in
@@ -49,7 +54,8 @@ each zero b = 0
 each (suc m) b = each m b * 256 + b
 
 -- `(x >> s) & m` byte by byte, where m has no bit that a higher byte could bring
-shift-byte : (s t x l m M : ℕ) → s + t ≡ 8 → l < 2 ^ 8 → m < 2 ^ t → bitAnd ((x * 2 ^ 8 + l) / 2 ^ s) (M * 2 ^ 8 + m) ≡ bitAnd (x / 2 ^ s) M * 2 ^ 8 + bitAnd (l / 2 ^ s) m
+shift-byte : (s t x l m M : ℕ) → s + t ≡ 8 → l < 2 ^ 8 → m < 2 ^ t
+    → bitAnd ((x * 2 ^ 8 + l) / 2 ^ s) (M * 2 ^ 8 + m) ≡ bitAnd (x / 2 ^ s) M * 2 ^ 8 + bitAnd (l / 2 ^ s) m
 shift-byte s t x l m M e hl hm =
     let w : 2 ^ s * 2 ^ t ≡ 2 ^ 8 = sym (pow-add 2 s t) ∙ ap (λ (n : ℕ). 2 ^ n) e in
     let n : t + s ≡ 8 = omega arith in
@@ -57,18 +63,24 @@ shift-byte s t x l m M e hl hm =
     let v : ℕ = l / 2 ^ s in
     let hv : v < 2 ^ t = shr-lt t s (rw n hl) in
     let low : u * 2 ^ t + v < 2 ^ 8 = subst (λ (c : ℕ). u * 2 ^ t + v < c) w (digits-lt (mod-lt x (pow-pos s)) hv) in
-    let top : x * 2 ^ t ≡ x / 2 ^ s * 2 ^ 8 + u * 2 ^ t = ap (λ (y : ℕ). y * 2 ^ t) (sym (split x s)) ∙ add-mul (x / 2 ^ s * 2 ^ s) u (2 ^ t) ∙ rw (mul-assoc, w) in
-    let q : (x * 2 ^ 8 + l) / 2 ^ s ≡ x / 2 ^ s * 2 ^ 8 + (u * 2 ^ t + v) = rw n at (drop-low x l t s) ∙ omega (arith, top) in
-    let a : bitAnd (u * 2 ^ t + v) (0 * 2 ^ t + m) ≡ bitAnd v m = and-block t u 0 v m hv hm ∙ rw and-zero-r (omega arith) in
+    let top : x * 2 ^ t ≡ x / 2 ^ s * 2 ^ 8 + u * 2 ^ t =
+    ap (λ (y : ℕ). y * 2 ^ t) (sym (split x s)) ∙ add-mul (x / 2 ^ s * 2 ^ s) u (2 ^ t) ∙ rw (mul-assoc, w) in
+    let q : (x * 2 ^ 8 + l) / 2 ^ s ≡ x / 2 ^ s * 2 ^ 8 + (u * 2 ^ t + v) =
+    rw n at (drop-low x l t s) ∙ omega (arith, top) in
+    let a : bitAnd (u * 2 ^ t + v) (0 * 2 ^ t + m) ≡ bitAnd v m =
+    and-block t u 0 v m hv hm ∙ rw and-zero-r (omega arith) in
     let z : 0 * 2 ^ t + m ≡ m = omega arith in
     let a' : bitAnd (u * 2 ^ t + v) m ≡ bitAnd v m = subst (λ (y : ℕ). bitAnd (u * 2 ^ t + v) y ≡ bitAnd v m) z a in
-    ap (λ (y : ℕ). bitAnd y (M * 2 ^ 8 + m)) q ∙ and-block 8 (x / 2 ^ s) M (u * 2 ^ t + v) m low (lt-of-lt-of-le hm (pow-mono {j = 8} (omega arith))) ∙ ap (λ (y : ℕ). bitAnd (x / 2 ^ s) M * 2 ^ 8 + y) a'
+    ap (λ (y : ℕ). bitAnd y (M * 2 ^ 8 + m)) q
+    ∙ and-block 8 (x / 2 ^ s) M (u * 2 ^ t + v) m low (lt-of-lt-of-le hm (pow-mono {j = 8} (omega arith)))
+    ∙ ap (λ (y : ℕ). bitAnd (x / 2 ^ s) M * 2 ^ 8 + y) a'
 
 -- `(x & m) + ((x >> s) & m)`
 abbrev pub folded : ℕ → ℕ → ℕ → ℕ
 folded s m x = bitAnd x m + bitAnd (x / 2 ^ s) m
 
-folded-byte : (s t x l m M : ℕ) → s + t ≡ 8 → l < 2 ^ 8 → m < 2 ^ t → folded s (M * 2 ^ 8 + m) (x * 2 ^ 8 + l) ≡ folded s M x * 2 ^ 8 + folded s m l
+folded-byte : (s t x l m M : ℕ) → s + t ≡ 8 → l < 2 ^ 8 → m < 2 ^ t
+    → folded s (M * 2 ^ 8 + m) (x * 2 ^ 8 + l) ≡ folded s M x * 2 ^ 8 + folded s m l
 folded-byte s t x l m M e hl hm =
     let lo : m < 2 ^ 8 = lt-of-lt-of-le hm (pow-mono {j = 8} (omega arith)) in
     omega (arith, and-block 8 x M l m hl lo, shift-byte s t x l m M e hl hm)
@@ -105,7 +117,8 @@ every-at (suc n) f t i h =
 
 byte-count : (l : ℕ) → l < 256 → folded 4 15 (folded 2 51 (folded 1 85 l)) ≡ ones l
 unfolding every ones
-byte-count l h = eqb→eq (folded 4 15 (folded 2 51 (folded 1 85 l))) (ones l) (every-at 256 (λ i. eqb (folded 4 15 (folded 2 51 (folded 1 85 i))) (ones i)) tt l h)
+byte-count l h = eqb→eq (folded 4 15 (folded 2 51 (folded 1 85 l))) (ones l)
+    (every-at 256 (λ i. eqb (folded 4 15 (folded 2 51 (folded 1 85 i))) (ones i)) tt l h)
 
 pub counted-is : (m x : ℕ) → counted m x ≡ byteOnes m x
 unfolding byteOnes
@@ -114,9 +127,12 @@ counted-is (suc m) x =
     let h : ℕ = x / 256 in
     let l : ℕ = x % 256 in
     let hl : l < 256 = mod-lt x (pow-pos 8) in
-    let a : folded 1 (each (suc m) 85) x ≡ folded 1 (each m 85) h * 256 + folded 1 85 l = ap (folded 1 (each (suc m) 85)) (sym (split x 8)) ∙ folded-byte 1 7 h l 85 (each m 85) refl hl (lit< tt) in
-    let b = folded-byte 2 6 (folded 1 (each m 85) h) (folded 1 85 l) 51 (each m 51) refl (folded-lt 1 85 l (lit< tt)) (lit< tt) in
-    let c = folded-byte 4 4 (folded 2 (each m 51) (folded 1 (each m 85) h)) (folded 2 51 (folded 1 85 l)) 15 (each m 15) refl (folded-lt 2 51 (folded 1 85 l) (lit< tt)) (lit< tt) in
+    let a : folded 1 (each (suc m) 85) x ≡ folded 1 (each m 85) h * 256 + folded 1 85 l =
+    ap (folded 1 (each (suc m) 85)) (sym (split x 8)) ∙ folded-byte 1 7 h l 85 (each m 85) refl hl (lit< tt) in
+    let b = folded-byte 2 6 (folded 1 (each m 85) h) (folded 1 85 l) 51 (each m 51) refl
+    (folded-lt 1 85 l (lit< tt)) (lit< tt) in
+    let c = folded-byte 4 4 (folded 2 (each m 51) (folded 1 (each m 85) h))
+    (folded 2 51 (folded 1 85 l)) 15 (each m 15) refl (folded-lt 2 51 (folded 1 85 l) (lit< tt)) (lit< tt) in
     ap (λ (y : ℕ). folded 4 (each (suc m) 15) (folded 2 (each (suc m) 51) y)) a ∙ ap (folded 4 (each (suc m) 15)) b ∙ c
     ∙ ap₂ (λ (y z : ℕ). y * 256 + z) (counted-is m h) (byte-count l hl)
 
@@ -124,7 +140,8 @@ counted-is (suc m) x =
 
 mod-mul-left : (n y k : ℕ) → y % n * k % n ≡ y * k % n
 mod-mul-left n y k =
-    let e : y * k ≡ y / n * k * n + y % n * k = ap (λ (z : ℕ). z * k) (sym (div-add-mod' y n)) ∙ add-mul (y / n * n) (y % n) k ∙ ap (λ (z : ℕ). z + y % n * k) (mul-right-comm (y / n) n k) in
+    let e : y * k ≡ y / n * k * n + y % n * k = ap (λ (z : ℕ). z * k) (sym (div-add-mod' y n))
+    ∙ add-mul (y / n * n) (y % n) k ∙ ap (λ (z : ℕ). z + y % n * k) (mul-right-comm (y / n) n k) in
     sym (ap (λ (z : ℕ). z % n) e ∙ mul-add-mod-self-right (y / n * k) n (y % n * k))
 
 -- `x + (x << ..)`, where the shift multiplies by k
@@ -134,7 +151,8 @@ twice n x y z k p q =
     q ∙ add-mod-mod x (x * k) n ∙ ap (λ (i : ℕ). i % n) e ∙ ap (λ (i : ℕ). i * (1 + k) % n) p ∙ mod-mul-left n y (1 + k)
 
 -- each byte added to all above it, by doubling how far it goes
-pub doubled : (c d f s : ℕ) → c < 2 ^ 64 → d ≡ (c + (c * 2 ^ 8) % 2 ^ 64) % 2 ^ 64 → f ≡ (d + (d * 2 ^ 16) % 2 ^ 64) % 2 ^ 64 → s ≡ (f + (f * 2 ^ 32) % 2 ^ 64) % 2 ^ 64 → s ≡ c * each 8 1 % 2 ^ 64
+pub doubled : (c d f s : ℕ) → c < 2 ^ 64 → d ≡ (c + (c * 2 ^ 8) % 2 ^ 64) % 2 ^ 64
+    → f ≡ (d + (d * 2 ^ 16) % 2 ^ 64) % 2 ^ 64 → s ≡ (f + (f * 2 ^ 32) % 2 ^ 64) % 2 ^ 64 → s ≡ c * each 8 1 % 2 ^ 64
 doubled c d f s l p q r =
     let d' = twice (2 ^ 64) c c d (2 ^ 8) (sym (mod-eq-of-lt l)) p in
     let f' = twice (2 ^ 64) d (c * (1 + 2 ^ 8)) f (2 ^ 16) d' q in
@@ -147,7 +165,8 @@ each-top (suc m) = rw pow-suc (omega (arith, each-top m))
 
 spread : (C v R P : ℕ) → R * 256 + 1 ≡ P + R → (C * 256 + v) * (R * 256 + 1) ≡ (C * P + (C + v) * R) * 256 + v
 spread C v R P t =
-    let a : C * 256 * (R * 256 + 1) ≡ C * P * 256 + C * R * 256 = rw (t, mul-add) (omega (arith, mul-right-comm C 256 P, mul-right-comm C 256 R)) in
+    let a : C * 256 * (R * 256 + 1) ≡ C * P * 256 + C * R * 256 =
+    rw (t, mul-add) (omega (arith, mul-right-comm C 256 P, mul-right-comm C 256 R)) in
     omega (arith, add-mul (C * 256) v (R * 256 + 1), mul-add v (R * 256) 1, mul-assoc v R 256, add-mul C v R)
 
 pub running-is : (m a x : ℕ) → a + 8 * m < 256 → (byteOnes m x + a) * each m 1 % 256 ^ m ≡ runningOnes m a x
@@ -163,10 +182,20 @@ running-is (suc m) a x h =
     let n : C * 256 + ones (x % 256) + a ≡ C * 256 + v = omega arith in
     let d : (N * 256 + v) / 256 ≡ N = omega arith in
     let r : (N * 256 + v) % 256 ≡ v = omega arith in
-    rw (n, spread C v R P (each-top m), pow-suc, mod-mul (N * 256 + v) (one-le-pow m 256 (zero-lt-suc 255)) (zero-lt-suc 255), d, r, mul-add-mod-self-right C P ((C + v) * R), running-is m v (x / 256) (omega arith))
+    rw (
+      n,
+      spread C v R P (each-top m),
+      pow-suc,
+      mod-mul (N * 256 + v) (one-le-pow m 256 (zero-lt-suc 255)) (zero-lt-suc 255),
+      d,
+      r,
+      mul-add-mod-self-right C P ((C + v) * R),
+      running-is m v (x / 256) (omega arith),
+    )
 
 -- byte i of the counts added up
-pub running-at : (m a x i : ℕ) → i < m → a + 8 * m < 256 → runningOnes m a x / 2 ^ (8 * i) % 256 ≡ a + ones (x % 2 ^ (8 * i + 8))
+pub running-at : (m a x i : ℕ) → i < m → a + 8 * m < 256
+    → runningOnes m a x / 2 ^ (8 * i) % 256 ≡ a + ones (x % 2 ^ (8 * i + 8))
 unfolding runningOnes
 running-at zero a x i h l = absurd (omega arith)
 running-at (suc m) a x zero h l = omega (arith, ones-le 8 (x % 256) (mod-lt x (pow-pos 8)))
@@ -178,7 +207,8 @@ running-at (suc m) a x (suc i) h l =
     let f : 8 + 8 * i + 8 ≡ 8 + (8 * i + 8) = omega arith in
     let q : (R * 256 + v) / 256 ≡ R = omega arith in
     rw (e, f, ← shr-shr (R * 256 + v) 8 (8 * i), q, ones-parts x 8 (8 * i + 8))
-    (running-at m v (x / 256) i (omega arith) (omega arith) ∙ add-assoc a (ones (x % 256)) (ones (x / 256 % 2 ^ (8 * i + 8))))
+    (running-at m v (x / 256) i (omega arith) (omega arith)
+    ∙ add-assoc a (ones (x % 256)) (ones (x / 256 % 2 ^ (8 * i + 8))))
 
 -- a byte below the a low bits
 byte-kept : (n a b k : ℕ) → a + 8 + k ≡ b → n % 2 ^ b / 2 ^ k % 2 ^ 8 ≡ n / 2 ^ k % 2 ^ 8
@@ -195,10 +225,12 @@ shifted-at x (suc i) h =
     (byte-kept S (48 - 8 * i) 56 (8 * i) (omega arith) ∙ running-at 8 0 x i (omega arith) (lit< tt) ∙ rw (zero-add, f))
 
 -- `((s << 8) >> (8 * i)) & 255`: the ones below byte i
-pub count-before : (x i : ℕ) → i < 8 → bitAnd ((runningOnes 8 0 x * 2 ^ 8) % 2 ^ 64 / 2 ^ (8 * i)) 255 ≡ ones (x % 2 ^ (8 * i))
+pub count-before : (x i : ℕ) → i < 8
+    → bitAnd ((runningOnes 8 0 x * 2 ^ 8) % 2 ^ 64 / 2 ^ (8 * i)) 255 ≡ ones (x % 2 ^ (8 * i))
 count-before x i h =
     let S : ℕ = runningOnes 8 0 x in
-    and-mask ((S * 2 ^ 8) % 2 ^ 64 / 2 ^ (8 * i)) 8 ∙ ap (λ (y : ℕ). y / 2 ^ (8 * i) % 2 ^ 8) (shl-keeps S 56 8) ∙ shifted-at x i h
+    and-mask ((S * 2 ^ 8) % 2 ^ 64 / 2 ^ (8 * i)) 8 ∙ ap (λ (y : ℕ). y / 2 ^ (8 * i) % 2 ^ 8) (shl-keeps S 56 8)
+    ∙ shifted-at x i h
 
 -- ---- the byte that holds a one
 
@@ -216,14 +248,18 @@ marked-fits m s j h =
     let g : (j + 1) * each m 1 ≤ 128 * each m 1 = mul-le-mul-right (each m 1) (omega arith) in
     omega (arith, g, each-mul m 128, or-add-and s (each m 128), and-le-l s (each m 128))
 
-marked-byte : (m s v j : ℕ) → v < 128 → j < 128 → marked (suc m) (s * 256 + v) j ≡ marked m s j * 256 + bitAnd (128 + v - (j + 1)) 128
+marked-byte : (m s v j : ℕ) → v < 128 → j < 128
+    → marked (suc m) (s * 256 + v) j ≡ marked m s j * 256 + bitAnd (128 + v - (j + 1)) 128
 marked-byte m s v j hv hj =
     let A : ℕ = bitOr s (each m 128) in
     let B : ℕ = (j + 1) * each m 1 in
     let q : ℕ = 128 + v - (j + 1) in
-    let o : bitOr (s * 2 ^ 8 + v) (each m 128 * 2 ^ 8 + 128) ≡ A * 2 ^ 8 + (128 + v) = or-block 8 s (each m 128) v 128 (omega arith) (lit< tt) ∙ ap (λ (y : ℕ). A * 2 ^ 8 + y) (or-shifted-r 1 7 v hv) in
-    let d : bitOr (s * 2 ^ 8 + v) (each m 128 * 2 ^ 8 + 128) - (j + 1) * (each m 1 * 256 + 1) ≡ (A - B) * 2 ^ 8 + q = omega (arith, o, mul-add (j + 1) (each m 1 * 256) 1, mul-assoc (j + 1) (each m 1) 256, marked-fits m s j hj) in
-    ap (λ (y : ℕ). bitAnd y (each m 128 * 2 ^ 8 + 128)) d ∙ and-block 8 (A - B) (each m 128) q 128 (omega arith) (lit< tt)
+    let o : bitOr (s * 2 ^ 8 + v) (each m 128 * 2 ^ 8 + 128) ≡ A * 2 ^ 8 + (128 + v) =
+    or-block 8 s (each m 128) v 128 (omega arith) (lit< tt) ∙ ap (λ (y : ℕ). A * 2 ^ 8 + y) (or-shifted-r 1 7 v hv) in
+    let d : bitOr (s * 2 ^ 8 + v) (each m 128 * 2 ^ 8 + 128) - (j + 1) * (each m 1 * 256 + 1) ≡ (A - B) * 2 ^ 8 + q =
+    omega (arith, o, mul-add (j + 1) (each m 1 * 256) 1, mul-assoc (j + 1) (each m 1) 256, marked-fits m s j hj) in
+    ap (λ (y : ℕ). bitAnd y (each m 128 * 2 ^ 8 + 128)) d
+    ∙ and-block 8 (A - B) (each m 128) q 128 (omega arith) (lit< tt)
 
 -- a byte whose count passes j, and one whose count does not
 marked-here : (m s v j : ℕ) → v < 128 → j < v → marked (suc m) (s * 256 + v) j ≡ (marked m s j * 2 + 1) * 2 ^ 7
@@ -283,22 +319,27 @@ searched (suc m) a x j h hj l =
     let s : ℕ = runningOnes m v (x / 256) in
     let o : ones (x % 256) ≤ 8 = ones-le 8 (x % 256) (mod-lt x (pow-pos 8)) in
     elim (decLt j v) [
-      | yes p ↦ subst (Search (suc m) a x j) (sym (marked-here m s v j (omega arith) p)) (inr (search-here m a x j (marked m s j) h p))
-      | no p ↦ subst (Search (suc m) a x j) (sym (marked-past m s v j (omega arith) hj)) (search-past m a x j (marked m s j) (searched m v (x / 256) j (omega arith) hj (omega arith)))
+      | yes p ↦ subst (Search (suc m) a x j) (sym (marked-here m s v j (omega arith) p))
+          (inr (search-here m a x j (marked m s j) h p))
+      | no p ↦ subst (Search (suc m) a x j) (sym (marked-past m s v j (omega arith) hj))
+          (search-past m a x j (marked m s j) (searched m v (x / 256) j (omega arith) hj (omega arith)))
     ]
 
 -- ---- within the byte
 
 -- the one number j of the word, as a one of the byte that holds it
-pub place-byte : (x j i : ℕ) → i < 8 → ones (x % 2 ^ (8 * i)) ≤ j → j < ones (x % 2 ^ (8 * i + 8)) → 8 * i + placeOfOne 8 (x / 2 ^ (8 * i) % 2 ^ 8) (j - ones (x % 2 ^ (8 * i))) ≡ placeOfOne 64 x j
+pub place-byte : (x j i : ℕ) → i < 8 → ones (x % 2 ^ (8 * i)) ≤ j → j < ones (x % 2 ^ (8 * i + 8))
+    → 8 * i + placeOfOne 8 (x / 2 ^ (8 * i) % 2 ^ 8) (j - ones (x % 2 ^ (8 * i))) ≡ placeOfOne 64 x j
 place-byte x j i h b r =
     let c : ℕ = ones (x % 2 ^ (8 * i)) in
     let y : ℕ = x / 2 ^ (8 * i) in
     let d : ℕ = 56 - 8 * i in
     let e : 8 * i + (8 + d) ≡ 64 = omega arith in
     let f : c + (j - c) ≡ j = omega arith in
-    let low : placeOfOne (8 + d) y (j - c) ≡ placeOfOne 8 y (j - c) = place-low 8 d y (j - c) (omega (arith, ones-parts x (8 * i) 8)) in
-    let all : placeOfOne (8 * i + (8 + d)) x (c + (j - c)) ≡ 8 * i + placeOfOne (8 + d) y (j - c) = place-high (8 * i) (8 + d) x (j - c) in
+    let low : placeOfOne (8 + d) y (j - c) ≡ placeOfOne 8 y (j - c) =
+    place-low 8 d y (j - c) (omega (arith, ones-parts x (8 * i) 8)) in
+    let all : placeOfOne (8 * i + (8 + d)) x (c + (j - c)) ≡ 8 * i + placeOfOne (8 + d) y (j - c) =
+    place-high (8 * i) (8 + d) x (j - c) in
     ap (λ (q : ℕ). 8 * i + q) (place-mod 8 y (j - c) ∙ sym low) ∙ sym all ∙ ap₂ (λ (k q : ℕ). placeOfOne k x q) e f
 
 -- ---- as `select_one` has them, where s holds the counts added up and t is the first mark's place
@@ -313,11 +354,14 @@ pub record Held (x j s t : ℕ) : Type 0 where
   pub byte : bitAnd (x / 2 ^ (t - 7)) 255 < 256
   pub lands : (r : ℕ) → r ≡ placeOfOne 8 (bitAnd (x / 2 ^ (t - 7)) 255) (j - before s t) → t - 7 + r ≡ placeOfOne 64 x j
 
-held-at : (x j t i : ℕ) → t ≡ 8 * i + 7 → i < 8 → ones (x % 2 ^ (8 * i)) ≤ j → j < ones (x % 2 ^ (8 * i + 8)) → Held x j (runningOnes 8 0 x) t
+held-at : (x j t i : ℕ) → t ≡ 8 * i + 7 → i < 8 → ones (x % 2 ^ (8 * i)) ≤ j → j < ones (x % 2 ^ (8 * i + 8))
+    → Held x j (runningOnes 8 0 x) t
 held-at x j t i e h b r =
     let p : t - 7 ≡ 8 * i = omega arith in
-    let q : before (runningOnes 8 0 x) t ≡ ones (x % 2 ^ (8 * i)) = ap (λ (n : ℕ). bitAnd ((runningOnes 8 0 x * 2 ^ 8) % 2 ^ 64 / 2 ^ n) 255) p ∙ count-before x i h in
-    let y : bitAnd (x / 2 ^ (t - 7)) 255 ≡ x / 2 ^ (8 * i) % 2 ^ 8 = and-mask (x / 2 ^ (t - 7)) 8 ∙ ap (λ (n : ℕ). x / 2 ^ n % 2 ^ 8) p in
+    let q : before (runningOnes 8 0 x) t ≡ ones (x % 2 ^ (8 * i)) =
+    ap (λ (n : ℕ). bitAnd ((runningOnes 8 0 x * 2 ^ 8) % 2 ^ 64 / 2 ^ n) 255) p ∙ count-before x i h in
+    let y : bitAnd (x / 2 ^ (t - 7)) 255 ≡ x / 2 ^ (8 * i) % 2 ^ 8 =
+    and-mask (x / 2 ^ (t - 7)) 8 ∙ ap (λ (n : ℕ). x / 2 ^ n % 2 ^ 8) p in
     record {
       least = omega arith;
       most = omega arith;
@@ -328,13 +372,16 @@ held-at x j t i e h b r =
 
 module _ (x j s : ℕ) (counts : s ≡ runningOnes 8 0 x) (small : j < 64) where
   outcome : Search 8 0 x j (marked 8 s j)
-  outcome = subst (λ (n : ℕ). Search 8 0 x j (marked 8 n j)) (sym counts) (searched 8 0 x j (omega arith) (omega arith) (lit< tt))
+  outcome = subst (λ (n : ℕ). Search 8 0 x j (marked 8 n j)) (sym counts)
+      (searched 8 0 x j (omega arith) (omega arith) (lit< tt))
 
   pub held : (marked 8 s j ≡ 0 → ⊥) → Held x j s (trailingZeros 64 (marked 8 s j))
   held some =
       elim outcome [
         | inl n ↦ absurd (some (n .0))
-        | inr f ↦ subst (λ (n : ℕ). Held x j n (trailingZeros 64 (marked 8 s j))) (sym counts) (held-at x j (trailingZeros 64 (marked 8 s j)) (f .byte) (place-trailing 64 (marked 8 s j) ∙ f .place) (f .within) (omega (arith, f .below)) (omega (arith, f .reach)))
+        | inr f ↦ subst (λ (n : ℕ). Held x j n (trailingZeros 64 (marked 8 s j))) (sym counts)
+            (held-at x j (trailingZeros 64 (marked 8 s j)) (f .byte) (place-trailing 64 (marked 8 s j) ∙ f .place)
+            (f .within) (omega (arith, f .below)) (omega (arith, f .reach)))
       ]
 
   pub none-held : marked 8 s j ≡ 0 → placeOfOne 64 x j ≡ 64

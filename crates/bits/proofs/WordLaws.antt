@@ -1,11 +1,13 @@
--- Laws of the places of bits in a word: by the lowest bit; by trailing zeros; that a place is there, what is there and below it, and that
--- no other place is so; by parts of the word; the first one from a place on; zeros as the complement's ones; the places in a run.
+-- Laws of the places of bits in a word: by the lowest bit; by trailing zeros; that a place is there, what is there
+-- and below it, and that no other place is so; by parts of the word; the first one from a place on; zeros as the
+-- complement's ones; the places in a run.
 -- Counts byte by byte are in SelectLaws, ones and zeros below a place of a run in CountLaws of `laws`.
 use mathlib.Core.Path.{_≡_, refl, sym, ap, _∙_, subst}
-use mathlib.Core.Logic.{_⊎_, inl, inr}
+use mathlib.Core.Logic.{inl, inr}
 use mathlib.Core.List.{List}
 use Prim.Native.Nat.{ℕ, zero, suc, _+_, _-_, _*_, _/_, _%_, _^_, _≤_, _<_}
-use native.Mathlib.Nat.{zero-mod, add-zero, zero-add, mul-one, mod-one, div-one, pow-suc, pow-succ', div-div-eq-div-mul, mod-eq-of-lt, le-antisymm, le-of-suc-le-suc, lt-of-not-le}
+use native.Mathlib.Nat.{zero-mod, add-zero, zero-add, mul-one, mod-one, div-one, pow-suc, pow-succ'}
+use native.Mathlib.Nat.{div-div-eq-div-mul, le-antisymm, le-of-suc-le-suc, lt-of-not-le}
 use native.Mathlib.Numerals.{add-one}
 use native.Mathlib.Omega.{arith}
 use lib.Bits.{bitAnd, shifted-half, shifted-even}
@@ -13,20 +15,12 @@ use lib.Pow.{mod-mod-pow, field}
 use lib.Count.{trailingZeros, ones, ones-step}
 use Rattle.rules.specs.Runs.{bit, runWord, runBit}
 use Rattle.rules.specs.Counts.{onesBelow}
-use Rattle.laws.proofs.BitLaws.{bit-zero, bit-suc, bit-shr, one-zero, tz-below, clear-low}
+use Rattle.laws.proofs.BitLaws.{bit-zero, bit-suc, bit-shr, one-zero, tz-below, clear-low, digit}
 use Rattle.laws.proofs.RunLaws.{run-bit}
 use Rattle.laws.proofs.CountLaws.{word-ones}
 use Rattle.bits.specs.Words.{placeOfOne, placeOfZero, nextOne}
 
 -- ---- one bit more
-
-pub digit : (x : ℕ) → (x % 2 ≡ 0) ⊎ (x % 2 ≡ 1)
-digit x = go (x % 2) (omega arith)
-  where
-    go : (d : ℕ) → d < 2 → (d ≡ 0) ⊎ (d ≡ 1)
-    go zero h = inl refl
-    go (suc zero) h = inr refl
-    go (suc (suc d)) h = absurd (omega arith)
 
 module _ (k x : ℕ) where
   pub place-past : (j : ℕ) → x % 2 ≡ 0 → placeOfOne (suc k) x j ≡ suc (placeOfOne k (x / 2) j)
@@ -60,12 +54,14 @@ place-shl (suc f) k y j =
     rw (e, d, place-past (f + k) (y * 2 ^ suc f) j (shifted-even y f), shifted-half) (ap suc (place-shl f k y j))
 
 -- `trailing_zeros(x & !((1 << i) - 1))`
-pub next-masked : (x i : ℕ) → x < 2 ^ 64 → i < 64 → trailingZeros 64 (bitAnd x ((2 ^ 64 - 1) - ((1 * 2 ^ i) % 2 ^ 64 - 1))) ≡ nextOne 64 x i
+pub next-masked : (x i : ℕ) → x < 2 ^ 64 → i < 64
+    → trailingZeros 64 (bitAnd x ((2 ^ 64 - 1) - ((1 * 2 ^ i) % 2 ^ 64 - 1))) ≡ nextOne 64 x i
 unfolding nextOne
 next-masked x i l h =
     let s : i + (64 - i) ≡ 64 = omega arith in
     rw (clear-low x i l h) (place-trailing 64 (x / 2 ^ i * 2 ^ i)
-    ∙ subst (λ (k : ℕ). placeOfOne k (x / 2 ^ i * 2 ^ i) 0 ≡ i + placeOfOne (64 - i) (x / 2 ^ i) 0) s (place-shl i (64 - i) (x / 2 ^ i) 0))
+    ∙ subst (λ (k : ℕ). placeOfOne k (x / 2 ^ i * 2 ^ i) 0 ≡ i + placeOfOne (64 - i) (x / 2 ^ i) 0) s
+    (place-shl i (64 - i) (x / 2 ^ i) 0))
 
 -- ---- where it is
 
@@ -80,7 +76,9 @@ pub ones-low : (x p : ℕ) → ones (x % 2 ^ suc p) ≡ x % 2 + ones (x / 2 % 2 
 ones-low x p = ones-step (x % 2 ^ suc p) ∙ rw (low-odd, low-half)
 
 -- the place that the lowest bit and the place among the others give
-place-cases : (P : ℕ → ℕ → Type 0) (k x : ℕ) → ((j : ℕ) → x % 2 ≡ 0 → P j (suc (placeOfOne k (x / 2) j))) → (x % 2 ≡ 1 → P 0 0) → ((j : ℕ) → x % 2 ≡ 1 → P (suc j) (suc (placeOfOne k (x / 2) j))) → (j : ℕ) → P j (placeOfOne (suc k) x j)
+place-cases : (P : ℕ → ℕ → Type 0) (k x : ℕ) → ((j : ℕ) → x % 2 ≡ 0 → P j (suc (placeOfOne k (x / 2) j)))
+    → (x % 2 ≡ 1 → P 0 0) → ((j : ℕ) → x % 2 ≡ 1 → P (suc j) (suc (placeOfOne k (x / 2) j))) → (j : ℕ)
+    → P j (placeOfOne (suc k) x j)
 place-cases P k x past here next j = elim (digit x) [ inl e ↦ rw (place-past k x j e) (past j e) | inr e ↦ go e j ]
   where
     go : x % 2 ≡ 1 → (j : ℕ) → P j (placeOfOne (suc k) x j)
@@ -91,7 +89,8 @@ pub place-le : (k x j : ℕ) → placeOfOne k x j ≤ k
 unfolding placeOfOne
 place-le zero x = λ j. omega arith
 place-le (suc k) x =
-    place-cases (λ j p. p ≤ suc k) k x (λ j e. omega (arith, place-le k (x / 2) j)) (λ e. omega arith) (λ j e. omega (arith, place-le k (x / 2) j))
+    place-cases (λ j p. p ≤ suc k) k x (λ j e. omega (arith, place-le k (x / 2) j)) (λ e. omega arith)
+    (λ j e. omega (arith, place-le k (x / 2) j))
 
 pub place-bit : (k x j : ℕ) → placeOfOne k x j < k → bit x (placeOfOne k x j) ≡ 1
 unfolding placeOfOne
@@ -138,7 +137,8 @@ unfolding placeOfOne
 place-mod zero x = λ j. refl
 place-mod (suc k) x =
     let y : ℕ = x % 2 ^ suc k in
-    let rest : (j : ℕ) → suc (placeOfOne k (y / 2) j) ≡ suc (placeOfOne k (x / 2) j) = λ j. rw low-half (ap suc (place-mod k (x / 2) j)) in
+    let rest : (j : ℕ) → suc (placeOfOne k (y / 2) j) ≡ suc (placeOfOne k (x / 2) j) =
+    λ j. rw low-half (ap suc (place-mod k (x / 2) j)) in
     place-cases (λ j p. placeOfOne (suc k) y j ≡ p) k x
     (λ j e. place-past k y j (low-odd x k ∙ e) ∙ rest j)
     (λ e. place-here k y (low-odd x k ∙ e))
@@ -162,7 +162,8 @@ place-high zero b x j = rw (mod-one, div-one, zero-add, zero-add, zero-add)
 place-high (suc a) b x j =
     let s : suc a + b ≡ suc (a + b) = omega arith in
     let t : suc a + placeOfOne b (x / 2 ^ suc a) j ≡ suc (a + placeOfOne b (x / 2 ^ suc a) j) = omega arith in
-    let ih : placeOfOne (a + b) (x / 2) (ones (x / 2 % 2 ^ a) + j) ≡ a + placeOfOne b (x / 2 ^ suc a) j = place-high a b (x / 2) j ∙ rw (pow-succ', div-div-eq-div-mul) in
+    let ih : placeOfOne (a + b) (x / 2) (ones (x / 2 % 2 ^ a) + j) ≡ a + placeOfOne b (x / 2 ^ suc a) j =
+    place-high a b (x / 2) j ∙ rw (pow-succ', div-div-eq-div-mul) in
     rw (s, t, ones-low x a)
     (elim (digit x) [
       | inl e ↦ rw (e, zero-add) (place-past (a + b) x (ones (x / 2 % 2 ^ a) + j) e ∙ ap suc ih)
@@ -200,12 +201,15 @@ next-zeros k x i q l h =
     let b : q - i < trailingZeros (k - i) (x / 2 ^ i) = rw place-trailing (omega arith) in
     subst (λ (n : ℕ). bit x n ≡ 0) s (sym (bit-shr x i (q - i)) ∙ tz-below (k - i) (x / 2 ^ i) (q - i) b)
 
-pub next-unique : (k x i r : ℕ) → i ≤ r → r ≤ k → ((q : ℕ) → i ≤ q → q < r → bit x q ≡ 0) → (r < k → bit x r ≡ 1) → r ≡ nextOne k x i
+pub next-unique : (k x i r : ℕ) → i ≤ r → r ≤ k → ((q : ℕ) → i ≤ q → q < r → bit x q ≡ 0) → (r < k → bit x r ≡ 1)
+    → r ≡ nextOne k x i
 unfolding nextOne
 next-unique k x i r l u z o =
     le-antisymm
-    (le-of-suc-le-suc (lt-of-not-le (λ (g : suc (nextOne k x i) ≤ r). one-zero (next-bit k x i (omega arith)) (z (nextOne k x i) (omega arith) g))))
-    (le-of-suc-le-suc (lt-of-not-le (λ (g : suc r ≤ nextOne k x i). one-zero (o (omega (arith, next-le k x i (omega arith)))) (next-zeros k x i r l g))))
+    (le-of-suc-le-suc (lt-of-not-le (λ (g : suc (nextOne k x i) ≤ r). one-zero (next-bit k x i (omega arith))
+    (z (nextOne k x i) (omega arith) g))))
+    (le-of-suc-le-suc (lt-of-not-le (λ (g : suc r ≤ nextOne k x i). one-zero
+    (o (omega (arith, next-le k x i (omega arith)))) (next-zeros k x i r l g))))
 
 half-lt : (k x : ℕ) → x < 2 ^ suc k → x / 2 < 2 ^ k
 half-lt k x h = omega (arith, rw pow-suc at h)
@@ -229,7 +233,8 @@ complement-ones (suc k) x (suc i) h l =
 pub complement-bit : (k x i : ℕ) → x < 2 ^ k → i < k → bit (2 ^ k - 1 - x) i + bit x i ≡ 1
 complement-bit zero x i h l = absurd (omega arith)
 complement-bit (suc k) x zero h l = rw (bit-zero, bit-zero) (complement-odd k x h)
-complement-bit (suc k) x (suc i) h l = rw (bit-suc, bit-suc, complement-half k x h) (complement-bit k (x / 2) i (half-lt k x h) (omega arith))
+complement-bit (suc k) x (suc i) h l =
+    rw (bit-suc, bit-suc, complement-half k x h) (complement-bit k (x / 2) i (half-lt k x h) (omega arith))
 
 module _ (k x : ℕ) (fits : x < 2 ^ k) where
   pub zero-bit : (j : ℕ) → placeOfZero k x j < k → bit x (placeOfZero k x j) ≡ 0
@@ -238,28 +243,35 @@ module _ (k x : ℕ) (fits : x < 2 ^ k) where
 
   pub zero-ones : (j : ℕ) → placeOfZero k x j < k → ones (x % 2 ^ placeOfZero k x j) + j ≡ placeOfZero k x j
   unfolding placeOfZero
-  zero-ones j h = omega (arith, place-ones k (2 ^ k - 1 - x) j h, complement-ones k x (placeOfZero k x j) fits (omega arith))
-
-  pub zero-some : (j : ℕ) → ones x + j < k → placeOfZero k x j < k
-  unfolding placeOfZero
-  zero-some j h = place-some k (2 ^ k - 1 - x) j (omega (arith, rw (mod-eq-of-lt fits) at (complement-ones k x k fits (omega arith))))
+  zero-ones j h = omega (
+    arith,
+    place-ones k (2 ^ k - 1 - x) j h,
+    complement-ones k x (placeOfZero k x j) fits (omega arith),
+  )
 
   pub zero-unique : (p : ℕ) → p < k → bit x p ≡ 0 → p ≡ placeOfZero k x (p - ones (x % 2 ^ p))
   unfolding placeOfZero
   zero-unique p h o =
-      let e : ones ((2 ^ k - 1 - x) % 2 ^ p) ≡ p - ones (x % 2 ^ p) = omega (arith, complement-ones k x p fits (omega arith)) in
+      let e : ones ((2 ^ k - 1 - x) % 2 ^ p) ≡ p - ones (x % 2 ^ p) =
+      omega (arith, complement-ones k x p fits (omega arith)) in
       rw (← e) (place-unique k (2 ^ k - 1 - x) p h (omega (arith, complement-bit k x p fits h)))
 
 -- ---- the places in word k of a run
 
 module _ (s : List ℕ) (at k j x : ℕ) (word : x ≡ runWord s at k) where
-  pub run-one : placeOfOne 64 x j < 64 → (runBit s at (64 * k + placeOfOne 64 x j) ≡ 1) × (onesBelow s at (64 * k + placeOfOne 64 x j) ≡ onesBelow s at (64 * k) + j)
+  pub run-one : placeOfOne 64 x j < 64 → (runBit s at (64 * k + placeOfOne 64 x j) ≡ 1)
+      × (onesBelow s at (64 * k + placeOfOne 64 x j) ≡ onesBelow s at (64 * k) + j)
   run-one h =
-      let p : ℕ = placeOfOne 64 x j in
-      (run-bit s at k p h ∙ rw (← word) (place-bit 64 x j h), word-ones s at k p (omega arith) ∙ rw (← word) (ap (λ (n : ℕ). onesBelow s at (64 * k) + n) (place-ones 64 x j h)))
+      let p : ℕ = placeOfOne 64 x j in (
+        run-bit s at k p h ∙ rw (← word) (place-bit 64 x j h),
+        word-ones s at k p (omega arith)
+            ∙ rw (← word) (ap (λ (n : ℕ). onesBelow s at (64 * k) + n) (place-ones 64 x j h)),
+      )
 
-  pub run-zero : x < 2 ^ 64 → placeOfZero 64 x j < 64 → (runBit s at (64 * k + placeOfZero 64 x j) ≡ 0) × (onesBelow s at (64 * k + placeOfZero 64 x j) + j ≡ onesBelow s at (64 * k) + placeOfZero 64 x j)
+  pub run-zero : x < 2 ^ 64 → placeOfZero 64 x j < 64 → (runBit s at (64 * k + placeOfZero 64 x j) ≡ 0)
+      × (onesBelow s at (64 * k + placeOfZero 64 x j) + j ≡ onesBelow s at (64 * k) + placeOfZero 64 x j)
   run-zero l h =
       let p : ℕ = placeOfZero 64 x j in
-      let o : onesBelow s at (64 * k + p) ≡ onesBelow s at (64 * k) + ones (x % 2 ^ p) = word-ones s at k p (omega arith) ∙ rw (← word) in
+      let o : onesBelow s at (64 * k + p) ≡ onesBelow s at (64 * k) + ones (x % 2 ^ p) =
+      word-ones s at k p (omega arith) ∙ rw (← word) in
       (run-bit s at k p h ∙ rw (← word) (zero-bit 64 x l j h), omega (arith, o, zero-ones 64 x l j h))

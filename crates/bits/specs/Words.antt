@@ -2,7 +2,8 @@
 --
 --   placeOfOne k x j   the place of the 1 number j, counted from 0, among the k low bits of x; k where there is none
 --   placeOfZero k x j  the place of the 0 number j among the k bits of an x below 2 ^ k: that 1 of its complement
---   nextOne k x i      the first place at or after i, which is at most k, of a 1 among the k low bits of x; k where there is none
+--   nextOne k x i      the first place at or after i, which is at most k, of a 1 among the k low bits of x;
+--                      k where there is none
 use Prim.Native.Nat.{ℕ, zero, suc, _+_, _-_, _/_, _%_, _^_}
 
 unfoldable pub placeOfOne : ℕ → ℕ → ℕ → ℕ

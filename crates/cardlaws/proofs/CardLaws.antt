@@ -7,15 +7,17 @@ use native.Mathlib.Nat.{zero-add}
 use native.Mathlib.Omega.{arith}
 use lib.ListN.{length, getD, drop, length-append, length-drop}
 use lib.Seq.{ext-getD}
-use Rattle.rules.specs.Limits.{version, indexHeader, fourBytes}
+use Rattle.rules.specs.Limits.{version, indexHeader}
 use Rattle.rules.specs.ReadList.{stated}
 use Rattle.rules.specs.Term.{Word, termBlock}
 use Rattle.rules.specs.Parts.{after}
 use Rattle.rules.specs.Index.{indexFront, terms, card, validWords, indexN, indexT, termPart, wordOf, wordsFrom, wordsOf}
-use Rattle.laws.proofs.ByteLaws.{Bytes, beAt-lt}
+use Rattle.laws.proofs.ByteLaws.{Bytes}
+use Rattle.laws.proofs.PartLaws.{stated-lt}
 use Rattle.termlaws.proofs.BlockLaws.{term-read}
 use Rattle.cardlaws.specs.Cards.{Valid, Passed}
-use Rattle.cardlaws.proofs.FrontLaws.{length-front, drop-front, front-version, front-stated, front-N, front-T, front-again}
+use Rattle.cardlaws.proofs.FrontLaws.{length-front, drop-front, front-version}
+use Rattle.cardlaws.proofs.FrontLaws.{front-stated, front-N, front-T, front-again}
 use Rattle.cardlaws.proofs.TermsLaws.{terms-accepted, part-terms, words-writable}
 use Rattle.cardlaws.proofs.WalkLaws.{length-words, getD-words, words-valid, terms-read}
 
@@ -27,7 +29,8 @@ module _ (N : ℕ) (ts : List Word) (v : Valid N ts) where
 
   pub card-length : length (card N ts) ≡ indexHeader + length (terms N ts)
   unfolding card
-  card-length = length-append (indexFront size N (length ts)) (terms N ts) ∙ ap (λ (k : ℕ). k + length (terms N ts)) (length-front size N (length ts))
+  card-length = length-append (indexFront size N (length ts)) (terms N ts)
+      ∙ ap (λ (k : ℕ). k + length (terms N ts)) (length-front size N (length ts))
 
   pub card-N : indexN (card N ts) ≡ N
   unfolding card
@@ -92,22 +95,19 @@ module _ (s : List ℕ) (b : Bytes s) (p : Passed s) where
   words-are = length-words (indexT s) 0 s
 
   size-is : indexHeader + length (terms (indexN s) (wordsOf s)) ≡ stated s
-  size-is = ap (λ (l : List ℕ). indexHeader + length l) (sym terms-are) ∙ rw length-drop (omega (arith, p .head .header, p .head .states))
-
-  stated-lt : stated s < fourBytes
-  unfolding stated
-  stated-lt = beAt-lt 4 s 0 b
+  size-is = ap (λ (l : List ℕ). indexHeader + length l) (sym terms-are)
+      ∙ rw length-drop (omega (arith, p .head .header, p .head .states))
 
   pub read-valid : Valid (indexN s) (wordsOf s)
   read-valid = record {
     within = p .within;
     few = rw words-are (p .few);
     words = words-of-valid s p;
-    short = rw size-is stated-lt;
+    short = rw size-is (stated-lt s b);
   }
 
   pub read-card : s ≡ card (indexN s) (wordsOf s)
   unfolding card
   read-card =
-      front-again s b (p .head .header) (p .head .version-is)
-      ∙ ap₂ (λ (f t : List ℕ). f ++ t) (ap₂ (λ (a c : ℕ). indexFront a (indexN s) c) (sym size-is) (sym words-are)) terms-are
+      let front = ap₂ (λ (a c : ℕ). indexFront a (indexN s) c) (sym size-is) (sym words-are) in
+      front-again s b (p .head .header) (p .head .version-is) ∙ ap₂ (λ (f t : List ℕ). f ++ t) front terms-are

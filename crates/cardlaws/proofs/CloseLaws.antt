@@ -1,20 +1,23 @@
--- Laws of closing an index: the header is laid before the terms that lie in the buffer, and a finished index stays as it is.
+-- Laws of closing an index:
+-- the header is laid before the terms that lie in the buffer, and a finished index stays as it is.
 use mathlib.Core.Path.{_≡_, sym, ap, _∙_}
 use mathlib.Core.List.{List, _++_}
-use Prim.Native.Nat.{ℕ, _+_, _-_, _≤_, _<_}
+use Prim.Native.Nat.{ℕ, _+_, _-_, _≤_}
 use native.Mathlib.Omega.{arith}
 use lib.ListN.{length, take, drop, length-append, length-drop}
 use lib.Seq.{take-append-add, take-add, take-at, take-take, drop-at, length-take-le}
 use Rattle.rules.specs.declared.Refusal.the-variants.{Accepted}
-use Rattle.rules.specs.Limits.{indexHeader, fourBytes}
+use Rattle.rules.specs.Limits.{indexHeader}
 use Rattle.rules.specs.ReadList.{stated}
 use Rattle.rules.specs.Write.{laid}
 use Rattle.rules.specs.Index.{indexFront, indexN, indexT, closeRefusal, closeIndex}
-use Rattle.laws.proofs.ByteLaws.{Bytes, bytes-take, beAt-lt}
+use Rattle.laws.proofs.ByteLaws.{Bytes, bytes-take}
+use Rattle.laws.proofs.PartLaws.{stated-lt}
 use Rattle.laws.proofs.RefusalLaws.{true-accepted}
 use Rattle.laws.proofs.RoomLaws.{drop-laid, length-laid, laid-same}
 use Rattle.cardlaws.specs.Cards.{Passed, Closable, Closed}
-use Rattle.cardlaws.proofs.FrontLaws.{length-front, drop-front, front-version, front-stated, front-N, front-T, front-again}
+use Rattle.cardlaws.proofs.FrontLaws.{length-front, drop-front, front-version}
+use Rattle.cardlaws.proofs.FrontLaws.{front-stated, front-N, front-T, front-again}
 use Rattle.cardlaws.proofs.PassedLaws.{passed-accepted, closable-accepted}
 
 -- ---- the first n bytes of room in which the bytes a are laid
@@ -22,7 +25,8 @@ use Rattle.cardlaws.proofs.PassedLaws.{passed-accepted, closable-accept
 pub drop-take : (m n : ℕ) (l : List ℕ) → m ≤ length l → take n (drop m l) ≡ drop m (take (m + n) l)
 drop-take m n l h = sym (rw (take-add m n l) (drop-at (take m l) (take n (drop m l)) m (length-take-le m l h)))
 
-take-laid-more : (n : ℕ) (a room : List ℕ) → length a ≤ n → length a ≤ length room → take n (laid a room) ≡ a ++ drop (length a) (take n room)
+take-laid-more : (n : ℕ) (a room : List ℕ) → length a ≤ n → length a ≤ length room
+    → take n (laid a room) ≡ a ++ drop (length a) (take n room)
 unfolding laid
 take-laid-more n a room h g =
     let e : length a + (n - length a) ≡ n = omega arith in
@@ -38,17 +42,23 @@ module _ (buffer : List ℕ) (used N T : ℕ) (c : Closable buffer used N T) whe
   abbrev rest : List ℕ
   rest = drop indexHeader (take used buffer)
 
-  pub closed-made : closeIndex buffer used N T ≡ record { refusal = Accepted; size = used; room = laid (indexFront used N T) buffer }
+  pub closed-made : closeIndex buffer used N T ≡ record {
+    refusal = Accepted;
+    size = used;
+    room = laid (indexFront used N T) buffer;
+  }
   unfolding closeIndex
   closed-made = rw (true-accepted (closeRefusal buffer used N T) (closable-accepted buffer used N T c))
 
   closed-bytes : take used (closeIndex buffer used N T .room) ≡ front ++ rest
   closed-bytes =
       let l : length front ≡ indexHeader = length-front used N T in
-      rw closed-made (rw l at (take-laid-more used front buffer (omega (arith, l, c .header)) (omega (arith, l, c .header, c .fits))))
+      rw closed-made
+      (rw l at (take-laid-more used front buffer (omega (arith, l, c .header)) (omega (arith, l, c .header, c .fits))))
 
   closed-length : length (front ++ rest) ≡ used
-  closed-length = rw (length-append, length-front used N T, length-drop, length-take-le used buffer (c .fits)) (omega (arith, c .header))
+  closed-length = rw (length-append, length-front used N T, length-drop, length-take-le used buffer (c .fits))
+      (omega (arith, c .header))
 
   closed-passed : Passed (front ++ rest)
   closed-passed = record {
@@ -59,7 +69,8 @@ module _ (buffer : List ℕ) (used N T : ℕ) (c : Closable buffer used N T) whe
     };
     within = rw (front-N used N T rest (c .within)) (c .within);
     few = rw (front-T used N T rest (c .few)) (c .few);
-    terms-pass = rw (front-N used N T rest (c .within), front-T used N T rest (c .few), drop-front used N T rest) (c .terms-pass);
+    terms-pass = rw (front-N used N T rest (c .within), front-T used N T rest (c .few), drop-front used N T rest)
+        (c .terms-pass);
   }
 
   pub closed-is : Closed buffer used N T
@@ -74,7 +85,8 @@ module _ (buffer : List ℕ) (used N T : ℕ) (c : Closable buffer used N T) whe
 
 -- ---- closing a finished index
 
-module _ (buffer : List ℕ) (used : ℕ) (b : Bytes buffer) (fits : used ≤ length buffer) (p : Passed (take used buffer)) where
+module _ (buffer : List ℕ) (used : ℕ) (b : Bytes buffer) (fits : used ≤ length buffer)
+    (p : Passed (take used buffer)) where
   abbrev s : List ℕ
   s = take used buffer
 
@@ -84,15 +96,11 @@ module _ (buffer : List ℕ) (used : ℕ) (b : Bytes buffer) (fits : used ≤ le
   s-stated : stated s ≡ used
   s-stated = p .head .states ∙ s-length
 
-  stated-lt : stated s < fourBytes
-  unfolding stated
-  stated-lt = beAt-lt 4 s 0 (bytes-take used buffer b)
-
   pub finished-closable : Closable buffer used (indexN (take used buffer)) (indexT (take used buffer))
   finished-closable = record {
     fits = fits;
     header = rw s-length at (p .head .header);
-    short = rw s-stated at stated-lt;
+    short = rw s-stated at (stated-lt s (bytes-take used buffer b));
     within = p .within;
     few = p .few;
     terms-pass = p .terms-pass;
@@ -105,8 +113,13 @@ module _ (buffer : List ℕ) (used : ℕ) (b : Bytes buffer) (fits : used ≤ le
       sym (take-at f (drop indexHeader s) indexHeader (length-front used (indexN s) (indexT s)))
       ∙ ap (take indexHeader) (sym e) ∙ take-take indexHeader used buffer (rw s-length at (p .head .header))
 
-  pub finished-same : closeIndex buffer used (indexN (take used buffer)) (indexT (take used buffer)) ≡ record { refusal = Accepted; size = used; room = buffer }
+  pub finished-same : closeIndex buffer used (indexN (take used buffer)) (indexT (take used buffer)) ≡ record {
+    refusal = Accepted;
+    size = used;
+    room = buffer;
+  }
   finished-same =
       closed-made buffer used (indexN s) (indexT s) finished-closable
       ∙ ap (λ (r : List ℕ). record { refusal = Accepted; size = used; room = r })
-      (laid-same indexHeader buffer (indexFront used (indexN s) (indexT s)) (length-front used (indexN s) (indexT s)) front-same)
+      (laid-same indexHeader buffer (indexFront used (indexN s) (indexT s))
+      (length-front used (indexN s) (indexT s)) front-same)

@@ -32,7 +32,8 @@ module _ (size N T : ℕ) where
     drop-front = drop-at (indexFront size N T) x indexHeader length-front
 
     pub front-version : getD (indexFront size N T ++ x) 4 0 ≡ version
-    front-version = rw (front-fields) (rw length-be at (getD-append-add (be 4 size) (version ∷ (be 4 N ++ (be 2 T ++ x))) 0 0))
+    front-version =
+        rw (front-fields) (rw length-be at (getD-append-add (be 4 size) (version ∷ (be 4 N ++ (be 2 T ++ x))) 0 0))
 
     pub front-stated : size < fourBytes → stated (indexFront size N T ++ x) ≡ size
     unfolding stated
@@ -51,7 +52,8 @@ module _ (size N T : ℕ) where
 
     pub front-T : T ≤ termLimit → indexT (indexFront size N T ++ x) ≡ T
     unfolding indexT
-    front-T h = rw front-fields (past-five 2 4 ∙ beAt-past 2 4 (be 4 N) (be 2 T ++ x) 0 (length-be 4 N) ∙ read-be 2 T x ∙ mod-eq-of-lt (omega arith))
+    front-T h = rw front-fields (past-five 2 4 ∙ beAt-past 2 4 (be 4 N) (be 2 T ++ x) 0 (length-be 4 N) ∙ read-be 2 T x
+        ∙ mod-eq-of-lt (omega arith))
 
 -- bytes of the version are their header, read, and what follows
 pub front-again : (s : List ℕ) → Bytes s → indexHeader ≤ length s → getD s 4 0 ≡ version

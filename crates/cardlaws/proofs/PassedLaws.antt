@@ -35,24 +35,28 @@ module _ (N : ℕ) (ts : List Word) where
 
   pub valid-card : Valid N ts → validCard N ts ≡ true
   unfolding validCard
-  valid-card v = rw (le-leb N limit (v .within), le-leb (length ts) termLimit (v .few), v .words) (lt-ltb (indexHeader + length (terms N ts)) fourBytes (v .short))
+  valid-card v = rw (le-leb N limit (v .within), le-leb (length ts) termLimit (v .few), v .words)
+      (lt-ltb (indexHeader + length (terms N ts)) fourBytes (v .short))
 
 -- ---- an index
 
 module _ (s : List ℕ) where
   -- the tests behind the first three
   abbrev tests : Refusal
-  tests = cond (ltb limit (indexN s) || ltb termLimit (indexT s)) Limit (termsRefusal (indexT s) (indexN s) (drop indexHeader s))
+  tests = cond (ltb limit (indexN s) || ltb termLimit (indexT s)) Limit
+      (termsRefusal (indexT s) (indexN s) (drop indexHeader s))
 
   pub passed-accepted : Passed s → indexRefusal s ≡ Accepted
   unfolding indexRefusal
-  passed-accepted p = head-next indexHeader s tests (p .head) ∙ rw (le-ltb limit (indexN s) (p .within), le-ltb termLimit (indexT s) (p .few)) (p .terms-pass)
+  passed-accepted p = head-next indexHeader s tests (p .head)
+      ∙ rw (le-ltb limit (indexN s) (p .within), le-ltb termLimit (indexT s) (p .few)) (p .terms-pass)
 
   pub accepted-passed : indexRefusal s ≡ Accepted → Passed s
   unfolding indexRefusal
   accepted-passed e =
       let a = head-passed indexHeader s tests e in
-      let d = test-passed (ltb limit (indexN s) || ltb termLimit (indexT s)) Limit (termsRefusal (indexT s) (indexN s) (drop indexHeader s)) (lit< tt) (a .1) in
+      let d = test-passed (ltb limit (indexN s) || ltb termLimit (indexT s)) Limit
+      (termsRefusal (indexT s) (indexN s) (drop indexHeader s)) (lit< tt) (a .1) in
       let o = or-parts (ltb limit (indexN s)) (ltb termLimit (indexT s)) (d .0) in
       record {
         head = a .0;
@@ -67,7 +71,13 @@ module _ (buffer : List ℕ) (used N T : ℕ) where
   pub closable-accepted : Closable buffer used N T → closeRefusal buffer used N T ≡ Accepted
   unfolding closeRefusal
   closable-accepted c =
-      rw (le-ltb (length buffer) used (c .fits), le-ltb used indexHeader (c .header), lt-leb fourBytes used (c .short), le-ltb limit N (c .within), le-ltb termLimit T (c .few))
+      rw (
+        le-ltb (length buffer) used (c .fits),
+        le-ltb used indexHeader (c .header),
+        lt-leb fourBytes used (c .short),
+        le-ltb limit N (c .within),
+        le-ltb termLimit T (c .few),
+      )
       (c .terms-pass)
 
   pub accepted-closable : closeRefusal buffer used N T ≡ Accepted → Closable buffer used N T

@@ -7,6 +7,7 @@ use native.Mathlib.Omega.{arith}
 use borrow.Author.Tests.{ltb-false, le-leb, leb-true, eq-eqb, eqb-true}
 use lib.Dec.{ltb, leb, eqb, lit<}
 use lib.ListN.{length, getD, take, drop, drop-of-length-le}
+use Rattle.rules.specs.declared.Refusal.{Refusal}
 use Rattle.rules.specs.declared.Refusal.the-variants.{Accepted, Layout, Parts}
 use Rattle.rules.specs.Refusal.{number, accepted}
 use Rattle.rules.specs.Limits.{limit, termHeader}
@@ -23,16 +24,24 @@ use Rattle.termlaws.proofs.BlockLaws.{term-whole, term-header, term-accepted, t
 
 -- ---- each answer
 
+-- the answer of the first of the blocks, and the N of its pages
+abbrev first : List ℕ → Refusal
+first s = inside termHeader termRefusal s
+
+abbrev first-N : List ℕ → ℕ
+first-N s = listU (pagesOf (take (stated s) s))
+
 module _ (T N : ℕ) (s : List ℕ) where
-  pub terms-bad : accepted (inside termHeader termRefusal s) ≡ false → termsRefusal (suc T) N s ≡ inside termHeader termRefusal s
+  pub terms-bad : accepted (first s) ≡ false → termsRefusal (suc T) N s ≡ first s
   unfolding termsRefusal
   terms-bad e = rw (e, termsRefusal)
 
-  pub terms-other : accepted (inside termHeader termRefusal s) ≡ true → eqb (listU (pagesOf (take (stated s) s))) N ≡ false → termsRefusal (suc T) N s ≡ Parts
+  pub terms-other : accepted (first s) ≡ true → eqb (first-N s) N ≡ false → termsRefusal (suc T) N s ≡ Parts
   unfolding termsRefusal
   terms-other e f = rw (e, termsRefusal) (rw (f, termsRefusal))
 
-  pub terms-next : accepted (inside termHeader termRefusal s) ≡ true → eqb (listU (pagesOf (take (stated s) s))) N ≡ true → termsRefusal (suc T) N s ≡ termsRefusal T N (drop (stated s) s)
+  pub terms-next : accepted (first s) ≡ true → eqb (first-N s) N ≡ true
+      → termsRefusal (suc T) N s ≡ termsRefusal T N (drop (stated s) s)
   unfolding termsRefusal
   terms-next e f = rw (e, termsRefusal) (rw (f, termsRefusal))
 
@@ -43,35 +52,38 @@ pub record First (T N : ℕ) (s : List ℕ) : Type 0 where
   pub rest : termsRefusal T N (drop (stated s) s) ≡ Accepted
 
 pub terms-first : (T N : ℕ) (s : List ℕ) → termsRefusal (suc T) N s ≡ Accepted → First T N s
-terms-first T N s e = go (accepted (inside termHeader termRefusal s)) (eqb (listU (pagesOf (take (stated s) s))) N) refl refl
+terms-first T N s e = go (accepted (first s)) (eqb (first-N s) N) refl refl
   where
-    go : (a b : Bool) → accepted (inside termHeader termRefusal s) ≡ a → eqb (listU (pagesOf (take (stated s) s))) N ≡ b → First T N s
-    go false b p q = absurd (false≢true (sym p ∙ true-accepted (inside termHeader termRefusal s) (sym (terms-bad T N s p) ∙ e)))
+    go : (a b : Bool) → accepted (first s) ≡ a → eqb (first-N s) N ≡ b → First T N s
+    go false b p q = absurd (false≢true (sym p ∙ true-accepted (first s) (sym (terms-bad T N s p) ∙ e)))
     go true false p q = absurd (omega (arith, ap number (sym (terms-other T N s p q) ∙ e)))
     go true true p q = record {
-      passes = accepted-true (inside termHeader termRefusal s) p;
-      same-N = eqb-true (listU (pagesOf (take (stated s) s))) N q;
+      passes = accepted-true (first s) p;
+      same-N = eqb-true (first-N s) N q;
       rest = sym (terms-next T N s p q) ∙ e;
     }
 
 pub first-terms : (T N : ℕ) (s : List ℕ) → First T N s → termsRefusal (suc T) N s ≡ Accepted
 first-terms T N s f =
-    terms-next T N s (true-accepted (inside termHeader termRefusal s) (f .passes)) (eq-eqb (listU (pagesOf (take (stated s) s))) N (f .same-N)) ∙ f .rest
+    terms-next T N s (true-accepted (first s) (f .passes)) (eq-eqb (first-N s) N (f .same-N)) ∙ f .rest
 
 pub terms-none : (N : ℕ) (s : List ℕ) → termsRefusal 0 N s ≡ Accepted → s ≡ []
 unfolding termsRefusal
-terms-none N s e = drop-of-length-le s {i = 0} (ltb-false 0 (length s) (test-passed (ltb 0 (length s)) Layout Accepted (lit< tt) e .0))
+terms-none N s e =
+    drop-of-length-le s {i = 0} (ltb-false 0 (length s) (test-passed (ltb 0 (length s)) Layout Accepted (lit< tt) e .0))
 
 -- ---- blocks of writable words
 
-pub words-parts : (N : ℕ) (t : Word) (ts : List Word) → validWords N (t ∷ ts) ≡ true → N ≤ limit → Writable N t × (validWords N ts ≡ true)
+pub words-parts : (N : ℕ) (t : Word) (ts : List Word) → validWords N (t ∷ ts) ≡ true → N ≤ limit
+    → Writable N t × (validWords N ts ≡ true)
 unfolding validWords
 words-parts N t ts v h =
     let p = and-parts (validWord N t) (leb (next 0 (places t)) limit && validWords N ts) v in
     let q = and-parts (leb (next 0 (places t)) limit) (validWords N ts) (p .1) in
     (record { valid = p .0; within = h; reach = leb-true (next 0 (places t)) limit (q .0) }, q .1)
 
-pub words-cons : (N : ℕ) (t : Word) (ts : List Word) → Writable N t → validWords N ts ≡ true → validWords N (t ∷ ts) ≡ true
+pub words-cons : (N : ℕ) (t : Word) (ts : List Word) → Writable N t → validWords N ts ≡ true
+    → validWords N (t ∷ ts) ≡ true
 unfolding validWords
 words-cons N t ts w v = rw (w .valid, le-leb (next 0 (places t)) limit (w .reach)) v
 
@@ -92,15 +104,18 @@ module _ (N : ℕ) (within : N ≤ limit) where
         rest = rw d (terms-accepted ts (p .1));
       })
 
-  pub part-terms : (ts : List Word) → validWords N ts ≡ true → (d : Word) (t : ℕ) → t < length ts → part t (terms N ts) ≡ termBlock N (getD ts t d)
+  pub part-terms : (ts : List Word) → validWords N ts ≡ true → (d : Word) (t : ℕ) → t < length ts
+      → part t (terms N ts) ≡ termBlock N (getD ts t d)
   unfolding terms
   part-terms [] v d t h = absurd (omega arith)
-  part-terms (x ∷ ts) v d zero h = part-first (termBlock N x) (terms N ts) (term-whole N x (words-parts N x ts v within .0))
+  part-terms (x ∷ ts) v d zero h =
+      part-first (termBlock N x) (terms N ts) (term-whole N x (words-parts N x ts v within .0))
   part-terms (x ∷ ts) v d (suc t) h =
       let p = words-parts N x ts v within in
       part-append (termBlock N x) (terms N ts) (term-whole N x (p .0)) t ∙ part-terms ts (p .1) d t (omega arith)
 
-  pub words-writable : (ts : List Word) → validWords N ts ≡ true → (d : Word) (t : ℕ) → t < length ts → Writable N (getD ts t d)
+  pub words-writable : (ts : List Word) → validWords N ts ≡ true → (d : Word) (t : ℕ) → t < length ts
+      → Writable N (getD ts t d)
   words-writable [] v d t h = absurd (omega arith)
   words-writable (x ∷ ts) v d zero h = words-parts N x ts v within .0
   words-writable (x ∷ ts) v d (suc t) h = words-writable ts (words-parts N x ts v within .1) d t (omega arith)

@@ -1,4 +1,5 @@
--- Laws of the walk over the term blocks of an index: where each block lies, that each passes, and the words that are read.
+-- Laws of the walk over the term blocks of an index:
+-- where each block lies, that each passes, and the words that are read.
 use mathlib.Core.Bool.{true}
 use mathlib.Core.Path.{_≡_, refl, sym, ap, ap₂, _∙_}
 use mathlib.Core.List.{List, [], _++_}
@@ -30,7 +31,8 @@ pub record Found (N k : ℕ) (l : List ℕ) : Type 0 where
   pub accepts : termRefusal (part k l) ≡ Accepted
   pub same-N : listU (pagesOf (part k l)) ≡ N
 
-first-found : (T N k : ℕ) (l : List ℕ) → termsRefusal (suc T) N (after k l) ≡ Accepted → Found N k l × (termsRefusal T N (after (suc k) l) ≡ Accepted)
+first-found : (T N k : ℕ) (l : List ℕ) → termsRefusal (suc T) N (after k l) ≡ Accepted
+    → Found N k l × (termsRefusal T N (after (suc k) l) ≡ Accepted)
 unfolding part
 first-found T N k l e =
     let f = terms-first T N (after k l) e in
@@ -61,7 +63,8 @@ module _ (s : List ℕ) (p : Passed s) where
   pub term-in : (t : ℕ) → t < indexT s → TermIn t s
   unfolding termPart
   term-in t h =
-      let f : Found (indexN s) t (drop indexHeader s) = rw (zero-add t) at (found (indexT s) (indexN s) 0 (drop indexHeader s) passes-all t h) in
+      let f : Found (indexN s) t (drop indexHeader s) =
+      rw (zero-add t) at (found (indexT s) (indexN s) 0 (drop indexHeader s) passes-all t h) in
       record {
         accepts = f .accepts;
         same-N = f .same-N;
@@ -75,7 +78,8 @@ module _ (s : List ℕ) (p : Passed s) where
 
   pub termAt-end : termAt (indexT s) s ≡ length s
   termAt-end =
-      let e : after (indexT s) (drop indexHeader s) ≡ [] = rw (zero-add (indexT s)) at (found-end (indexT s) (indexN s) 0 (drop indexHeader s) passes-all) in
+      let e : after (indexT s) (drop indexHeader s) ≡ [] =
+      rw (zero-add (indexT s)) at (found-end (indexT s) (indexN s) 0 (drop indexHeader s) passes-all) in
       let d : length (drop (termAt (indexT s) s) s) ≡ 0 = ap length (sym (after-at indexHeader s (indexT s)) ∙ e) in
       omega (arith, termAt-within (indexT s) (omega arith), sym (length-drop (termAt (indexT s) s) s) ∙ d)
 
@@ -111,5 +115,8 @@ module _ (N : ℕ) (s : List ℕ) where
   terms-read b zero k e = terms-none N (after k l) e
   terms-read b (suc T) k e =
       let f = first-found T N k l e in
-      let p : part k l ≡ termBlock N (readWord (part k l)) = accepted-block (part k l) (bytes-part k l (bytes-drop indexHeader s b)) (f .0 .accepts) ∙ ap (λ (n : ℕ). termBlock n (readWord (part k l))) (f .0 .same-N) in
-      sym (part-after k l) ∙ ap₂ (λ (x y : List ℕ). x ++ y) p (terms-read b T (suc k) (f .1) ∙ ap (λ (n : ℕ). terms N (wordsFrom T n s)) (sym (add-one k)))
+      let p : part k l ≡ termBlock N (readWord (part k l)) =
+      accepted-block (part k l) (bytes-part k l (bytes-drop indexHeader s b)) (f .0 .accepts)
+      ∙ ap (λ (n : ℕ). termBlock n (readWord (part k l))) (f .0 .same-N) in
+      sym (part-after k l) ∙ ap₂ (λ (x y : List ℕ). x ++ y) p (terms-read b T (suc k) (f .1)
+      ∙ ap (λ (n : ℕ). terms N (wordsFrom T n s)) (sym (add-one k)))

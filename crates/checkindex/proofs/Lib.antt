@@ -1,3 +1,2 @@
 pub mod TermsLaws
 pub mod Theorems
-pub mod Unique

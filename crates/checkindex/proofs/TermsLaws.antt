@@ -23,7 +23,8 @@ use Rattle.parts.specs.Places.{headRefusal}
 use Rattle.checkindex.specs.Terms.{wordRefusal, wordInside}
 
 -- the block at the front, and then its N
-word-then : (N : ℕ) (s : List ℕ) → wordInside N s ≡ andThen (inside termHeader termRefusal s) (cond (not (eqb (listU (pagesOf (take (stated s) s))) N)) Parts Accepted)
+word-then : (N : ℕ) (s : List ℕ) → wordInside N s ≡ andThen (inside termHeader termRefusal s)
+    (cond (not (eqb (listU (pagesOf (take (stated s) s))) N)) Parts Accepted)
 word-then N s =
     let b : List ℕ = take (stated s) s in
     let f : Refusal = inside termHeader (λ _. Accepted) s in
@@ -52,9 +53,11 @@ module _ (M N : ℕ) (s : List ℕ) where
   by-tests true false p q = terms-other M N s p q ∙ rw (p, q)
   by-tests true true p q = terms-next M N s p q ∙ rw (p, q)
 
-pub terms-more : (T M N : ℕ) (s : List ℕ) → T ≡ suc M → termsRefusal T N s ≡ andThen (wordInside N s) (termsRefusal M N (drop (stated s) s))
+pub terms-more : (T M N : ℕ) (s : List ℕ) → T ≡ suc M
+    → termsRefusal T N s ≡ andThen (wordInside N s) (termsRefusal M N (drop (stated s) s))
 terms-more T M N s e =
-    rw e (by-tests M N s (accepted (inside termHeader termRefusal s)) (eqb (listU (pagesOf (take (stated s) s))) N) refl refl)
+    rw e (by-tests M N s (accepted (inside termHeader termRefusal s))
+    (eqb (listU (pagesOf (take (stated s) s))) N) refl refl)
     ∙ ap (λ (q : Refusal). andThen q (termsRefusal M N (drop (stated s) s))) (sym (word-then N s))
 
 -- bytes are left behind the last, or none
@@ -84,9 +87,11 @@ module _ (N T : ℕ) (x : Refusal) where
 
 -- ---- the index
 
-pub index-then : (s : List ℕ) → indexRefusal s ≡ andThen (headRefusal indexHeader s) (limited (indexN s) (indexT s) (termsRefusal (indexT s) (indexN s) (drop indexHeader s)))
+pub index-then : (s : List ℕ) → indexRefusal s ≡ andThen (headRefusal indexHeader s) (limited (indexN s) (indexT s)
+    (termsRefusal (indexT s) (indexN s) (drop indexHeader s)))
 unfolding indexRefusal
-index-then s = head-then indexHeader s (limited (indexN s) (indexT s) (termsRefusal (indexT s) (indexN s) (drop indexHeader s)))
+index-then s =
+    head-then indexHeader s (limited (indexN s) (indexT s) (termsRefusal (indexT s) (indexN s) (drop indexHeader s)))
 
 -- all that is behind the first n bytes, as a part
 pub part-behind : (n : ℕ) (s : List ℕ) → take (length s - n) (drop n s) ≡ drop n s

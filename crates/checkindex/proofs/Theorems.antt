@@ -7,10 +7,12 @@ use Prim.Native.Nat.{ℕ}
 use Rattle.rules.specs.declared.Refusal.{Refusal}
 use Rattle.rules.specs.declared.Refusal.the-variants.{Accepted}
 use Rattle.rules.specs.Term.{Word}
-use Rattle.rules.specs.Index.{validCard, card, indexRefusal}
+use Rattle.rules.specs.Index.{validCard, card}
+use Rattle.rules.specs.Promises.{IndexChecked}
 use Rattle.laws.proofs.ByteLaws.{Bytes}
 use Rattle.cardlaws.proofs.Theorems.{accepted-iff}
 
 -- The check accepts the cards of some N and words, and nothing else.
-pub check-accepts : (s : List ℕ) → Bytes s → (r : Refusal) → r ≡ indexRefusal s → (r ≡ Accepted) ↔ ((N : ℕ) × (ts : List Word) × (validCard N ts ≡ true) × (s ≡ card N ts))
+pub check-accepts : (s : List ℕ) → Bytes s → (r : Refusal) → IndexChecked s r
+    → (r ≡ Accepted) ↔ ((N : ℕ) × (ts : List Word) × (validCard N ts ≡ true) × (s ≡ card N ts))
 check-accepts s b r e = (λ a. accepted-iff s b .0 (sym e ∙ a), λ p. e ∙ accepted-iff s b .1 p)

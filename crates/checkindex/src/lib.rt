@@ -3,7 +3,8 @@
 ghost use mathlib.Core.Path.{_≡_};
 ghost use Prim.Native.Nat.{_≤_};
 ghost use lib.ListN.{length, drop};
-ghost use Rattle.rules.specs.Index.{indexRefusal, termsRefusal};
+ghost use Rattle.rules.specs.Index.{termsRefusal};
+ghost use Rattle.rules.specs.Promises.{IndexChecked};
 ghost use Rattle.checkindex.specs.Terms.{wordRefusal, wordInside};
 use rules::Refusal;
 
@@ -56,7 +57,7 @@ pub fn check_terms(s: &[u8], t: usize, n: usize) -> Refusal
 
 // The refusal of an index.
 pub fn check_index(card: &[u8]) -> Refusal
-    ensures { λ r. ⌜ r ≡ indexRefusal (now (card .entry)) ⌝ }
+    ensures { λ r. ⌜ IndexChecked (now (card .entry)) r ⌝ }
 {
     let head = parts::check_head(card, 11);
     if !parts::passed(head) {

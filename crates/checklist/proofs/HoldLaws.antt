@@ -1,4 +1,5 @@
--- Laws of the whole pass: where it starts, what a word with too many ones shows, and what is left to test behind the last word.
+-- Laws of the whole pass:
+-- where it starts, what a word with too many ones shows, and what is left to test behind the last word.
 use mathlib.Core.Bool.{true}
 use mathlib.Core.Path.{_≡_, refl, sym, _∙_}
 use mathlib.Core.List.{List}
@@ -35,15 +36,32 @@ module _ (s : List ℕ) (g : Shape) (d : Laid s g) where
     behind = λ j f h. absurd (omega arith);
   }
 
-  pub at-start : (word : ℕ) → word ≡ beAt 8 s (g .lower)
-      → At s g 0 (record { ok = true; i = 0; next = 1; least = 0; low = record { part = 0; word = word; bit = 0; at = g .lower } })
-  at-start word e = record { few = omega arith; climbed = climbed-start; pointed = pointed-start; held = held-start s g word e }
+  pub at-start : (word : ℕ) → word ≡ beAt 8 s (g .lower) → At s g 0 (record {
+    ok = true;
+    i = 0;
+    next = 1;
+    least = 0;
+    low = record { part = 0; word = word; bit = 0; at = g .lower };
+  })
+  at-start word e = record {
+    few = omega arith;
+    climbed = climbed-start;
+    pointed = pointed-start;
+    held = held-start s g word e;
+  }
 
   -- more ones than elements
-  pub refuse-many : (k x i : ℕ) → k < wordsFor (g .bits) → x ≡ runWord s (g .upper) k → x < 2 ^ 64 → onesBelow s (g .upper) (64 * k) ≡ i → g .n < i + ones x → Holds s g → ⊥
+  pub refuse-many : (k x i : ℕ) → k < wordsFor (g .bits) → x ≡ runWord s (g .upper) k → x < 2 ^ 64
+      → onesBelow s (g .upper) (64 * k) ≡ i → g .n < i + ones x → Holds s g → ⊥
   refuse-many k x i h e fits c l a =
       let q : 64 * (k + 1) + 64 * (wordsFor (g .bits) - (k + 1)) ≡ 64 * wordsFor (g .bits) = omega arith in
-      omega (arith, rw q at (ones-mono s (g .upper) (64 * (k + 1)) (64 * (wordsFor (g .bits) - (k + 1)))), a .ones-are, next-word s (g .upper) k x e fits, c)
+      omega (
+        arith,
+        rw q at (ones-mono s (g .upper) (64 * (k + 1)) (64 * (wordsFor (g .bits) - (k + 1)))),
+        a .ones-are,
+        next-word s (g .upper) k x e fits,
+        c,
+      )
 
   module _ (m : Mid) (a : At s g (wordsFor (g .bits)) m) where
     pub refuse-count : (m .i ≡ g .n → ⊥) → Holds s g → ⊥
@@ -59,7 +77,8 @@ module _ (s : List ℕ) (g : Shape) (d : Laid s g) where
       pub refuse-bound : g .u < m .least → Holds s g → ⊥
       refuse-bound h b =
           let xs : List ℕ = passed s g (g .bits) in
-          let p = and-parts (climbs 0 xs) (leb (least 0 xs) (g .u)) (rw (rising-climbs 0 (g .u) xs (omega arith)) at (b .rises)) in
+          let p = and-parts (climbs 0 xs) (leb (least 0 xs) (g .u))
+          (rw (rising-climbs 0 (g .u) xs (omega arith)) at (b .rises)) in
           omega (arith, leb-true (least 0 xs) (g .u) (p .1), least-all)
 
       pub holds : Clear s (g .lower) (g .n * g .w) → m .i ≡ g .n → m .least ≤ g .u → Holds s g

@@ -7,4 +7,3 @@ pub mod TurnLaws
 pub mod HoldLaws
 pub mod CheckLaws
 pub mod Theorems
-pub mod Unique

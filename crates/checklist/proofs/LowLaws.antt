@@ -31,16 +31,19 @@ module _ (s : List ℕ) (at m : ℕ) where
 
 -- ---- one part more
 
-module _ (s : List ℕ) (l : Low) (w : ℕ) (word-is : l .word ≡ beAt 8 s (l .at)) (fits : l .word < 2 ^ 64) (low : l .bit < 64) (narrow : w ≤ 32) where
+module _ (s : List ℕ) (l : Low) (w : ℕ) (word-is : l .word ≡ beAt 8 s (l .at))
+    (fits : l .word < 2 ^ 64) (low : l .bit < 64) (narrow : w ≤ 32) where
   -- what `field_of` gives of the word held and of that after it
-  part-is : (next : ℕ) → (64 < l .bit + w → next ≡ beAt 8 s (l .at + 8)) → (next * 2 ^ 64 + l .word) / 2 ^ (l .bit) % 2 ^ w ≡ field s (l .at) (l .bit) w
+  part-is : (next : ℕ) → (64 < l .bit + w → next ≡ beAt 8 s (l .at + 8))
+      → (next * 2 ^ 64 + l .word) / 2 ^ (l .bit) % 2 ^ w ≡ field s (l .at) (l .bit) w
   unfolding runWord
   part-is next t =
       let z : l .bit / 64 ≡ 0 = omega arith in
       let r : l .bit % 64 ≡ l .bit = omega arith in
       let a : l .at + 8 * (l .bit / 64) ≡ l .at = omega arith in
       let b : l .at + 8 * (l .bit / 64 + 1) ≡ l .at + 8 = omega arith in
-      rw r at (run-field s (l .at) (l .word) next (l .bit) w (omega arith) (word-is ∙ ap (beAt 8 s) (sym a)) fits (λ h. t (omega (arith, h)) ∙ ap (beAt 8 s) (sym b)))
+      rw r at (run-field s (l .at) (l .word) next (l .bit) w (omega arith) (word-is ∙ ap (beAt 8 s) (sym a)) fits
+      (λ h. t (omega (arith, h)) ∙ ap (beAt 8 s) (sym b)))
 
   pub low-near : (part : ℕ) → part ≡ (0 * 2 ^ 64 + l .word) / 2 ^ (l .bit) % 2 ^ w → l .bit + w < 64
       → record { part = part; word = l .word; bit = l .bit + w; at = l .at } ≡ nextLow s w l
@@ -50,8 +53,8 @@ module _ (s : List ℕ) (l : Low) (w : ℕ) (word-is : l .word ≡ beAt 8 s (l .
       let r : (l .bit + w) % 64 ≡ l .bit + w = omega arith in
       rw (e, part-is 0 (λ g. absurd (omega arith)), z, r, word-is)
 
-  pub low-far : (part next : ℕ) → next ≡ beAt 8 s (l .at + 8) → part ≡ (next * 2 ^ 64 + l .word) / 2 ^ (l .bit) % 2 ^ w → 64 ≤ l .bit + w
-      → record { part = part; word = next; bit = l .bit + w - 64; at = l .at + 8 } ≡ nextLow s w l
+  pub low-far : (part next : ℕ) → next ≡ beAt 8 s (l .at + 8) → part ≡ (next * 2 ^ 64 + l .word) / 2 ^ (l .bit) % 2 ^ w
+      → 64 ≤ l .bit + w → record { part = part; word = next; bit = l .bit + w - 64; at = l .at + 8 } ≡ nextLow s w l
   unfolding nextLow
   low-far part next d e h =
       let z : l .at + 8 * ((l .bit + w) / 64) ≡ l .at + 8 = omega arith in
@@ -85,7 +88,12 @@ module _ (s : List ℕ) (g : Shape) (i : ℕ) (l : Low) (h : Held s g i l) where
       let m : (i + 1) * g .w ≤ g .n * g .w = mul-le-mul-right (g .w) (omega arith) in
       omega (arith, m, more, h .bit-is, h .at-is, d .some, d .most, d .upper-at, d .length-is)
 
-pub held-start : (s : List ℕ) (g : Shape) (word : ℕ) → word ≡ beAt 8 s (g .lower) → Held s g 0 (record { part = 0; word = word; bit = 0; at = g .lower })
+pub held-start : (s : List ℕ) (g : Shape) (word : ℕ) → word ≡ beAt 8 s (g .lower) → Held s g 0 (record {
+  part = 0;
+  word = word;
+  bit = 0;
+  at = g .lower;
+})
 held-start s g word e = record { word-is = e; bit-is = omega (arith, none); at-is = omega (arith, none) }
   where
     none : 0 * g .w ≡ 0

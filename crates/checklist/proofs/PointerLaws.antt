@@ -10,15 +10,16 @@ use lib.Dec.{eqb}
 use Rattle.rules.specs.Bytes.{beAt}
 use Rattle.rules.specs.Runs.{bit, runWord, runBit}
 use Rattle.rules.specs.Counts.{onesBelow}
-use Rattle.laws.proofs.CountLaws.{word-ones, next-word, below-suc}
+use Rattle.laws.proofs.CountLaws.{word-ones, next-word, below-suc, run-steps}
 use Rattle.laws.proofs.RunLaws.{run-bit}
 use Rattle.shape.specs.declared.Shape.{Shape}
 use Rattle.listlaws.specs.Sound.{After}
-use Rattle.listlaws.proofs.AfterLaws.{run-steps, after-lt, after-le}
+use Rattle.listlaws.proofs.AfterLaws.{after-lt, after-le}
 use Rattle.checklist.specs.Check.{Tells, Laid, Pointed, Stands}
 
 -- the last test of a place that passed the others
-pub stands-tells : (x b i k p o : ℕ) → b < p → p ≤ b + 64 → x / 2 ^ (p - b - 1) % 2 ≡ 0 → o ≡ ones (x % 2 ^ (p - b)) → Tells (eqb (k + i + o) p) (Stands x b i k p)
+pub stands-tells : (x b i k p o : ℕ) → b < p → p ≤ b + 64 → x / 2 ^ (p - b - 1) % 2 ≡ 0 → o ≡ ones (x % 2 ^ (p - b))
+    → Tells (eqb (k + i + o) p) (Stands x b i k p)
 unfolding bit
 stands-tells x b i k p o l h z e = (
   λ t. record { above = l; within = h; zero-last = z; counted = omega (arith, e, eqb-true (k + i + o) p t) },
@@ -46,7 +47,8 @@ module _ (s : List ℕ) (up k x i : ℕ) (x-is : x ≡ runWord s up k) (counted 
         omega (arith, below-suc s up j, b, a .zero-last);
   }
 
-  pub after-stands : (z p : ℕ) → x < 2 ^ 64 → After (onesBelow s up) z p → 64 * k < z + i → z + i + ones x ≤ 64 * k + 64 → Stands x (64 * k) i z p
+  pub after-stands : (z p : ℕ) → x < 2 ^ 64 → After (onesBelow s up) z p → 64 * k < z + i → z + i + ones x ≤ 64 * k + 64
+      → Stands x (64 * k) i z p
   after-stands z p fits a l h =
       let n : 64 * (k + 1) ≡ 64 * k + 64 = omega arith in
       let w = rw n at (next-word s up k x x-is fits) in
@@ -56,7 +58,8 @@ module _ (s : List ℕ) (up k x i : ℕ) (x-is : x ≡ runWord s up k) (counted 
       record {
         above = g;
         within = u;
-        zero-last = sym (bit-before p g u) ∙ omega (arith, below-suc s up (p - 1), rw e at (a .zero-last (p - 1) e), ap (onesBelow s up) e);
+        zero-last = sym (bit-before p g u)
+            ∙ omega (arith, below-suc s up (p - 1), rw e at (a .zero-last (p - 1) e), ap (onesBelow s up) e);
         counted = omega (arith, a .counted, below p (omega arith) u);
       }
 
@@ -73,7 +76,8 @@ module _ (s : List ℕ) (g : Shape) (k i q c : ℕ) (a : Pointed s g (64 * k) i 
   }
 
   -- it decides one
-  pub pointed-next : Laid s g → 9 + 4 * q < g .lower → After (onesBelow s (g .upper)) (256 * q) (beAt 4 s (9 + 4 * q)) → Pointed s g (64 * (k + 1)) (i + c) (q + 1)
+  pub pointed-next : Laid s g → 9 + 4 * q < g .lower → After (onesBelow s (g .upper)) (256 * q) (beAt 4 s (9 + 4 * q))
+      → Pointed s g (64 * (k + 1)) (i + c) (q + 1)
   pointed-next d l h = record {
     first = omega arith;
     last = omega (arith, d .lower-at);

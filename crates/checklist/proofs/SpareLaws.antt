@@ -19,7 +19,8 @@ module _ (s : List ℕ) (at m x : ℕ) (e : x ≡ runWord s at (m / 64)) (fits :
   unfolding wordsFor
   last i g h =
       let q : 64 * (m / 64) + i % 64 ≡ i = omega arith in
-      subst (λ (k : ℕ). runBit s at k ≡ bit x (i % 64)) q (run-bit s at (m / 64) (i % 64) (omega arith) ∙ ap (λ (y : ℕ). bit y (i % 64)) (sym e))
+      subst (λ (k : ℕ). runBit s at k ≡ bit x (i % 64)) q
+      (run-bit s at (m / 64) (i % 64) (omega arith) ∙ ap (λ (y : ℕ). bit y (i % 64)) (sym e))
 
   pub shr-clear : x / 2 ^ (m % 64) ≡ 0 → Clear s at m
   unfolding wordsFor

@@ -16,7 +16,8 @@ pub record Small (s : List ℕ) (g : Shape) (m : Mid) (x k : ℕ) : Type 0 where
   pub ones-few : ones x ≤ 64
   pub word : g .upper + 8 * k + 8 ≤ length s
 
-pub small : (s : List ℕ) (g : Shape) (m : Mid) (x k : ℕ) → Laid s g → At s g k m → k < wordsFor (g .bits) → x < 2 ^ 64 → Small s g m x k
+pub small : (s : List ℕ) (g : Shape) (m : Mid) (x k : ℕ) → Laid s g → At s g k m → k < wordsFor (g .bits) → x < 2 ^ 64
+    → Small s g m x k
 unfolding wordsFor
 small s g m x k d a h fits = record {
   place = omega (arith, d .few);

@@ -8,7 +8,8 @@
 --   passed s g p       the elements that the first p bits of the upper run hold
 --   Climbed s g p i m  the first p bits hold i elements, which climb, and m is the least that may follow
 --   Pointed s g p i q  p bits with i ones are passed and with them each pointer that they decide, all below number q
---   Stands x b i k p   place p follows a zero of the word x at bit b of a run, with k zeros below it; i ones are below x
+--   Stands x b i k p   place p follows a zero of the word x at bit b of a run,
+--                      with k zeros below it; i ones are below x
 --   nextLow s w l      where the lower run is read after one part more
 --   Held s g i l       the lower run is read up to part i
 --   At s g k m         k words are passed, and m says what is known of them
@@ -57,7 +58,8 @@ pub record Holds (s : List ℕ) (g : Shape) : Type 0 where
   pub upper-spare : Clear s (g .upper) (g .bits)
   pub lower-spare : Clear s (g .lower) (g .n * g .w)
   pub rises : rising 0 (g .u) (passed s g (g .bits)) ≡ true
-  pub pointers-are : (q : ℕ) → 0 < q → 9 + 4 * q < g .lower → After (onesBelow s (g .upper)) (256 * q) (beAt 4 s (9 + 4 * q))
+  pub pointers-are : (q : ℕ) → 0 < q → 9 + 4 * q < g .lower
+      → After (onesBelow s (g .upper)) (256 * q) (beAt 4 s (9 + 4 * q))
 
 pub record Climbed (s : List ℕ) (g : Shape) (p i m : ℕ) : Type 0 where
   pub counted : onesBelow s (g .upper) p ≡ i

@@ -7,7 +7,7 @@ ghost use lib.ListN.{length};
 ghost use lib.Count.{ones};
 ghost use Rattle.rules.specs.Bytes.{beAt};
 ghost use Rattle.rules.specs.Runs.{wordsFor};
-ghost use Rattle.rules.specs.ReadList.{listRefusal};
+ghost use Rattle.rules.specs.Promises.{ListChecked};
 ghost use Rattle.checklist.specs.Check.{Judged, Tells, Clear, Laid, Holds, Pointed, Stands, nextLow, At, Ready, Read};
 use rules::Refusal;
 use shape::Shape;
@@ -214,7 +214,7 @@ fn runs_ok(s: &[u8], g: Shape) -> bool
 
 // The refusal of a list block.
 pub fn check_list(block: &[u8]) -> Refusal
-    ensures { λ r. ⌜ r ≡ listRefusal (now (block .entry)) ⌝ }
+    ensures { λ r. ⌜ ListChecked (now (block .entry)) r ⌝ }
 {
     if block.len() < 13 {
         return Refusal::Short;

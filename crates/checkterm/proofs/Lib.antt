@@ -1,3 +1,2 @@
 pub mod ListsLaws
 pub mod Theorems
-pub mod Unique

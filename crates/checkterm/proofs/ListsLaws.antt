@@ -1,4 +1,5 @@
--- Laws of the three lists of a term as they are checked: each answer, what is left where all have passed, and the term's refusal.
+-- Laws of the three lists of a term as they are checked:
+-- each answer, what is left where all have passed, and the term's refusal.
 use mathlib.Core.Bool.{true, cond, not}
 use mathlib.Core.Path.{_≡_, refl, sym, ap, _∙_}
 use mathlib.Core.List.{List, [], _∷_}
@@ -27,7 +28,8 @@ use Rattle.checkterm.specs.Lists.{listsRefusal, disagreeing, restRefusal
 
 -- ---- one list more, and none
 
-pub lists-more : (n m : ℕ) (s : List ℕ) → n ≡ suc m → listsRefusal n s ≡ andThen (inside listHeader listRefusal s) (listsRefusal m (drop (stated s) s))
+pub lists-more : (n m : ℕ) (s : List ℕ) → n ≡ suc m
+    → listsRefusal n s ≡ andThen (inside listHeader listRefusal s) (listsRefusal m (drop (stated s) s))
 unfolding listsRefusal
 lists-more n m s e = rw e
 
@@ -37,11 +39,14 @@ lists-none n s e = rw e
 
 -- ---- all have passed
 
-lists-inside : (n : ℕ) (s : List ℕ) → listsRefusal n s ≡ Accepted → (k : ℕ) → k < n → inside listHeader listRefusal (after k s) ≡ Accepted
+lists-inside : (n : ℕ) (s : List ℕ) → listsRefusal n s ≡ Accepted → (k : ℕ) → k < n
+    → inside listHeader listRefusal (after k s) ≡ Accepted
 unfolding listsRefusal after
 lists-inside zero s e k h = absurd (omega arith)
-lists-inside (suc n) s e zero h = andThen-both (inside listHeader listRefusal s) (listsRefusal n (drop (stated s) s)) e .0
-lists-inside (suc n) s e (suc k) h = lists-inside n (drop (stated s) s) (andThen-both (inside listHeader listRefusal s) (listsRefusal n (drop (stated s) s)) e .1) k (omega arith)
+lists-inside (suc n) s e zero h =
+    andThen-both (inside listHeader listRefusal s) (listsRefusal n (drop (stated s) s)) e .0
+lists-inside (suc n) s e (suc k) h = lists-inside n (drop (stated s) s)
+    (andThen-both (inside listHeader listRefusal s) (listsRefusal n (drop (stated s) s)) e .1) k (omega arith)
 
 pub lists-in : (s : List ℕ) → listsRefusal 3 (listsOf s) ≡ Accepted → ListsIn s
 unfolding listsOf part
@@ -86,13 +91,22 @@ module _ (p c q : List ℕ) where
 
     module _ (u : listU c ≡ next 0 (decode c)) where
       pub differ-positions : (listN q ≡ listU c → ⊥) → disagreeing p c q ≡ true
-      differ-positions h = rw (eq-eqb (listN c) (listN p) n, eq-eqb (listU c) (next 0 (decode c)) u, ne-eqb (listN q) (listU c) h)
+      differ-positions h = rw (
+        eq-eqb (listN c) (listN p) n,
+        eq-eqb (listU c) (next 0 (decode c)) u,
+        ne-eqb (listN q) (listU c) h,
+      )
 
       pub differ-last : listN q ≡ listU c → disagreeing p c q ≡ not (eqb (listU q) (next 0 (decode q)))
-      differ-last h = rw (eq-eqb (listN c) (listN p) n, eq-eqb (listU c) (next 0 (decode c)) u, eq-eqb (listN q) (listU c) h)
+      differ-last h = rw (
+        eq-eqb (listN c) (listN p) n,
+        eq-eqb (listU c) (next 0 (decode c)) u,
+        eq-eqb (listN q) (listU c) h,
+      )
 
 -- the lists of a term
-pub disagree-parts : (s p c q : List ℕ) → p ≡ part 0 (drop 5 s) → c ≡ part 1 (drop 5 s) → q ≡ part 2 (drop 5 s) → disagreeing p c q ≡ disagree s
+pub disagree-parts : (s p c q : List ℕ) → p ≡ part 0 (drop 5 s) → c ≡ part 1 (drop 5 s) → q ≡ part 2 (drop 5 s)
+    → disagreeing p c q ≡ disagree s
 unfolding disagree pagesOf countsOf positionsOf listsOf
 disagree-parts s p c q e f g = rw (e, f, g)
 
@@ -122,7 +136,8 @@ then-lists (suc n) s r =
     let q : Refusal = inside listHeader listRefusal s in
     ap (andThen q) (then-lists n (drop (stated s) s) r) ∙ sym (andThen-assoc q (listsRefusal n (drop (stated s) s)) r)
 
-pub term-then : (s : List ℕ) → termRefusal s ≡ andThen (headRefusal termHeader s) (andThen (listsRefusal 3 (listsOf s)) (restRefusal s))
+pub term-then : (s : List ℕ)
+    → termRefusal s ≡ andThen (headRefusal termHeader s) (andThen (listsRefusal 3 (listsOf s)) (restRefusal s))
 unfolding termRefusal after
 term-then s =
     head-then termHeader s (lists-then 3 (listsOf s) (restRefusal s))

@@ -6,11 +6,12 @@ use Prim.Native.Nat.{ℕ}
 use Rattle.rules.specs.declared.Refusal.{Refusal}
 use Rattle.rules.specs.declared.Refusal.the-variants.{Accepted}
 use Rattle.rules.specs.Term.{Word, termBlock}
-use Rattle.rules.specs.ReadTerm.{termRefusal}
+use Rattle.rules.specs.Promises.{TermChecked}
 use Rattle.laws.proofs.ByteLaws.{Bytes}
 use Rattle.termlaws.specs.Words.{Writable}
 use Rattle.termlaws.proofs.Theorems.{accepted-iff}
 
 -- The check accepts the blocks of writable words, and nothing else.
-pub check-accepts : (s : List ℕ) → Bytes s → (r : Refusal) → r ≡ termRefusal s → (r ≡ Accepted) ↔ ((N : ℕ) × (t : Word) × Writable N t × (s ≡ termBlock N t))
+pub check-accepts : (s : List ℕ) → Bytes s → (r : Refusal) → TermChecked s r
+    → (r ≡ Accepted) ↔ ((N : ℕ) × (t : Word) × Writable N t × (s ≡ termBlock N t))
 check-accepts s b r e = (λ a. accepted-iff s b .0 (sym e ∙ a), λ p. e ∙ accepted-iff s b .1 p)

@@ -8,7 +8,8 @@ ghost use Rattle.rules.specs.Limits.{listHeader};
 ghost use Rattle.rules.specs.ReadList.{decode, listRefusal};
 ghost use Rattle.rules.specs.Term.{next};
 ghost use Rattle.rules.specs.Parts.{inside};
-ghost use Rattle.rules.specs.ReadTerm.{listsOf, termRefusal};
+ghost use Rattle.rules.specs.ReadTerm.{listsOf};
+ghost use Rattle.rules.specs.Promises.{TermChecked};
 ghost use Rattle.checkterm.specs.Lists.{listsRefusal, disagreeing, restRefusal, ListsIn};
 use rules::Refusal;
 
@@ -57,7 +58,8 @@ fn next_of(list: &[u8]) -> usize
 
 // Whether the three lists of a term disagree.
 fn disagree(pages: &[u8], counts: &[u8], positions: &[u8]) -> bool
-    requires { ⌜ (listRefusal (now pages) ≡ Accepted) × (listRefusal (now counts) ≡ Accepted) × (listRefusal (now positions) ≡ Accepted) ⌝ }
+    requires { ⌜ (listRefusal (now pages) ≡ Accepted) × (listRefusal (now counts) ≡ Accepted)
+        × (listRefusal (now positions) ≡ Accepted) ⌝ }
     ensures { λ r. ⌜ r ≡ disagreeing (now (pages .entry)) (now (counts .entry)) (now (positions .entry)) ⌝ }
 {
     if bits::read_u32(counts, 9) != bits::read_u32(pages, 9) {
@@ -93,7 +95,7 @@ fn check_rest(block: &[u8]) -> Refusal
 
 // The refusal of a term block.
 pub fn check_term(block: &[u8]) -> Refusal
-    ensures { λ r. ⌜ r ≡ termRefusal (now (block .entry)) ⌝ }
+    ensures { λ r. ⌜ TermChecked (now (block .entry)) r ⌝ }
 {
     let head = parts::check_head(block, 44);
     if !parts::passed(head) {

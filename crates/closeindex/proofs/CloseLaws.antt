@@ -24,9 +24,6 @@ use Rattle.cardlaws.proofs.CloseLaws.{drop-take}
 use Rattle.checkindex.proofs.TermsLaws.{limited}
 
 module _ (buffer : List ℕ) (used N T : ℕ) where
-  abbrev inner : Refusal
-  inner = termsRefusal T N (drop indexHeader (take used buffer))
-
   pub close-room : length buffer < used → closeRefusal buffer used N T ≡ Room
   unfolding closeRefusal
   close-room h = rw (lt-ltb (length buffer) used h)
@@ -41,12 +38,14 @@ module _ (buffer : List ℕ) (used N T : ℕ) where
       unfolding closeRefusal
       close-long h = rw (le-ltb (length buffer) used fits, le-ltb used indexHeader header, le-leb fourBytes used h)
 
-      pub close-next : used < fourBytes → closeRefusal buffer used N T ≡ limited N T (termsRefusal T N (drop indexHeader (take used buffer)))
+      pub close-next : used < fourBytes
+          → closeRefusal buffer used N T ≡ limited N T (termsRefusal T N (drop indexHeader (take used buffer)))
       unfolding closeRefusal
       close-next h = rw (le-ltb (length buffer) used fits, le-ltb used indexHeader header, lt-leb fourBytes used h)
 
 -- what is used behind the header, as a part
-pub part-used : (used : ℕ) (s : List ℕ) → indexHeader ≤ used → used ≤ length s → take (used - indexHeader) (drop indexHeader s) ≡ drop indexHeader (take used s)
+pub part-used : (used : ℕ) (s : List ℕ) → indexHeader ≤ used → used ≤ length s
+    → take (used - indexHeader) (drop indexHeader s) ≡ drop indexHeader (take used s)
 part-used used s h l =
     let e : indexHeader + (used - indexHeader) ≡ used = omega arith in
     rw e at (drop-take indexHeader (used - indexHeader) s (omega arith))
@@ -54,8 +53,8 @@ part-used used s h l =
 -- ---- the header
 
 -- the four stores of the header, one after the other
-pub front-stored : (d a b c e : List ℕ) (used N T : ℕ) → 11 ≤ length d
-    → a ≡ sets d 0 (be 4 used) → b ≡ set a 4 1 → c ≡ sets b 5 (be 4 N) → e ≡ sets c 9 (be 2 T) → e ≡ laid (indexFront used N T) d
+pub front-stored : (d a b c e : List ℕ) (used N T : ℕ) → 11 ≤ length d → a ≡ sets d 0 (be 4 used) → b ≡ set a 4 1
+    → c ≡ sets b 5 (be 4 N) → e ≡ sets c 9 (be 2 T) → e ≡ laid (indexFront used N T) d
 unfolding indexFront
 front-stored d a b c e used N T h p q r s =
     let u : List ℕ = be 4 used in

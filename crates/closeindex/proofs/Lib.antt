@@ -1,3 +1,2 @@
 pub mod CloseLaws
 pub mod Theorems
-pub mod Unique

@@ -6,14 +6,15 @@ use lib.ListN.{take, drop}
 use Rattle.rules.specs.declared.Refusal.the-variants.{Accepted}
 use Rattle.rules.specs.declared.Written.{Written}
 use Rattle.rules.specs.Limits.{indexHeader}
-use Rattle.rules.specs.Write.{Made, made}
+use Rattle.rules.specs.Write.{Made}
 use Rattle.rules.specs.Index.{indexN, indexT, indexRefusal, closeIndex}
+use Rattle.rules.specs.Promises.{IndexClosed}
 use Rattle.cardlaws.specs.Cards.{Closed}
 use Rattle.cardlaws.proofs.Theorems.{closing}
 use Rattle.closeindex.proofs.CloseLaws.{close-told, close-kept}
 
 -- A success leaves an accepted index of that N and T with the terms that lay there, and changes its header's bytes alone.
-pub close-accepts : (buffer : List ℕ) (used N T : ℕ) (r : Written) (room : List ℕ) → made r room ≡ closeIndex buffer used N T → r .refusal ≡ Accepted
+pub close-accepts : (buffer : List ℕ) (used N T : ℕ) (r : Written) (room : List ℕ) → IndexClosed buffer used N T r room → r .refusal ≡ Accepted
     → (indexRefusal (take used room) ≡ Accepted) × (indexN (take used room) ≡ N) × (indexT (take used room) ≡ T) × (drop indexHeader room ≡ drop indexHeader buffer)
 close-accepts buffer used N T r room e a =
     let m : room ≡ closeIndex buffer used N T .room = ap (λ (k : Made). k .room) e in
@@ -21,6 +22,6 @@ close-accepts buffer used N T r room e a =
     rw m (c .accepts, c .N-is, c .T-is, c .others-same)
 
 -- A refusal leaves the buffer as it was.
-pub close-keeps : (buffer : List ℕ) (used N T : ℕ) (r : Written) (room : List ℕ) → made r room ≡ closeIndex buffer used N T → (r .refusal ≡ Accepted → ⊥) → room ≡ buffer
+pub close-keeps : (buffer : List ℕ) (used N T : ℕ) (r : Written) (room : List ℕ) → IndexClosed buffer used N T r room → (r .refusal ≡ Accepted → ⊥) → room ≡ buffer
 close-keeps buffer used N T r room e n =
     ap (λ (k : Made). k .room) e ∙ close-kept buffer used N T (λ a. n (ap (λ (k : Made). k .refusal) e ∙ a))

@@ -3,8 +3,9 @@
 ghost use mathlib.Core.Path.{_≡_};
 ghost use Prim.Native.Nat.{_≤_};
 ghost use lib.ListN.{length};
-ghost use Rattle.rules.specs.Write.{made, laid};
-ghost use Rattle.rules.specs.Index.{indexFront, closeRefusal, closeIndex};
+ghost use Rattle.rules.specs.Write.{laid};
+ghost use Rattle.rules.specs.Index.{indexFront, closeRefusal};
+ghost use Rattle.rules.specs.Promises.{IndexClosed};
 use rules::Refusal;
 use rules::Written;
 
@@ -43,7 +44,7 @@ fn write_front(buffer: &mut [u8], used: usize, n: usize, t: usize)
 
 // Closes an index of t terms of pages below n in the first `used` bytes: the first 11 are its header's.
 pub fn close_index(buffer: &mut [u8], used: usize, n: u32, t: u32) -> Written
-    ensures { λ r. ⌜ made r (now (buffer .exit)) ≡ closeIndex (now (buffer .entry)) used n t ⌝ }
+    ensures { λ r. ⌜ IndexClosed (now (buffer .entry)) used n t r (now (buffer .exit)) ⌝ }
 {
     let r = close_refusal(buffer, used, n as usize, t as usize);
     if !parts::passed(r) {

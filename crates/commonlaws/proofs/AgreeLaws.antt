@@ -1,5 +1,5 @@
 -- Laws of seeking the others in turn for a page: what its end says, the readers after it, its seeks and looks.
-use mathlib.Core.Bool.{true, false}
+use mathlib.Core.Bool.{true, false, and-false}
 use mathlib.Core.Path.{_≡_, refl, sym, ap, _∙_}
 use mathlib.Core.List.{List, [], _∷_}
 use Prim.Native.Nat.{ℕ, _+_, _≤_, _<_}
@@ -11,7 +11,7 @@ use Rattle.rules.specs.Seek.{Found, none, page, Sought, seek}
 use Rattle.rules.specs.Common.{Reader, Ended, agreed, exhausted, larger, Round, before, stopped, agree}
 use Rattle.rules.specs.Questions.{firstFrom, member, inAll}
 use Rattle.seeklaws.specs.Cursors.{firstAt}
-use Rattle.seeklaws.proofs.FirstLaws.{and-false, firstAt-at}
+use Rattle.seeklaws.proofs.FirstLaws.{firstAt-at}
 use Rattle.seeklaws.proofs.SeekLaws.{seek-first, seek-placed, seek-behind, behind-more, cursorAt-on}
 use Rattle.seeklaws.proofs.LookLaws.{looks-step}
 use Rattle.commonlaws.specs.Readers.{pagesOf, Ready, AllReady, OnPage, AllOnPage, reachedBy, moved}
@@ -42,7 +42,8 @@ module _ (U b : ℕ) (r : Reader) (k : Ready U b r) where
         let f = sought-first in
         record {
           rank = i;
-          stands = seek-first U (r .pages) (k .rises) (r .cursor) b (k .placed) (k .behind) .cursor ∙ rw (f .0) (cursorAt-on (r .pages) i (f .1));
+          stands = seek-first U (r .pages) (k .rises) (r .cursor) b (k .placed) (k .behind) .cursor
+              ∙ rw (f .0) (cursorAt-on (r .pages) i (f .1));
           within = f .1;
           there = f .2;
         }
@@ -110,11 +111,13 @@ module _ (U c : ℕ) (r : Reader) (rs : List Reader) where
   unfolding agree before
   agree-none e = rw (e, agree)
 
-  pub agree-larger : (d i : ℕ) → this .found ≡ page d i → c < d → agree U c (r ∷ rs) ≡ before (r .pages) this (stopped (larger d) rs)
+  pub agree-larger : (d i : ℕ) → this .found ≡ page d i → c < d
+      → agree U c (r ∷ rs) ≡ before (r .pages) this (stopped (larger d) rs)
   unfolding agree before
   agree-larger d i e h = rw (e, agree, lt-ltb c d h)
 
-  pub agree-same : (d i : ℕ) → this .found ≡ page d i → d ≤ c → agree U c (r ∷ rs) ≡ before (r .pages) this (agree U c rs)
+  pub agree-same : (d i : ℕ) → this .found ≡ page d i → d ≤ c
+      → agree U c (r ∷ rs) ≡ before (r .pages) this (agree U c rs)
   unfolding agree before
   agree-same d i e h = rw (e, agree, le-ltb c d h)
 
@@ -151,30 +154,36 @@ unfolding inAll
 rest-lack x l ls e = rw e (and-false (member x l))
 
 -- the first reader is on page c, and the rest says so much
-says-before : (U c : ℕ) (r : Reader) (ls : List (List ℕ)) (n : Round) → OnPage c (moved U c r) → Says c ls (n .readers) (n .ended)
+says-before : (U c : ℕ) (r : Reader) (ls : List (List ℕ)) (n : Round) → OnPage c (moved U c r)
+    → Says c ls (n .readers) (n .ended)
     → Says c (r .pages ∷ ls) (before (r .pages) (seek U (r .pages) (r .cursor) c) n .readers) (n .ended)
 unfolding before moved
 says-before U c r ls n o s = go (n .ended) s
   where
-    go : (e : Ended) → Says c ls (n .readers) e → Says c (r .pages ∷ ls) (before (r .pages) (seek U (r .pages) (r .cursor) c) n .readers) e
+    go : (e : Ended) → Says c ls (n .readers) e
+        → Says c (r .pages ∷ ls) (before (r .pages) (seek U (r .pages) (r .cursor) c) n .readers) e
     go agreed s = (o, s)
     go exhausted s = λ x h. rest-lack x (r .pages) ls (s x h)
     go (larger d) s = (s .0, λ x h l. rest-lack x (r .pages) ls (s .1 x h l))
 
-pub agree-says : (U c : ℕ) (rs : List Reader) → AllReady U c rs → Says c (pagesOf rs) (agree U c rs .readers) (agree U c rs .ended)
+pub agree-says : (U c : ℕ) (rs : List Reader) → AllReady U c rs
+    → Says c (pagesOf rs) (agree U c rs .readers) (agree U c rs .ended)
 unfolding agree before pagesOf stopped
 agree-says U c [] k = tt
 agree-says U c (r ∷ rs) k = go (agree-says U c rs (k .1)) (this U c r rs .found) refl
   where
     go : Says c (pagesOf rs) (agree U c rs .readers) (agree U c rs .ended) → (f : Found) → this U c r rs .found ≡ f
         → Says c (r .pages ∷ pagesOf rs) (agree U c (r ∷ rs) .readers) (agree U c (r ∷ rs) .ended)
-    go m none e = rw (agree-none U c r rs e) (λ x h. first-lacks x (r .pages) (pagesOf rs) (sought-none U c r (k .0) e x h))
+    go m none e =
+        rw (agree-none U c r rs e) (λ x h. first-lacks x (r .pages) (pagesOf rs) (sought-none U c r (k .0) e x h))
     go m (page d i) e =
         elim (decLt c d) [
-          | yes h ↦ rw (agree-larger U c r rs d i e h) (h, λ x l g. first-lacks x (r .pages) (pagesOf rs) (sought-gap U c r (k .0) d i e x l g))
+          | yes h ↦ rw (agree-larger U c r rs d i e h)
+              (h, λ x l g. first-lacks x (r .pages) (pagesOf rs) (sought-gap U c r (k .0) d i e x l g))
           | no h ↦
               let q : d ≡ c = omega (arith, sought-least U c r (k .0) d i e) in
-              rw (agree-same U c r rs d i e (omega arith)) (says-before U c r (pagesOf rs) (agree U c rs) (rw q at (sought-on U c r (k .0) d i e)) m)
+              rw (agree-same U c r rs d i e (omega arith))
+              (says-before U c r (pagesOf rs) (agree U c rs) (rw q at (sought-on U c r (k .0) d i e)) m)
         ]
 
 -- readers that are on page c all hold it

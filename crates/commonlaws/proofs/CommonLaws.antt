@@ -1,6 +1,6 @@
--- Common pages: the step rule's pages are those of plain reading whichever list leads, its seeks are at most k * m + 1, and
--- its looks at most its seeks and the words of the lists' upper runs.
-use mathlib.Core.Bool.{Bool, true, false, _&&_, false≢true}
+-- Common pages: the step rule's pages are those of plain reading whichever list leads, its seeks are
+-- at most k * m + 1, and its looks at most its seeks and the words of the lists' upper runs.
+use mathlib.Core.Bool.{Bool, true, false, _&&_, false≢true, and-false}
 use mathlib.Core.Path.{_≡_, refl, sym, ap, ap₂, _∙_}
 use mathlib.Core.List.{List, [], _∷_}
 use Prim.Native.Nat.{ℕ, _+_, _*_, _≤_, _<_}
@@ -14,15 +14,17 @@ use Rattle.rules.specs.Seek.{fresh}
 use Rattle.rules.specs.Common.{readersOf, common}
 use Rattle.rules.specs.Questions.{member, inAll, sharedBy, commonPages}
 use Rattle.listlaws.proofs.RisingLaws.{rising-parts}
-use Rattle.seeklaws.proofs.FirstLaws.{and-false}
 use Rattle.seeklaws.proofs.SeekLaws.{behind-fresh}
-use Rattle.commonlaws.specs.Readers.{pagesOf, Rise, Ready, AllReady, reachedBy, wordsOf, from, sharedFrom, leftIn, leadPages, otherPages}
+use Rattle.commonlaws.specs.Readers.{pagesOf, Rise, Ready, AllReady, reachedBy, wordsOf}
+use Rattle.commonlaws.specs.Readers.{from, sharedFrom, leftIn, leadPages, otherPages}
 use Rattle.commonlaws.specs.Next.{allRounds, freshLead, freshOthers, commonFrom}
 use Rattle.commonlaws.specs.Outcomes.{Tallied}
-use Rattle.commonlaws.proofs.SharedLaws.{member-here, member-past, from-zero, from-le, shared-yes, shared-no, shared-from}
+use Rattle.commonlaws.proofs.SharedLaws.{member-here, member-past, from-zero, from-le}
+use Rattle.commonlaws.proofs.SharedLaws.{shared-yes, shared-no, shared-from}
 use Rattle.commonlaws.proofs.NextLaws.{length-pages}
 use Rattle.commonlaws.proofs.TallyLaws.{rounds-tallied}
-use Rattle.commonlaws.proofs.PickLaws.{Pick, lead-leads, lead-picked, pick-inAll, pick-words, pick-length, pick-rise}
+use Rattle.commonlaws.proofs.PickLaws.{Pick, lead-leads, lead-picked, pick-inAll}
+use Rattle.commonlaws.proofs.PickLaws.{pick-words, pick-length, pick-rise}
 
 -- ---- rising lists with the same members are one
 
@@ -54,7 +56,8 @@ member-tail lo U x xs r h = go (member x xs) refl
     go true e = absurd (omega (arith, member-least lo U x xs r e))
     go false e = e
 
-rising-same : (lo U : ℕ) (xs ys : List ℕ) → rising lo U xs ≡ true → rising lo U ys ≡ true → ((x : ℕ) → member x xs ≡ member x ys) → xs ≡ ys
+rising-same : (lo U : ℕ) (xs ys : List ℕ) → rising lo U xs ≡ true → rising lo U ys ≡ true
+    → ((x : ℕ) → member x xs ≡ member x ys) → xs ≡ ys
 unfolding member
 rising-same lo U [] [] r q e = refl
 rising-same lo U [] (y ∷ ys) r q e = absurd (false≢true (e y ∙ member-here y ys))
@@ -62,7 +65,8 @@ rising-same lo U (x ∷ xs) [] r q e = absurd (false≢true (sym (e x) ∙ membe
 rising-same lo U (x ∷ xs) (y ∷ ys) r q e =
     let t = rising-parts lo U x xs r in
     let s = rising-parts lo U y ys q in
-    let a = member-least y U x (y ∷ ys) (rising-cons y U y ys (omega arith) (s .1) (s .2)) (sym (e x) ∙ member-here x xs) in
+    let a =
+    member-least y U x (y ∷ ys) (rising-cons y U y ys (omega arith) (s .1) (s .2)) (sym (e x) ∙ member-here x xs) in
     let b = member-least x U y (x ∷ xs) (rising-cons x U x xs (omega arith) (t .1) (t .2)) (e y ∙ member-here y ys) in
     let same : y ≡ x = omega arith in
     let q′ = rw same at (s .2) in
@@ -94,17 +98,21 @@ module _ (ls : List (List ℕ)) where
   shared-rising lo U [] r = r
   shared-rising lo U (x ∷ xs) r = go (shared-rising (x + 1) U xs (rising-parts lo U x xs r .2)) (inAll x ls) refl
     where
-      go : rising (x + 1) U (sharedBy ls xs) ≡ true → (b : Bool) → inAll x ls ≡ b → rising lo U (sharedBy ls (x ∷ xs)) ≡ true
-      go ih true e = rw (shared-yes ls x xs e) (let t = rising-parts lo U x xs r in rising-cons lo U x (sharedBy ls xs) (t .0) (t .1) ih)
-      go ih false e = rw (shared-no ls x xs e) (rising-lower (x + 1) lo U (sharedBy ls xs) (omega (arith, rising-parts lo U x xs r .0)) ih)
+      go : rising (x + 1) U (sharedBy ls xs) ≡ true → (b : Bool) → inAll x ls ≡ b
+          → rising lo U (sharedBy ls (x ∷ xs)) ≡ true
+      go ih true e = rw (shared-yes ls x xs e)
+          (let t = rising-parts lo U x xs r in rising-cons lo U x (sharedBy ls xs) (t .0) (t .1) ih)
+      go ih false e = rw (shared-no ls x xs e)
+          (rising-lower (x + 1) lo U (sharedBy ls xs) (omega (arith, rising-parts lo U x xs r .0)) ih)
 
 -- whichever list is picked, it shares the same pages with the others
-pub pick-common : (U : ℕ) (ls : List (List ℕ)) (p : List ℕ) (rest : List (List ℕ)) → 0 < length ls → Pick ls p rest → Rise U ls
-    → sharedBy rest p ≡ commonPages ls
+pub pick-common : (U : ℕ) (ls : List (List ℕ)) (p : List ℕ) (rest : List (List ℕ)) → 0 < length ls → Pick ls p rest
+    → Rise U ls → sharedBy rest p ≡ commonPages ls
 unfolding commonPages inAll
 pick-common U [] p rest h k r = absurd (omega arith)
 pick-common U (l ∷ ls) p rest h k r =
-    rising-same 0 U (sharedBy rest p) (sharedBy ls l) (shared-rising rest 0 U p (pick-rise U k r .0)) (shared-rising ls 0 U l (r .0))
+    rising-same 0 U (sharedBy rest p) (sharedBy ls l) (shared-rising rest 0 U p (pick-rise U k r .0))
+    (shared-rising ls 0 U l (r .0))
     (λ x. shared-member rest x p ∙ pick-inAll x k ∙ sym (shared-member ls x l))
 
 -- ---- fresh readers
@@ -141,7 +149,8 @@ module _ (U : ℕ) (ls : List (List ℕ)) (some : 0 < length ls) (r : Rise U ls)
   others-ready b = readers-ready U b (otherPages ls) (pick-rise U picked r .1)
 
   module _ (b : ℕ) where
-    tallied : Tallied U b (freshLead ls) (freshOthers ls) (reachedBy U (freshLead ls ∷ freshOthers ls)) (commonFrom U ls b)
+    tallied : Tallied U b (freshLead ls) (freshOthers ls) (reachedBy U (freshLead ls ∷ freshOthers ls))
+        (commonFrom U ls b)
     unfolding commonFrom
     tallied = rounds-tallied U (freshLead ls) (freshOthers ls) b (lead-ready b) (others-ready b)
 
@@ -159,8 +168,11 @@ module _ (U : ℕ) (ls : List (List ℕ)) (some : 0 < length ls) (r : Rise U ls)
     pub from-seeks : (j : ℕ) → j < length ls → commonFrom U ls b .seeks ≤ length ls * length (getD ls j []) + 1
     unfolding freshLead freshOthers
     from-seeks j h =
-        let k : 1 + length (freshOthers ls) ≡ length ls = ap (λ (n : ℕ). 1 + n) (sym (length-pages (freshOthers ls)) ∙ ap length (readers-pages (otherPages ls))) ∙ pick-length picked in
-        let m : leftIn b (freshLead ls) ≤ length (getD ls j []) = le-trans (from-le b (leadPages ls)) (unfold leadPages in lead-leads ls some .least j h) in
+        let k : 1 + length (freshOthers ls) ≡ length ls =
+        ap (λ (n : ℕ). 1 + n) (sym (length-pages (freshOthers ls)) ∙ ap length (readers-pages (otherPages ls)))
+        ∙ pick-length picked in
+        let m : leftIn b (freshLead ls) ≤ length (getD ls j []) =
+        le-trans (from-le b (leadPages ls)) (unfold leadPages in lead-leads ls some .least j h) in
         omega (arith, rw k at (tallied .seeks), mul-le-mul-left (length ls) m)
 
     -- a list's words count as often as it is named

@@ -6,7 +6,8 @@ use native.Mathlib.Nat.{add-zero, add-assoc, add-comm}
 use Rattle.rules.specs.Seek.{none, page, Sought, seek}
 use Rattle.rules.specs.Common.{Reader, Round, before, stopped, agree}
 use Rattle.commonlaws.specs.Readers.{Ready, AllReady, moved}
-use Rattle.commonlaws.specs.Next.{Turn, over, again, hit, Turned, turnOf, behindLead, Next, ending, stop, plus, nextBy, nextCommon, midTurn, midway}
+use Rattle.commonlaws.specs.Next.{Turn, over, again, hit, Turned, turnOf, behindLead, Next}
+use Rattle.commonlaws.specs.Next.{ending, stop, plus, nextBy, nextCommon, midTurn, midway}
 use Rattle.commonlaws.proofs.AgreeLaws.{agree-none, agree-larger, agree-same}
 use Rattle.commonlaws.proofs.TurnLaws.{turned-none, turned-page}
 use Rattle.commonlaws.proofs.FuelLaws.{next-turn}
@@ -30,12 +31,17 @@ module _ (U : ℕ) (lead : Reader) (others : List Reader) (b : ℕ) (k : Ready U
   abbrev first : Sought
   first = seek U (lead .pages) (lead .cursor) b
 
-  pub next-none : first .found ≡ none → nextCommon U lead others b ≡ plus 1 (first .looks) (stop none (moved U b lead) others)
-  next-none e = next-turn U lead others b k a ∙ rw (turned-none U b lead others e) (unfold nextBy behindLead ending stopped plus stop moved in refl)
+  pub next-none : first .found ≡ none
+      → nextCommon U lead others b ≡ plus 1 (first .looks) (stop none (moved U b lead) others)
+  next-none e = next-turn U lead others b k a
+      ∙ rw (turned-none U b lead others e) (unfold nextBy behindLead ending stopped plus stop moved in refl)
 
   pub next-page : (c i : ℕ) → first .found ≡ page c i
       → nextCommon U lead others b ≡ plus 1 (first .looks) (midway U (moved U b lead) c i [] others)
-  next-page c i e = next-turn U lead others b k a ∙ rw (turned-page U b lead others c i e) (unfold midway midTurn behindLead moved in nextBy-more 1 (first .looks) (nextCommon U (moved U b lead) (agree U c others .readers)) (midTurn (moved U b lead) c i [] (agree U c others)) (turnOf c i (agree U c others .ended)))
+  next-page c i e =
+      next-turn U lead others b k a ∙ rw (turned-page U b lead others c i e) (unfold midway midTurn behindLead moved in
+      nextBy-more 1 (first .looks) (nextCommon U (moved U b lead) (agree U c others .readers))
+      (midTurn (moved U b lead) c i [] (agree U c others)) (turnOf c i (agree U c others .ended)))
 
 -- ---- the others are sought for c
 
@@ -49,15 +55,18 @@ module _ (U : ℕ) (lead : Reader) (c i : ℕ) (done : List Reader) where
 
     pub midway-none : this .found ≡ none
         → midway U lead c i done (r ∷ rest) ≡ plus 1 (this .looks) (stop none lead (done ++ moved U c r ∷ rest))
-    midway-none e = unfold midway midTurn in rw (agree-none U c r rest e) (unfold before stopped turnOf nextBy ending plus stop moved in refl)
+    midway-none e = unfold midway midTurn in
+        rw (agree-none U c r rest e) (unfold before stopped turnOf nextBy ending plus stop moved in refl)
 
     pub midway-larger : (d j : ℕ) → this .found ≡ page d j → c < d
         → midway U lead c i done (r ∷ rest) ≡ plus 1 (this .looks) (nextCommon U lead (done ++ moved U c r ∷ rest) d)
-    midway-larger d j e h = unfold midway midTurn in rw (agree-larger U c r rest d j e h) (unfold before stopped turnOf nextBy moved in ap (λ (n : ℕ). plus 1 n (nextCommon U lead (done ++ moved U c r ∷ rest) d)) (add-zero (this .looks)))
+    midway-larger d j e h =
+        unfold midway midTurn in rw (agree-larger U c r rest d j e h) (unfold before stopped turnOf nextBy moved in
+        ap (λ (n : ℕ). plus 1 n (nextCommon U lead (done ++ moved U c r ∷ rest) d)) (add-zero (this .looks)))
 
     -- a round with one seek more is a turn with one seek more
-    mid-before : (n : Round)
-        → midTurn lead c i done (before (r .pages) this n) ≡ more 1 (this .looks) (midTurn lead c i (done ++ moved U c r ∷ []) n)
+    mid-before : (n : Round) → midTurn lead c i done (before (r .pages) this n)
+        ≡ more 1 (this .looks) (midTurn lead c i (done ++ moved U c r ∷ []) n)
     unfolding midTurn before moved
     mid-before n = rw (append-assoc, add-comm (n .seeks) 1)
 
@@ -66,4 +75,5 @@ module _ (U : ℕ) (lead : Reader) (c i : ℕ) (done : List Reader) where
     unfolding midway
     midway-same d j e h =
         let t : Turned = midTurn lead c i (done ++ moved U c r ∷ []) (agree U c rest) in
-        rw (agree-same U c r rest d j e h, mid-before (agree U c rest)) (nextBy-more 1 (this .looks) (nextCommon U (t .lead) (t .others)) t (t .turn))
+        rw (agree-same U c r rest d j e h, mid-before (agree U c rest))
+        (nextBy-more 1 (this .looks) (nextCommon U (t .lead) (t .others)) t (t .turn))

@@ -1,5 +1,5 @@
--- Laws of the next common page: by plain reading, with its seeks and looks; and that the step rule lists the next page and
--- goes on behind it.
+-- Laws of the next common page: by plain reading, with its seeks and looks;
+-- and that the step rule lists the next page and goes on behind it.
 use mathlib.Core.Bool.{true}
 use mathlib.Core.Path.{_≡_, refl, sym, ap, _∙_}
 use mathlib.Core.List.{List, [], _∷_}
@@ -15,7 +15,8 @@ use Rattle.rules.specs.Questions.{firstFrom}
 use Rattle.seeklaws.specs.Cursors.{firstAt, foundAt}
 use Rattle.seeklaws.proofs.FirstLaws.{firstAt-self, firstAt-le, first-found, foundAt-none}
 use Rattle.commonlaws.specs.Readers.{pagesOf, Ready, AllReady}
-use Rattle.commonlaws.specs.Next.{Turn, over, again, hit, Turned, turned, Next, ending, plus, nextBy, nextCommon, allRounds, roundsBy, onward, firstShared}
+use Rattle.commonlaws.specs.Next.{Turn, over, again, hit, Turned, turned, Next, ending, plus}
+use Rattle.commonlaws.specs.Next.{nextBy, nextCommon, allRounds, roundsBy, onward, firstShared}
 use Rattle.commonlaws.specs.Outcomes.{Carried, Over, Again, Hit, Goes, Ends, Came}
 use Rattle.commonlaws.proofs.SharedLaws.{from-first, from-none, shared-alone}
 use Rattle.commonlaws.proofs.TurnLaws.{To, turned-carried, turned-goes}
@@ -28,14 +29,16 @@ length-pages (r ∷ rs) = ap suc (length-pages rs)
 
 -- ---- readers of the same lists
 
-module _ (U : ℕ) (lead : Reader) (others : List Reader) (lead′ : Reader) (others′ : List Reader) (lp : lead′ .pages ≡ lead .pages) (ps : pagesOf others′ ≡ pagesOf others) where
+module _ (U : ℕ) (lead : Reader) (others : List Reader) (lead′ : Reader) (others′ : List Reader)
+    (lp : lead′ .pages ≡ lead .pages) (ps : pagesOf others′ ≡ pagesOf others) where
   pub same-length : length others′ ≡ length others
   same-length = sym (length-pages others′) ∙ ap length ps ∙ length-pages others
 
   over-same : (b s : ℕ) → Over b lead′ others′ s → Over b lead others s
   over-same b s o = record { shared = rw (lp, ps) at (o .shared); few = rw (lp, same-length) at (o .few) }
 
-  hit-same : (b c i : ℕ) (l : Reader) (os : List Reader) (s : ℕ) → Hit U b c i lead′ others′ l os s → Hit U b c i lead others l os s
+  hit-same : (b c i : ℕ) (l : Reader) (os : List Reader) (s : ℕ) → Hit U b c i lead′ others′ l os s
+      → Hit U b c i lead others l os s
   hit-same b c i l os s h = record {
     first = rw lp at (h .first);
     shared = rw (lp, ps) at (h .shared);
@@ -47,8 +50,10 @@ module _ (U : ℕ) (lead : Reader) (others : List Reader) (lead′ : Reader) (ot
     all-ready = h .all-ready;
   }
 
-carried-then : (U : ℕ) (lead : Reader) (others : List Reader) (lead′ : Reader) (others′ : List Reader) (lead″ : Reader) (others″ : List Reader) (s l s′ l′ : ℕ)
-    → Carried U lead others lead′ others′ s l → Carried U lead′ others′ lead″ others″ s′ l′ → Carried U lead others lead″ others″ (s + s′) (l + l′)
+carried-then : (U : ℕ) (lead : Reader) (others : List Reader) (lead′ : Reader) (others′ : List Reader) (lead″ : Reader)
+    (others″ : List Reader) (s l s′ l′ : ℕ)
+    → Carried U lead others lead′ others′ s l → Carried U lead′ others′ lead″ others″ s′ l′
+    → Carried U lead others lead″ others″ (s + s′) (l + l′)
 carried-then U lead others lead′ others′ lead″ others″ s l s′ l′ c d = record {
   lead-pages = d .lead-pages ∙ c .lead-pages;
   pages = d .pages ∙ c .pages;
@@ -58,14 +63,17 @@ carried-then U lead others lead′ others′ lead″ others″ s l s′ l′ c d
 
 -- ---- the next page
 
-module _ (U b d : ℕ) (lead : Reader) (others : List Reader) (t : Turned) (n : Next) (w : Carried U lead others (t .lead) (t .others) (t .seeks) (t .looks)) (a : Again U b d lead others (t .lead) (t .others) (t .seeks)) where
+module _ (U b d : ℕ) (lead : Reader) (others : List Reader) (t : Turned) (n : Next)
+    (w : Carried U lead others (t .lead) (t .others) (t .seeks) (t .looks))
+    (a : Again U b d lead others (t .lead) (t .others) (t .seeks)) where
   ends-after : (f : Found) → Ends U d (t .lead) (t .others) n f → Ends U b lead others (plus (t .seeks) (t .looks) n) f
   unfolding plus
   ends-after none o =
       let p = over-same U lead others (t .lead) (t .others) (w .lead-pages) (w .pages) d (n .seeks) o in
       record { shared = a .shared ∙ p .shared; few = omega (arith, p .few, a .few) }
   ends-after (page c i) h =
-      let p = hit-same U lead others (t .lead) (t .others) (w .lead-pages) (w .pages) d c i (n .lead) (n .others) (n .seeks) h in
+      let p = hit-same U lead others (t .lead) (t .others) (w .lead-pages) (w .pages) d c i (n .lead) (n .others)
+      (n .seeks) h in
       record {
         first = p .first;
         shared = a .shared ∙ p .shared;
@@ -80,15 +88,18 @@ module _ (U b d : ℕ) (lead : Reader) (others : List Reader) (t : Turned) (n : 
   came-after : Came U d (t .lead) (t .others) n → Came U b lead others (plus (t .seeks) (t .looks) n)
   unfolding plus
   came-after m = record {
-    carried = carried-then U lead others (t .lead) (t .others) (n .lead) (n .others) (t .seeks) (t .looks) (n .seeks) (n .looks) w (m .carried);
+    carried = carried-then U lead others (t .lead) (t .others) (n .lead) (n .others) (t .seeks) (t .looks) (n .seeks)
+        (n .looks) w (m .carried);
     ends = ends-after (n .found) (m .ends);
   }
 
 module _ (U : ℕ) where
   next-step : (lead : Reader) (others : List Reader) (b : ℕ) → Ready U b lead → AllReady U b others
-      → ((d : ℕ) → To (turned U lead others b .turn) d → Came U d (turned U lead others b .lead) (turned U lead others b .others) (nextCommon U (turned U lead others b .lead) (turned U lead others b .others) d))
+      → let t = turned U lead others b in
+      ((d : ℕ) → To (t .turn) d → Came U d (t .lead) (t .others) (nextCommon U (t .lead) (t .others) d))
       → Came U b lead others (nextCommon U lead others b)
-  next-step lead others b k a ih = rw (next-turn U lead others b k a) (go (t .turn) (turned-goes U b lead others k a) ih)
+  next-step lead others b k a ih =
+      rw (next-turn U lead others b k a) (go (t .turn) (turned-goes U b lead others k a) ih)
     where
       t : Turned
       t = turned U lead others b
@@ -101,7 +112,8 @@ module _ (U : ℕ) where
           → Came U b lead others (nextBy (nextCommon U (t .lead) (t .others)) t e)
       go over o ih = unfold nextBy ending in record { carried = w; ends = o }
       go (hit c i) o ih = unfold nextBy ending in record { carried = w; ends = o }
-      go (again d) o ih = unfold nextBy in came-after U b d lead others t (nextCommon U (t .lead) (t .others) d) w o (ih d refl)
+      go (again d) o ih = unfold nextBy in
+          came-after U b d lead others t (nextCommon U (t .lead) (t .others) d) w o (ih d refl)
 
   -- what the next page says, its readers, seeks and looks
   pub next-came : (lead : Reader) (others : List Reader) (b : ℕ) → Ready U b lead → AllReady U b others
@@ -113,7 +125,8 @@ module _ (U : ℕ) where
       → nextCommon U lead others b .found ≡ firstShared b (pagesOf others) (lead .pages)
   next-first lead others b k a = go (nextCommon U lead others b .found) (next-came lead others b k a .ends)
     where
-      go : (f : Found) → Ends U b lead others (nextCommon U lead others b) f → f ≡ firstShared b (pagesOf others) (lead .pages)
+      go : (f : Found) → Ends U b lead others (nextCommon U lead others b) f
+          → f ≡ firstShared b (pagesOf others) (lead .pages)
       go none o = unfold firstShared in rw (o .shared, firstShared)
       go (page c i) h = unfold firstShared in rw (h .shared, firstShared) (sym (h .first))
 
@@ -124,7 +137,8 @@ module _ (U : ℕ) where
       elim (decLt (firstAt b xs) (length xs)) [
         | yes h ↦
             let c : ℕ = getD xs (firstAt b xs) 0 in
-            rw (shared-alone, from-first 0 U xs r b h, firstShared) (first-found c xs ∙ ap (foundAt xs) (firstAt-self 0 U xs r (firstAt b xs) h) ∙ sym (first-found b xs))
+            rw (shared-alone, from-first 0 U xs r b h, firstShared)
+            (first-found c xs ∙ ap (foundAt xs) (firstAt-self 0 U xs r (firstAt b xs) h) ∙ sym (first-found b xs))
         | no h ↦
             let e : firstAt b xs ≡ length xs = omega (arith, firstAt-le b xs) in
             rw (shared-alone, from-none b xs e, firstShared) (sym (first-found b xs ∙ foundAt-none xs (firstAt b xs) e))
@@ -132,31 +146,44 @@ module _ (U : ℕ) where
 
   -- ---- the rule lists the next page and goes on behind it
 
-  counted-twice : (s l s′ l′ : ℕ) (ps : List ℕ) (t : Tally) → counted s l [] (counted s′ l′ ps t) ≡ counted (s + s′) (l + l′) ps t
+  counted-twice : (s l s′ l′ : ℕ) (ps : List ℕ) (t : Tally)
+      → counted s l [] (counted s′ l′ ps t) ≡ counted (s + s′) (l + l′) ps t
   unfolding counted
   counted-twice s l s′ l′ ps t = rw (← add-assoc s s′ (t .seeks), ← add-assoc l l′ (t .looks))
 
-  onward-after : (t : Turned) (n : Next) → counted (t .seeks) (t .looks) [] (onward U n) ≡ onward U (plus (t .seeks) (t .looks) n)
+  onward-after : (t : Turned) (n : Next)
+      → counted (t .seeks) (t .looks) [] (onward U n) ≡ onward U (plus (t .seeks) (t .looks) n)
   onward-after t n = go (n .found) refl
     where
-      go : (f : Found) → n .found ≡ f → counted (t .seeks) (t .looks) [] (onward U n) ≡ onward U (plus (t .seeks) (t .looks) n)
-      go none e = unfold onward plus in rw (e, onward) (counted-twice (t .seeks) (t .looks) (n .seeks) (n .looks) [] nothing)
-      go (page c i) e = unfold onward plus in rw (e, onward) (counted-twice (t .seeks) (t .looks) (n .seeks) (n .looks) (c ∷ []) (allRounds U (n .lead) (n .others) (c + 1)))
+      go : (f : Found) → n .found ≡ f
+          → counted (t .seeks) (t .looks) [] (onward U n) ≡ onward U (plus (t .seeks) (t .looks) n)
+      go none e = unfold onward plus in
+          rw (e, onward) (counted-twice (t .seeks) (t .looks) (n .seeks) (n .looks) [] nothing)
+      go (page c i) e =
+          unfold onward plus in rw (e, onward) (counted-twice (t .seeks) (t .looks) (n .seeks) (n .looks) (c ∷ [])
+          (allRounds U (n .lead) (n .others) (c + 1)))
 
   rounds-step : (lead : Reader) (others : List Reader) (b : ℕ) → Ready U b lead → AllReady U b others
-      → ((d : ℕ) → To (turned U lead others b .turn) d → allRounds U (turned U lead others b .lead) (turned U lead others b .others) d ≡ onward U (nextCommon U (turned U lead others b .lead) (turned U lead others b .others) d))
+      → let t = turned U lead others b in
+      ((d : ℕ) → To (t .turn) d
+      → allRounds U (t .lead) (t .others) d ≡ onward U (nextCommon U (t .lead) (t .others) d))
       → allRounds U lead others b ≡ onward U (nextCommon U lead others b)
-  rounds-step lead others b k a ih = rounds-turn U lead others b k a ∙ go (t .turn) ih ∙ ap (onward U) (sym (next-turn U lead others b k a))
+  rounds-step lead others b k a ih =
+      rounds-turn U lead others b k a ∙ go (t .turn) ih ∙ ap (onward U) (sym (next-turn U lead others b k a))
     where
       t : Turned
       t = turned U lead others b
 
-      go : (e : Turn) → ((d : ℕ) → To e d → allRounds U (t .lead) (t .others) d ≡ onward U (nextCommon U (t .lead) (t .others) d))
-          → roundsBy (allRounds U (t .lead) (t .others)) t e ≡ onward U (nextBy (nextCommon U (t .lead) (t .others)) t e)
+      go : (e : Turn)
+          → ((d : ℕ) → To e d → allRounds U (t .lead) (t .others) d ≡ onward U (nextCommon U (t .lead) (t .others) d))
+          → roundsBy (allRounds U (t .lead) (t .others)) t e
+          ≡ onward U (nextBy (nextCommon U (t .lead) (t .others)) t e)
       go over ih = unfold roundsBy nextBy ending onward in refl
       go (hit c i) ih = unfold roundsBy nextBy ending onward in refl
-      go (again d) ih = unfold roundsBy nextBy in ap (counted (t .seeks) (t .looks) []) (ih d refl) ∙ onward-after t (nextCommon U (t .lead) (t .others) d)
+      go (again d) ih = unfold roundsBy nextBy in
+          ap (counted (t .seeks) (t .looks) []) (ih d refl) ∙ onward-after t (nextCommon U (t .lead) (t .others) d)
 
   pub rounds-next : (lead : Reader) (others : List Reader) (b : ℕ) → Ready U b lead → AllReady U b others
       → allRounds U lead others b ≡ onward U (nextCommon U lead others b)
-  rounds-next = by-turns U (λ lead others b. allRounds U lead others b ≡ onward U (nextCommon U lead others b)) rounds-step
+  rounds-next =
+      by-turns U (λ lead others b. allRounds U lead others b ≡ onward U (nextCommon U lead others b)) rounds-step

@@ -26,16 +26,22 @@ module _ (all : List (List ℕ)) where
   unfolding leadFrom
   leads-from best m i [] e s h l p q =
       let n : length all ≤ i = omega (arith, length-drop i all, ap length e) in
-      record { within = omega arith; least = λ j g. omega (arith, s, p j (omega arith)); first = λ j g. omega (arith, s, q j g) }
+      record {
+        within = omega arith;
+        least = λ j g. omega (arith, s, p j (omega arith));
+        first = λ j g. omega (arith, s, q j g);
+      }
   leads-from best m i (x ∷ ls) e s h l p q =
       let n : i < length all = omega (arith, length-drop i all, ap length e) in
-      let here : getD all i [] ≡ x = rw add-zero at (sym (getD-drop i all 0 []) ∙ ap (λ (y : List (List ℕ)). getD y 0 []) e) in
+      let here : getD all i [] ≡ x =
+      rw add-zero at (sym (getD-drop i all 0 []) ∙ ap (λ (y : List (List ℕ)). getD y 0 []) e) in
       let next : drop (i + 1) all ≡ ls = sym (drop-drop 1 i all) ∙ ap (λ (y : List (List ℕ)). drop 1 y) e in
       let size : sizeAt i ≡ length x = ap length here in
       elim (decLt (length x) m) [
         | yes g ↦
             rw (lt-ltb (length x) m g, leadFrom)
-            (leads-from i (length x) (i + 1) ls next size (omega arith) (omega arith) (upto i (length x) (λ j f. omega (arith, p j f)) (omega (arith, size))) (λ j f. omega (arith, p j f)))
+            (leads-from i (length x) (i + 1) ls next size (omega arith) (omega arith)
+            (upto i (length x) (λ j f. omega (arith, p j f)) (omega (arith, size))) (λ j f. omega (arith, p j f)))
         | no g ↦
             rw (le-ltb (length x) m (omega arith), leadFrom)
             (leads-from best m (i + 1) ls next s (omega arith) (omega arith) (upto i m p (omega (arith, size))) q)
@@ -47,7 +53,8 @@ module _ (all : List (List ℕ)) where
 pub lead-leads : (ls : List (List ℕ)) → 0 < length ls → Leads ls (leadOf ls)
 unfolding leadOf
 lead-leads [] h = absurd (omega arith)
-lead-leads (l ∷ ls) h = leads-from (l ∷ ls) 0 (length l) 1 ls refl refl (omega arith) (omega arith) (λ j g. let e : j ≡ 0 = omega arith in rw e (omega arith)) (λ j g. absurd (omega arith))
+lead-leads (l ∷ ls) h = leads-from (l ∷ ls) 0 (length l) 1 ls refl refl (omega arith) (omega arith)
+    (λ j g. let e : j ≡ 0 = omega arith in rw e (omega arith)) (λ j g. absurd (omega arith))
 
 -- ---- one list and the others
 
@@ -69,10 +76,12 @@ swap true b c = refl
 swap false true c = refl
 swap false false c = refl
 
-pub pick-inAll : (x : ℕ) {ls rest : List (List ℕ)} {p : List ℕ} → Pick ls p rest → member x p && inAll x rest ≡ inAll x ls
+pub pick-inAll : (x : ℕ) {ls rest : List (List ℕ)} {p : List ℕ} → Pick ls p rest
+    → member x p && inAll x rest ≡ inAll x ls
 unfolding inAll
 pick-inAll x here = refl
-pick-inAll x (there {l = l} {p = p} {rest = rest} k) = swap (member x p) (member x l) (inAll x rest) ∙ ap (λ (b : Bool). member x l && b) (pick-inAll x k)
+pick-inAll x (there {l = l} {p = p} {rest = rest} k) =
+    swap (member x p) (member x l) (inAll x rest) ∙ ap (λ (b : Bool). member x l && b) (pick-inAll x k)
 
 pub pick-words : (U : ℕ) {ls rest : List (List ℕ)} {p : List ℕ} → Pick ls p rest → wordsOf U (p ∷ rest) ≡ wordsOf U ls
 unfolding wordsOf
@@ -83,7 +92,8 @@ pub pick-length : {ls rest : List (List ℕ)} {p : List ℕ} → Pick ls p rest 
 pick-length here = omega arith
 pick-length (there k) = omega (arith, pick-length k)
 
-pub pick-rise : (U : ℕ) {ls rest : List (List ℕ)} {p : List ℕ} → Pick ls p rest → Rise U ls → (rising 0 U p ≡ true) × Rise U rest
+pub pick-rise : (U : ℕ) {ls rest : List (List ℕ)} {p : List ℕ} → Pick ls p rest → Rise U ls
+    → (rising 0 U p ≡ true) × Rise U rest
 pick-rise U here r = r
 pick-rise U (there k) r =
     let t = pick-rise U k (r .1) in

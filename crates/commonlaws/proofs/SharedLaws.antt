@@ -8,11 +8,12 @@ use native.Mathlib.Omega.{arith}
 use borrow.Author.Tests.{le-leb, lt-leb, eq-eqb, ne-eqb}
 use lib.ListN.{length, getD}
 use Rattle.rules.specs.List.{rising}
-use Rattle.rules.specs.Seek.{Found, none, page}
-use Rattle.rules.specs.Questions.{firstFrom, member, inAll, sharedBy, commonPages}
+use Rattle.rules.specs.Seek.{none, page}
+use Rattle.rules.specs.Questions.{firstFrom, member, inAll, sharedBy}
 use Rattle.listlaws.proofs.RisingLaws.{rising-parts}
-use Rattle.seeklaws.specs.Cursors.{firstAt, foundAt}
-use Rattle.seeklaws.proofs.FirstLaws.{rising-lt, firstAt-here, firstAt-past, firstAt-le, firstAt-before, firstAt-at, first-found, foundAt-none, foundAt-page}
+use Rattle.seeklaws.specs.Cursors.{firstAt}
+use Rattle.seeklaws.proofs.FirstLaws.{rising-lt, firstAt-here, firstAt-past, firstAt-le, firstAt-before}
+use Rattle.seeklaws.proofs.FirstLaws.{firstAt-at, first-found, foundAt-none, foundAt-page}
 use Rattle.commonlaws.specs.Readers.{from}
 
 -- ---- members
@@ -37,15 +38,18 @@ member-at (x ∷ xs) (suc j) h =
 pub member-none : (x : ℕ) (xs : List ℕ) → ((j : ℕ) → j < length xs → getD xs j 0 ≡ x → ⊥) → member x xs ≡ false
 unfolding member
 member-none x [] h = refl
-member-none x (y ∷ xs) h = member-past x y xs (λ e. h 0 (omega arith) (sym e)) ∙ member-none x xs (λ j l. h (suc j) (omega arith))
+member-none x (y ∷ xs) h =
+    member-past x y xs (λ e. h 0 (omega arith) (sym e)) ∙ member-none x xs (λ j l. h (suc j) (omega arith))
 
 -- ---- the first element at least b
 
-pub first-page : (b : ℕ) (xs : List ℕ) (c i : ℕ) → firstFrom b 0 xs ≡ page c i → (firstAt b xs ≡ i) × (i < length xs) × (getD xs i 0 ≡ c)
+pub first-page : (b : ℕ) (xs : List ℕ) (c i : ℕ) → firstFrom b 0 xs ≡ page c i
+    → (firstAt b xs ≡ i) × (i < length xs) × (getD xs i 0 ≡ c)
 first-page b xs c i e =
     elim (decLt (firstAt b xs) (length xs)) [
       | yes h ↦
-          let q : page (getD xs (firstAt b xs) 0) (firstAt b xs) ≡ page c i = sym (first-found b xs ∙ foundAt-page xs (firstAt b xs) h) ∙ e in
+          let q : page (getD xs (firstAt b xs) 0) (firstAt b xs) ≡ page c i =
+          sym (first-found b xs ∙ foundAt-page xs (firstAt b xs) h) ∙ e in
           let f : firstAt b xs ≡ i = cc q in
           let g : getD xs (firstAt b xs) 0 ≡ c = cc q in
           (f, rw f at h, rw f at g)
@@ -60,7 +64,8 @@ pub first-none : (b : ℕ) (xs : List ℕ) → firstFrom b 0 xs ≡ none → fir
 first-none b xs e =
     elim (decLt (firstAt b xs) (length xs)) [
       | yes h ↦
-          let q : page (getD xs (firstAt b xs) 0) (firstAt b xs) ≡ none = sym (first-found b xs ∙ foundAt-page xs (firstAt b xs) h) ∙ e in
+          let q : page (getD xs (firstAt b xs) 0) (firstAt b xs) ≡ none =
+          sym (first-found b xs ∙ foundAt-page xs (firstAt b xs) h) ∙ e in
           let z : _≡_ {A = ℕ} 0 1 = cc q in
           absurd (omega arith)
       | no h ↦ omega (arith, firstAt-le b xs)
@@ -94,7 +99,8 @@ unfolding from
 from-all lo U [] r b h = refl
 from-all lo U (x ∷ xs) r b h =
     let t = rising-parts lo U x xs r in
-    from-here b x xs (omega (arith, t .0)) ∙ ap (λ (l : List ℕ). x ∷ l) (from-all (x + 1) U xs (t .2) b (omega (arith, t .0)))
+    from-here b x xs (omega (arith, t .0))
+    ∙ ap (λ (l : List ℕ). x ∷ l) (from-all (x + 1) U xs (t .2) b (omega (arith, t .0)))
 
 pub from-zero : (xs : List ℕ) → from 0 xs ≡ xs
 unfolding from
@@ -109,12 +115,14 @@ from-first lo U (x ∷ xs) r b h =
     elim (decLe b x) [
       | yes l ↦
           rw (firstAt-here b x xs l, from-here b x xs l, from-past (x + 1) x xs (omega arith))
-          (ap (λ (l : List ℕ). x ∷ l) (from-all (x + 1) U xs (t .2) b (omega arith) ∙ sym (from-all (x + 1) U xs (t .2) (x + 1) (omega arith))))
+          (ap (λ (l : List ℕ). x ∷ l)
+          (from-all (x + 1) U xs (t .2) b (omega arith) ∙ sym (from-all (x + 1) U xs (t .2) (x + 1) (omega arith))))
       | no l ↦
           let e = firstAt-past b x xs (omega arith) in
           let g : firstAt b xs < length xs = omega (arith, e) in
           let m = firstAt-at b xs g in
-          rw (e, from-past b x xs (omega arith), from-past (getD xs (firstAt b xs) 0 + 1) x xs (omega arith)) (from-first (x + 1) U xs (t .2) b g)
+          rw (e, from-past b x xs (omega arith), from-past (getD xs (firstAt b xs) 0 + 1) x xs (omega arith))
+          (from-first (x + 1) U xs (t .2) b g)
     ]
 
 pub from-none : (b : ℕ) (xs : List ℕ) → firstAt b xs ≡ length xs → from b xs ≡ []
@@ -150,7 +158,8 @@ from-mono b d (x ∷ xs) h =
 
 -- ---- those that all lists share
 
-pub shared-yes : (ls : List (List ℕ)) (x : ℕ) (xs : List ℕ) → inAll x ls ≡ true → sharedBy ls (x ∷ xs) ≡ x ∷ sharedBy ls xs
+pub shared-yes : (ls : List (List ℕ)) (x : ℕ) (xs : List ℕ) → inAll x ls ≡ true
+    → sharedBy ls (x ∷ xs) ≡ x ∷ sharedBy ls xs
 unfolding sharedBy
 shared-yes ls x xs e = rw e
 
@@ -168,7 +177,8 @@ shared-skip ls (x ∷ xs) b d h g =
     elim (decLe b x) [
       | yes l ↦ elim (decLe d x) [
         | yes m ↦ rw (from-here b x xs l, from-here d x xs m) (both x (from b xs) (from d xs) ih)
-        | no m ↦ rw (from-here b x xs l, from-past d x xs (omega arith)) (shared-no ls x (from b xs) (g x l (omega arith)) ∙ ih)
+        | no m ↦ rw (from-here b x xs l, from-past d x xs (omega arith))
+            (shared-no ls x (from b xs) (g x l (omega arith)) ∙ ih)
       ]
       | no l ↦ rw (from-past b x xs (omega arith), from-past d x xs (omega arith)) ih
     ]
@@ -177,7 +187,8 @@ shared-skip ls (x ∷ xs) b d h g =
     both x a c e = unfold sharedBy in ap (λ (l : List ℕ). cond (inAll x ls) (x ∷ []) [] ++ l) e
 
 -- and from b on there is none
-pub shared-none : (ls : List (List ℕ)) (xs : List ℕ) (b : ℕ) → ((x : ℕ) → b ≤ x → inAll x ls ≡ false) → sharedBy ls (from b xs) ≡ []
+pub shared-none : (ls : List (List ℕ)) (xs : List ℕ) (b : ℕ) → ((x : ℕ) → b ≤ x → inAll x ls ≡ false)
+    → sharedBy ls (from b xs) ≡ []
 unfolding from sharedBy
 shared-none ls [] b g = refl
 shared-none ls (x ∷ xs) b g =
@@ -194,8 +205,13 @@ shared-from ls b (x ∷ xs) = go (shared-from ls b xs) (inAll x ls) refl (decLe 
   where
     go : sharedBy ls (from b xs) ≡ from b (sharedBy ls xs) → (a : Bool) → inAll x ls ≡ a → Dec (b ≤ x)
         → sharedBy ls (from b (x ∷ xs)) ≡ from b (sharedBy ls (x ∷ xs))
-    go ih true e (yes h) = rw (from-here b x xs h, shared-yes ls x xs e, from-here b x (sharedBy ls xs) h) (shared-yes ls x (from b xs) e ∙ ap (λ (l : List ℕ). x ∷ l) ih)
-    go ih true e (no h) = rw (from-past b x xs (omega arith), shared-yes ls x xs e, from-past b x (sharedBy ls xs) (omega arith)) ih
+    go ih true e (yes h) = rw (from-here b x xs h, shared-yes ls x xs e, from-here b x (sharedBy ls xs) h)
+        (shared-yes ls x (from b xs) e ∙ ap (λ (l : List ℕ). x ∷ l) ih)
+    go ih true e (no h) = rw (
+      from-past b x xs (omega arith),
+      shared-yes ls x xs e,
+      from-past b x (sharedBy ls xs) (omega arith),
+    ) ih
     go ih false e (yes h) = rw (from-here b x xs h, shared-no ls x xs e) (shared-no ls x (from b xs) e ∙ ih)
     go ih false e (no h) = rw (from-past b x xs (omega arith), shared-no ls x xs e) ih
 

@@ -16,7 +16,8 @@ module _ (U : ℕ) where
   TalliedFrom lead others b = Tallied U b lead others (reachedBy U (lead ∷ others)) (allRounds U lead others b)
 
   -- the tally of other readers of the same lists
-  carried-tally : (b : ℕ) (lead : Reader) (others : List Reader) (lead′ : Reader) (others′ : List Reader) (s l reach : ℕ) (t : Tally)
+  carried-tally : (b : ℕ) (lead : Reader) (others : List Reader) (lead′ : Reader) (others′ : List Reader)
+      (s l reach : ℕ) (t : Tally)
       → Carried U lead others lead′ others′ s l → Tallied U b lead′ others′ reach t → Tallied U b lead others reach t
   carried-tally b lead others lead′ others′ s l reach t w m = record {
     listed = rw (w .lead-pages, w .pages) at (m .listed);
@@ -25,11 +26,13 @@ module _ (U : ℕ) where
   }
 
   tally-step : (lead : Reader) (others : List Reader) (b : ℕ) → Ready U b lead → AllReady U b others
-      → ((d : ℕ) → To (turned U lead others b .turn) d → TalliedFrom (turned U lead others b .lead) (turned U lead others b .others) d)
+      → ((d : ℕ) → To (turned U lead others b .turn) d
+      → TalliedFrom (turned U lead others b .lead) (turned U lead others b .others) d)
       → TalliedFrom lead others b
   tally-step lead others b k a ih =
       rw (rounds-turn U lead others b k a)
-      (go (t .turn) (turned-goes U b lead others k a) (λ d to. carried-tally d lead others (t .lead) (t .others) (t .seeks) (t .looks) (reachedBy U (t .lead ∷ t .others)) (rest d) w (ih d to)))
+      (go (t .turn) (turned-goes U b lead others k a) (λ d to. carried-tally d lead others (t .lead) (t .others)
+      (t .seeks) (t .looks) (reachedBy U (t .lead ∷ t .others)) (rest d) w (ih d to)))
     where
       t : Turned
       t = turned U lead others b
@@ -59,5 +62,6 @@ module _ (U : ℕ) where
         looks = omega (arith, w .paid, ih (c + 1) refl .looks);
       }
 
-  pub rounds-tallied : (lead : Reader) (others : List Reader) (b : ℕ) → Ready U b lead → AllReady U b others → TalliedFrom lead others b
+  pub rounds-tallied : (lead : Reader) (others : List Reader) (b : ℕ) → Ready U b lead → AllReady U b others
+      → TalliedFrom lead others b
   rounds-tallied = by-turns U TalliedFrom tally-step

@@ -16,8 +16,10 @@ use Rattle.seeklaws.proofs.LookLaws.{reached-le, looks-step}
 use Rattle.commonlaws.specs.Readers.{pagesOf, Ready, AllReady, moved, reachedBy, wordsOf, from, leftIn}
 use Rattle.commonlaws.specs.Next.{Turn, over, again, hit, Turned, turnOf, behindLead, turned}
 use Rattle.commonlaws.specs.Outcomes.{Carried, Goes}
-use Rattle.commonlaws.proofs.SharedLaws.{first-none, from-first, from-none, from-mono, shared-yes, shared-no, shared-skip, shared-none}
-use Rattle.commonlaws.proofs.AgreeLaws.{allReady-more, moved-ready, seek-plain, sought-first, sought-on, sought-least, Kept, stopped-kept, agree-kept, Says, agree-says, all-hold}
+use Rattle.commonlaws.proofs.SharedLaws.{first-none, from-first, from-none, from-mono}
+use Rattle.commonlaws.proofs.SharedLaws.{shared-yes, shared-no, shared-skip, shared-none}
+use Rattle.commonlaws.proofs.AgreeLaws.{allReady-more, moved-ready, seek-plain, sought-first, sought-on}
+use Rattle.commonlaws.proofs.AgreeLaws.{sought-least, Kept, stopped-kept, agree-kept, Says, agree-says, all-hold}
 
 -- the bound to which a turn goes on
 abbrev pub To : Turn → ℕ → Type 0
@@ -33,19 +35,29 @@ pub record Later (U b d : ℕ) (lead : Reader) (t : Turned) : Type 0 where
 goes-later : (U b d : ℕ) (lead : Reader) (others : List Reader) (t : Turned) (e : Turn) → t .lead .pages ≡ lead .pages
     → Goes U b lead others t e → To e d → Later U b d lead t
 goes-later U b d lead others t over p g h = absurd h
-goes-later U b d lead others t (again e) p g h = rw (← h) (record { fewer = rw p (g .fewer); ready = g .ready; all-ready = g .all-ready })
-goes-later U b d lead others t (hit c i) p g h = rw (← h) (record { fewer = rw p (g .fewer); ready = g .ready (c + 1) (omega arith); all-ready = g .all-ready (c + 1) (omega arith) })
+goes-later U b d lead others t (again e) p g h = rw (← h) (record {
+  fewer = rw p (g .fewer);
+  ready = g .ready;
+  all-ready = g .all-ready;
+})
+goes-later U b d lead others t (hit c i) p g h = rw (← h) (record {
+  fewer = rw p (g .fewer);
+  ready = g .ready (c + 1) (omega arith);
+  all-ready = g .all-ready (c + 1) (omega arith);
+})
 
 pub reached-words : (U d : ℕ) (rs : List Reader) → AllReady U d rs → reachedBy U rs ≤ wordsOf U (pagesOf rs)
 unfolding reachedBy wordsOf pagesOf
 reached-words U d [] k = omega arith
-reached-words U d (r ∷ rs) k = omega (arith, reached-le U (r .pages) (k .0 .rises) (r .cursor) (k .0 .placed), reached-words U d rs (k .1))
+reached-words U d (r ∷ rs) k =
+    omega (arith, reached-le U (r .pages) (k .0 .rises) (r .cursor) (k .0 .placed), reached-words U d rs (k .1))
 
 module _ (U b : ℕ) (lead : Reader) (others : List Reader) where
   abbrev pub this : Sought
   this = seek U (lead .pages) (lead .cursor) b
 
-  pub turned-none : this .found ≡ none → turned U lead others b ≡ behindLead (lead .pages) this over (stopped exhausted others)
+  pub turned-none : this .found ≡ none
+      → turned U lead others b ≡ behindLead (lead .pages) this over (stopped exhausted others)
   unfolding turned behindLead
   turned-none e = rw (e, turned)
 
@@ -62,13 +74,20 @@ module _ (U b : ℕ) (lead : Reader) (others : List Reader) where
       lead-pages = refl;
       pages = m .pages;
       paid = omega (arith, m .looks, looks-step U (lead .pages) (k .rises) (lead .cursor) b (k .placed));
-      reach = omega (arith, reached-le U (lead .pages) (k .rises) (this .cursor) (seek-placed U (lead .pages) (k .rises) (lead .cursor) b (k .placed)), rw (m .pages) at (reached-words U c (n .readers) (m .ready c (omega arith))));
+      reach = omega (
+        arith,
+        reached-le U (lead .pages) (k .rises) (this .cursor)
+            (seek-placed U (lead .pages) (k .rises) (lead .cursor) b (k .placed)),
+        rw (m .pages) at (reached-words U c (n .readers) (m .ready c (omega arith))),
+      );
     }
 
-    none-goes : this .found ≡ none → Goes U b lead others (behindLead (lead .pages) this over (stopped exhausted others)) over
+    none-goes : this .found ≡ none
+        → Goes U b lead others (behindLead (lead .pages) this over (stopped exhausted others)) over
     unfolding behindLead stopped sharedBy
     none-goes e = record {
-      shared = ap (sharedBy (pagesOf others)) (from-none b (lead .pages) (first-none b (lead .pages) (sym (seek-plain U b lead k) ∙ e)));
+      shared = ap (sharedBy (pagesOf others))
+          (from-none b (lead .pages) (first-none b (lead .pages) (sym (seek-plain U b lead k) ∙ e)));
       few = omega arith;
     }
 
@@ -83,12 +102,19 @@ module _ (U b : ℕ) (lead : Reader) (others : List Reader) where
           → Goes U b lead others (behindLead (lead .pages) this (turnOf c i d) n) (turnOf c i d)
       unfolding behindLead turnOf
       page-goes exhausted s = record {
-        shared = rw begins (shared-no (pagesOf others) c (from (c + 1) (lead .pages)) (s c (omega arith)) ∙ shared-none (pagesOf others) (lead .pages) (c + 1) (λ x h. s x (omega arith)));
+        shared = rw begins (shared-no (pagesOf others) c (from (c + 1) (lead .pages)) (s c (omega arith))
+            ∙ shared-none (pagesOf others) (lead .pages) (c + 1) (λ x h. s x (omega arith)));
         few = rw begins (omega (arith, m .seeks));
       }
       page-goes (larger d) s = record {
-        shared = rw begins (shared-no (pagesOf others) c (from (c + 1) (lead .pages)) (s .1 c (omega arith) (s .0)) ∙ shared-skip (pagesOf others) (lead .pages) (c + 1) d (omega (arith, s .0)) (λ x h l. s .1 x (omega arith) l));
-        few = rw begins (omega (arith, m .seeks, mul-le-mul-left (1 + length others) (from-mono (c + 1) d (lead .pages) (omega (arith, s .0)))));
+        shared = rw begins (shared-no (pagesOf others) c (from (c + 1) (lead .pages)) (s .1 c (omega arith) (s .0))
+            ∙ shared-skip (pagesOf others) (lead .pages) (c + 1) d (omega (arith, s .0))
+            (λ x h l. s .1 x (omega arith) l));
+        few = rw begins (omega (
+          arith,
+          m .seeks,
+          mul-le-mul-left (1 + length others) (from-mono (c + 1) d (lead .pages) (omega (arith, s .0))),
+        ));
         fewer = rw begins (omega (arith, from-mono (c + 1) d (lead .pages) (omega (arith, s .0))));
         later = omega (arith, sought-least U b lead k c i e, s .0);
         ready = unfold moved in moved-ready U b lead k d (omega (arith, sought-least U b lead k c i e, s .0));
@@ -96,7 +122,8 @@ module _ (U b : ℕ) (lead : Reader) (others : List Reader) where
       }
       page-goes agreed s = record {
         first = own;
-        shared = rw begins (shared-yes (pagesOf others) c (from (c + 1) (lead .pages)) (rw (m .pages) at (all-hold c (n .readers) s)));
+        shared = rw begins
+            (shared-yes (pagesOf others) c (from (c + 1) (lead .pages)) (rw (m .pages) at (all-hold c (n .readers) s)));
         few = rw begins (omega (arith, m .seeks));
         fewer = rw begins (omega arith);
         later = sought-least U b lead k c i e;
@@ -115,22 +142,29 @@ module _ (U b : ℕ) (lead : Reader) (others : List Reader) where
       found-kept : (c i : ℕ) → this .found ≡ page c i → AllReady U c others
       found-kept c i e = allReady-more U b c others a (sought-least U b lead k c i e)
 
-      pub turned-carried : Carried U lead others (turned U lead others b .lead) (turned U lead others b .others) (turned U lead others b .seeks) (turned U lead others b .looks)
+      pub turned-carried : let t = turned U lead others b in
+          Carried U lead others (t .lead) (t .others) (t .seeks) (t .looks)
       turned-carried = go (this .found) refl
         where
           go : (f : Found) → this .found ≡ f
-              → Carried U lead others (turned U lead others b .lead) (turned U lead others b .others) (turned U lead others b .seeks) (turned U lead others b .looks)
-          go none e = rw (turned-none e) (unfold behindLead moved in behind-carried b (stopped exhausted others) (stopped-kept U b others exhausted a))
-          go (page c i) e = rw (turned-page c i e) (unfold behindLead moved in behind-carried c (agree U c others) (agree-kept U c others (found-kept c i e)))
+              → let t = turned U lead others b in
+              Carried U lead others (t .lead) (t .others) (t .seeks) (t .looks)
+          go none e = rw (turned-none e) (unfold behindLead moved in
+              behind-carried b (stopped exhausted others) (stopped-kept U b others exhausted a))
+          go (page c i) e = rw (turned-page c i e) (unfold behindLead moved in
+              behind-carried c (agree U c others) (agree-kept U c others (found-kept c i e)))
 
       pub turned-goes : Goes U b lead others (turned U lead others b) (turned U lead others b .turn)
       turned-goes = go (this .found) refl
         where
-          go : (f : Found) → this .found ≡ f → Goes U b lead others (turned U lead others b) (turned U lead others b .turn)
+          go : (f : Found) → this .found ≡ f
+              → Goes U b lead others (turned U lead others b) (turned U lead others b .turn)
           go none e = rw (turned-none e) (unfold behindLead in none-goes e)
           go (page c i) e =
               let o = found-kept c i e in
-              rw (turned-page c i e) (unfold behindLead in page-goes c i e (agree U c others) (agree-kept U c others o) (agree U c others .ended) (agree-says U c others o))
+              rw (turned-page c i e) (unfold behindLead in page-goes c i e (agree U c others) (agree-kept U c others o)
+              (agree U c others .ended) (agree-says U c others o))
 
       pub turned-later : (d : ℕ) → To (turned U lead others b .turn) d → Later U b d lead (turned U lead others b)
-      turned-later d h = goes-later U b d lead others (turned U lead others b) (turned U lead others b .turn) (turned-carried .lead-pages) turned-goes h
+      turned-later d h = goes-later U b d lead others (turned U lead others b) (turned U lead others b .turn)
+          (turned-carried .lead-pages) turned-goes h

@@ -1,12 +1,14 @@
 -- The next common page at or above a bound, as the step rule finds it.
 --
---   Turn                  how a turn ends: one list has no page left, the lead is sought again for d, or all are on page c
+--   Turn                  how a turn ends:
+--                         one list has no page left, the lead is sought again for d, or all are on page c
 --   Turned                that, the readers after it, its seeks and looks
 --   turned U lead others b  one turn: the lead is sought for b, and the others in turn for the page that it found
 --   Next                  a page with its rank in the lead, or none; the readers after it, its seeks and looks
 --   nextIn f U lead others b    turns from the bound b until there is a page or no more, at most f
 --   nextCommon U lead others b  as many turns as it takes
---   midway U lead c i done rest  the next page where the lead is on page c of rank i, the readers done were sought for c
+--   midway U lead c i done rest  the next page where the lead is on page c of rank i,
+--                                the readers done were sought for c
 --                         and are on it, and the rest are yet to be sought
 --   plus s l n            n with s seeks and l looks more
 --   stop f lead others    nothing sought any more
@@ -14,12 +16,14 @@
 --   freshLead ls, freshOthers ls  the readers with which the rule begins on the lists ls
 --   commonFrom U ls b     the rule on the lists ls from the bound b on
 --   onward U n            a next page, listed, and the rule from the page behind it
---   firstShared b ls xs   by plain reading: the first of xs at least b that is in every list of ls, with its number; or none
+--   firstShared b ls xs   by plain reading:
+--                         the first of xs at least b that is in every list of ls, with its number; or none
 use mathlib.Core.List.{List, [], _∷_, _++_}
 use Prim.Native.Nat.{ℕ, zero, suc, _+_}
 use lib.ListN.{length}
 use Rattle.rules.specs.Seek.{fresh, Found, none, page, Sought, seek}
-use Rattle.rules.specs.Common.{Reader, Tally, Ended, agreed, exhausted, larger, Round, stopped, agree, readersOf, counted, nothing, rounds}
+use Rattle.rules.specs.Common.{Reader, Tally, Ended, agreed, exhausted, larger, Round}
+use Rattle.rules.specs.Common.{stopped, agree, readersOf, counted, nothing, rounds}
 use Rattle.rules.specs.Questions.{firstFrom, sharedBy}
 use Rattle.commonlaws.specs.Readers.{from, leadPages, otherPages}
 

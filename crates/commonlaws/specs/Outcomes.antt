@@ -17,7 +17,8 @@ use Rattle.rules.specs.Questions.{firstFrom}
 use Rattle.commonlaws.specs.Readers.{pagesOf, Ready, AllReady, AllOnPage, reachedBy, wordsOf, sharedFrom, leftIn}
 use Rattle.commonlaws.specs.Next.{Turn, over, again, hit, Turned, Next}
 
-pub record Carried (U : ℕ) (lead : Reader) (others : List Reader) (lead′ : Reader) (others′ : List Reader) (seeks looks : ℕ) : Type 0 where
+pub record Carried (U : ℕ) (lead : Reader) (others : List Reader) (lead′ : Reader) (others′ : List Reader)
+    (seeks looks : ℕ) : Type 0 where
   pub lead-pages : lead′ .pages ≡ lead .pages
   pub pages : pagesOf others′ ≡ pagesOf others
   pub paid : looks + reachedBy U (lead ∷ others) ≤ reachedBy U (lead′ ∷ others′) + seeks
@@ -27,7 +28,8 @@ pub record Over (b : ℕ) (lead : Reader) (others : List Reader) (seeks : ℕ) :
   pub shared : sharedFrom b lead others ≡ []
   pub few : seeks ≤ (1 + length others) * leftIn b lead + 1
 
-pub record Again (U b d : ℕ) (lead : Reader) (others : List Reader) (lead′ : Reader) (others′ : List Reader) (seeks : ℕ) : Type 0 where
+pub record Again (U b d : ℕ) (lead : Reader) (others : List Reader) (lead′ : Reader) (others′ : List Reader)
+    (seeks : ℕ) : Type 0 where
   pub shared : sharedFrom b lead others ≡ sharedFrom d lead others
   pub few : seeks + (1 + length others) * leftIn d lead ≤ (1 + length others) * leftIn b lead
   pub fewer : leftIn d lead < leftIn b lead
@@ -35,7 +37,8 @@ pub record Again (U b d : ℕ) (lead : Reader) (others : List Reader) (lead′ :
   pub ready : Ready U d lead′
   pub all-ready : AllReady U d others′
 
-pub record Hit (U b c i : ℕ) (lead : Reader) (others : List Reader) (lead′ : Reader) (others′ : List Reader) (seeks : ℕ) : Type 0 where
+pub record Hit (U b c i : ℕ) (lead : Reader) (others : List Reader) (lead′ : Reader) (others′ : List Reader)
+    (seeks : ℕ) : Type 0 where
   pub first : firstFrom c 0 (lead .pages) ≡ page c i
   pub shared : sharedFrom b lead others ≡ c ∷ sharedFrom (c + 1) lead others
   pub few : seeks + (1 + length others) * leftIn (c + 1) lead ≤ (1 + length others) * leftIn b lead

@@ -2,7 +2,8 @@
 --
 --   pagesOf rs        the lists that the readers rs read
 --   Rise U ls         every list rises below U
---   Ready U b r       the reader's list rises below U, and its cursor may be sought for b: all that it passed is below b
+--   Ready U b r       the reader's list rises below U, and its cursor may be sought for b:
+--                     all that it passed is below b
 --   AllReady U b rs   each of them is
 --   moved U b r       the reader after a seek for b
 --   OnPage c r        the reader's cursor is on the element c

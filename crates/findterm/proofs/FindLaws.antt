@@ -1,5 +1,5 @@
--- Laws of finding: the blocks of what is accepted can be walked, and a term found is the block of its word, whatever the
--- terms before it hold.
+-- Laws of finding: the blocks of what is accepted can be walked, and a term
+-- found is the block of its word, whatever the terms before it hold.
 use mathlib.Core.Path.{_≡_, _∙_}
 use mathlib.Core.List.{List}
 use Prim.Native.Nat.{ℕ, zero, suc, _+_, _≤_, _<_}
@@ -23,20 +23,25 @@ lies-walks : (h p : ℕ) (s b : List ℕ) → 4 ≤ h → Lies h p s b → (4 �
 lies-walks h p s b l i = (omega (arith, i .holds), i .within)
 
 pub index-walks : (s : List ℕ) → indexRefusal s ≡ Accepted → (t : ℕ) → t < indexT s → Walkable 11 t s
-index-walks s a t h i l = lies-walks 44 (blockAt 11 i s) s (termPart i s) (omega arith) (accepted-term s a i (omega arith) .lies)
+index-walks s a t h i l =
+    lies-walks 44 (blockAt 11 i s) s (termPart i s) (omega arith) (accepted-term s a i (omega arith) .lies)
 
 pub term-walks : (s : List ℕ) → termRefusal s ≡ Accepted → (k : ℕ) → k < 3 → Walkable 5 k s
 term-walks s a k h zero l = lies-walks 13 (blockAt 5 0 s) s (pagesOf s) (omega arith) (accepted-lists s a .pages-at)
-term-walks s a k h (suc zero) l = lies-walks 13 (blockAt 5 1 s) s (countsOf s) (omega arith) (accepted-lists s a .counts-at)
-term-walks s a k h (suc (suc zero)) l = lies-walks 13 (blockAt 5 2 s) s (positionsOf s) (omega arith) (accepted-lists s a .positions-at)
+term-walks s a k h (suc zero) l =
+    lies-walks 13 (blockAt 5 1 s) s (countsOf s) (omega arith) (accepted-lists s a .counts-at)
+term-walks s a k h (suc (suc zero)) l =
+    lies-walks 13 (blockAt 5 2 s) s (positionsOf s) (omega arith) (accepted-lists s a .positions-at)
 term-walks s a k h (suc (suc (suc i))) l = absurd (omega arith)
 
 -- A term found is the block of its word.
-pub found-block : (s : List ℕ) → Bytes s → indexRefusal s ≡ Accepted → (t : ℕ) → t < indexT s → (r : List ℕ) → r ≡ termPart t s → r ≡ termBlock (indexN s) (wordOf t s)
+pub found-block : (s : List ℕ) → Bytes s → indexRefusal s ≡ Accepted → (t : ℕ) → t < indexT s → (r : List ℕ)
+    → r ≡ termPart t s → r ≡ termBlock (indexN s) (wordOf t s)
 found-block s b a t h r e = e ∙ accepted-part s b a t h
 
--- It depends on where the terms before it end, and not on what they hold: two accepted indexes whose terms before number t
--- end at one place, and that agree from there as far as that term of the first reaches, have the same term number t.
+-- It depends on where the terms before it end, and not on what they hold: two accepted
+-- indexes whose terms before number t end at one place, and that agree from there as
+-- far as that term of the first reaches, have the same term number t.
 pub found-depends : (s u : List ℕ) → indexRefusal s ≡ Accepted → (t : ℕ) → t < indexT s
     → termAt t s ≡ termAt t u → termAt t s + beAt 4 s (termAt t s) ≤ length u
     → Alike s u (termAt t s) (termAt t s + beAt 4 s (termAt t s)) → termPart t s ≡ termPart t u

@@ -4,11 +4,26 @@
 --   toldOf r room the same, of what an exported call answers and the room after it
 --   heard a       the result of a run of questions, its refusal as a number
 --   heardOf r room the same, of what the exported call answers and the room after it
+--
+-- What each exported call promises, by name; its contract cites the predicate [01 Promises with no slack].
+--
+--   HostListChecked s r                 jf_check_list answers r to the bytes s
+--   HostListWritten U xs room r after   jf_write_list answers r, and leaves the room as `after`
+--   HostTermChecked s r                 jf_check_term
+--   HostTermWritten N t room r after    jf_write_term, of the word t
+--   HostIndexChecked s r                jf_check_index
+--   HostIndexClosed buffer used N T r after  jf_close_index
+--   HostAnswered s qs room r after      jf_ask, with the questions qs on the card s
+use mathlib.Core.Path.{_≡_}
 use mathlib.Core.List.{List}
 use Prim.Native.Nat.{ℕ}
 use Rattle.rules.specs.Refusal.{number}
-use Rattle.rules.specs.Write.{Made}
-use Rattle.rules.specs.Ask.{Asked}
+use Rattle.rules.specs.ReadList.{listRefusal}
+use Rattle.rules.specs.Write.{Made, writeList}
+use Rattle.rules.specs.Term.{Word, writeTerm}
+use Rattle.rules.specs.ReadTerm.{termRefusal}
+use Rattle.rules.specs.Index.{indexRefusal, closeIndex}
+use Rattle.rules.specs.Ask.{Asked, ask}
 use Rattle.jundefola.specs.declared.HostWritten.{HostWritten}
 use Rattle.jundefola.specs.declared.HostAsked.{HostAsked}
 
@@ -34,3 +49,24 @@ heard a = record { refusal = number (a .refusal); answered = a .answered; used =
 
 abbrev pub heardOf : HostAsked → List ℕ → Heard
 heardOf r room = record { refusal = r .refusal; answered = r .answered; used = r .used; room = room }
+
+abbrev pub HostListChecked : List ℕ → ℕ → Type 0
+HostListChecked s r = r ≡ number (listRefusal s)
+
+abbrev pub HostListWritten : ℕ → List ℕ → List ℕ → HostWritten → List ℕ → Type 0
+HostListWritten U xs room r after = toldOf r after ≡ told (writeList U xs room)
+
+abbrev pub HostTermChecked : List ℕ → ℕ → Type 0
+HostTermChecked s r = r ≡ number (termRefusal s)
+
+abbrev pub HostTermWritten : ℕ → Word → List ℕ → HostWritten → List ℕ → Type 0
+HostTermWritten N t room r after = toldOf r after ≡ told (writeTerm N t room)
+
+abbrev pub HostIndexChecked : List ℕ → ℕ → Type 0
+HostIndexChecked s r = r ≡ number (indexRefusal s)
+
+abbrev pub HostIndexClosed : List ℕ → ℕ → ℕ → ℕ → HostWritten → List ℕ → Type 0
+HostIndexClosed buffer used N T r after = toldOf r after ≡ told (closeIndex buffer used N T)
+
+abbrev pub HostAnswered : List ℕ → List ℕ → List ℕ → HostAsked → List ℕ → Type 0
+HostAnswered s qs room r after = heardOf r after ≡ heard (ask s qs room)

@@ -2,14 +2,9 @@
 
 ghost use mathlib.Core.Path.{_≡_};
 ghost use Rattle.rules.specs.Refusal.{number};
-ghost use Rattle.rules.specs.ReadList.{listRefusal};
-ghost use Rattle.rules.specs.Write.{writeList};
-ghost use Rattle.rules.specs.Term.{writeTerm};
-ghost use Rattle.rules.specs.ReadTerm.{termRefusal};
-ghost use Rattle.rules.specs.Index.{indexRefusal, closeIndex};
-ghost use Rattle.rules.specs.Ask.{ask};
 ghost use Rattle.writeterm.specs.Reach.{wordOf};
-ghost use Rattle.jundefola.specs.Host.{told, toldOf, heard, heardOf};
+ghost use Rattle.jundefola.specs.Host.{HostListChecked, HostListWritten, HostTermChecked, HostTermWritten};
+ghost use Rattle.jundefola.specs.Host.{HostIndexChecked, HostIndexClosed, HostAnswered};
 use rules::Outcome;
 use rules::Refusal;
 use rules::Written;
@@ -55,7 +50,7 @@ fn outcome(o: Outcome) -> HostAsked
 // Writes a list below u into the room.
 #[no_mangle]
 pub extern "C" fn jf_write_list(u: u32, list: &[u32], room: &mut [u8]) -> HostWritten
-    ensures { λ r. ⌜ toldOf r (now (room .exit)) ≡ told (writeList u (now (list .entry)) (now (room .entry))) ⌝ }
+    ensures { λ r. ⌜ HostListWritten u (now (list .entry)) (now (room .entry)) r (now (room .exit)) ⌝ }
 {
     written(writelist::write_list(u, list, room))
 }
@@ -63,7 +58,7 @@ pub extern "C" fn jf_write_list(u: u32, list: &[u32], room: &mut [u8]) -> HostWr
 // The refusal of a list block.
 #[no_mangle]
 pub extern "C" fn jf_check_list(block: &[u8]) -> u32
-    ensures { λ r. ⌜ r ≡ number (listRefusal (now (block .entry))) ⌝ }
+    ensures { λ r. ⌜ HostListChecked (now (block .entry)) r ⌝ }
 {
     numbers::number_of(checklist::check_list(block))
 }
@@ -77,7 +72,7 @@ pub extern "C" fn jf_write_term(
     positions: &[u32],
     room: &mut [u8],
 ) -> HostWritten
-    ensures { λ r. ⌜ toldOf r (now (room .exit)) ≡ told (writeTerm n (wordOf (now (pages .entry)) (now (counts .entry)) (now (positions .entry))) (now (room .entry))) ⌝ }
+    ensures { λ r. ⌜ HostTermWritten n (wordOf (now (pages .entry)) (now (counts .entry)) (now (positions .entry))) (now (room .entry)) r (now (room .exit)) ⌝ }
 {
     written(writeterm::write_term(n, pages, counts, positions, room))
 }
@@ -85,7 +80,7 @@ pub extern "C" fn jf_write_term(
 // The refusal of a term block.
 #[no_mangle]
 pub extern "C" fn jf_check_term(block: &[u8]) -> u32
-    ensures { λ r. ⌜ r ≡ number (termRefusal (now (block .entry))) ⌝ }
+    ensures { λ r. ⌜ HostTermChecked (now (block .entry)) r ⌝ }
 {
     numbers::number_of(checkterm::check_term(block))
 }
@@ -93,7 +88,7 @@ pub extern "C" fn jf_check_term(block: &[u8]) -> u32
 // Closes an index of t terms that lie from byte 11 on in the first `used` bytes of the buffer.
 #[no_mangle]
 pub extern "C" fn jf_close_index(buffer: &mut [u8], used: usize, n: u32, t: u32) -> HostWritten
-    ensures { λ r. ⌜ toldOf r (now (buffer .exit)) ≡ told (closeIndex (now (buffer .entry)) used n t) ⌝ }
+    ensures { λ r. ⌜ HostIndexClosed (now (buffer .entry)) used n t r (now (buffer .exit)) ⌝ }
 {
     written(closeindex::close_index(buffer, used, n, t))
 }
@@ -101,7 +96,7 @@ pub extern "C" fn jf_close_index(buffer: &mut [u8], used: usize, n: u32, t: u32)
 // The refusal of an index.
 #[no_mangle]
 pub extern "C" fn jf_check_index(card: &[u8]) -> u32
-    ensures { λ r. ⌜ r ≡ number (indexRefusal (now (card .entry))) ⌝ }
+    ensures { λ r. ⌜ HostIndexChecked (now (card .entry)) r ⌝ }
 {
     numbers::number_of(checkindex::check_index(card))
 }
@@ -109,7 +104,7 @@ pub extern "C" fn jf_check_index(card: &[u8]) -> u32
 // Asks the card: the answers stand one after the other in the room.
 #[no_mangle]
 pub extern "C" fn jf_ask(card: &[u8], questions: &[u32], room: &mut [u32]) -> HostAsked
-    ensures { λ r. ⌜ heardOf r (now (room .exit)) ≡ heard (ask (now (card .entry)) (now (questions .entry)) (now (room .entry))) ⌝ }
+    ensures { λ r. ⌜ HostAnswered (now (card .entry)) (now (questions .entry)) (now (room .entry)) r (now (room .exit)) ⌝ }
 {
     outcome(ask::ask(card, questions, room))
 }

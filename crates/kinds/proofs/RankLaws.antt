@@ -32,7 +32,7 @@ pub record Ranked (s sh : List ℕ) (q : Query) (i c : ℕ) : Type 0 where
   pub there : getD (pagesAt s sh i) (rankBy sh q i) 0 ≡ c
   pub small : rankBy sh q i < 16777216
 
-ranked : (s sh : List ℕ) (q : Query) (i c : ℕ) → ListAt s sh i → Held (boundIn sh) (pagesAt s sh i) (cursorIn q i) → OnPage c (readerAt s sh q i) → Ranked s sh q i c
+pub ranked : (s sh : List ℕ) (q : Query) (i c : ℕ) → ListAt s sh i → Held (boundIn sh) (pagesAt s sh i) (cursorIn q i) → OnPage c (readerAt s sh q i) → Ranked s sh q i c
 unfolding readerAt rankBy markOf cursorBit placeOf pagesAt shapeIn
 ranked s sh q i c l h p =
     let U = boundIn sh in
@@ -57,7 +57,7 @@ ranked s sh q i c l h p =
 
 -- ---- all of them
 
-all-on : (c : ℕ) (f : ℕ → Reader) (n i : ℕ) → AllOnPage c (span f i n) → (j : ℕ) → i ≤ j → j < i + n → OnPage c (f j)
+pub all-on : (c : ℕ) (f : ℕ → Reader) (n i : ℕ) → AllOnPage c (span f i n) → (j : ℕ) → i ≤ j → j < i + n → OnPage c (f j)
 unfolding span
 all-on c f zero i a j l h = absurd (omega arith)
 all-on c f (suc n) i a j l h =

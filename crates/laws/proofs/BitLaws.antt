@@ -2,13 +2,16 @@
 -- Runs of words are in RunLaws, counts in CountLaws.
 use mathlib.Core.Path.{_≡_, refl, sym, ap, _∙_, subst}
 use mathlib.Core.Logic.{_⊎_, inl, inr}
-use Prim.Native.Nat.{ℕ, zero, suc, _+_, _-_, _*_, _/_, _%_, _^_, _≤_, _<_, suc-le-suc, max}
-use native.Mathlib.Nat.{le-of-suc-le-suc, not-suc-le-zero, mod-lt, div-one, one-mul, add-comm, mul-assoc, pow-succ', div-div-eq-div-mul, mul-add-div-right, mul-add-mod-self-right, mul-mod-left, mod-add-mod, zero-lt-suc, pow-suc, add-mul, mod-eq-of-lt, lt-of-lt-of-le, div-eq-of-lt, mod-one}
+use Prim.Native.Nat.{ℕ, zero, suc, _+_, _-_, _*_, _/_, _%_, _^_, _≤_, _<_, suc-le-suc}
+use native.Mathlib.Nat.{le-of-suc-le-suc, not-suc-le-zero, mod-lt, div-one, one-mul, mul-assoc, pow-succ'}
+use native.Mathlib.Nat.{div-div-eq-div-mul, mul-add-div-right, mul-add-mod-self-right, mul-mod-left, mod-add-mod}
+use native.Mathlib.Nat.{zero-lt-suc, pow-suc, add-mul, mod-eq-of-lt, lt-of-lt-of-le, div-eq-of-lt, mod-one}
 use native.Mathlib.Omega.{arith}
 use lib.Arith.{digits-lt}
 use lib.Dec.{lit<}
-use lib.Pow.{pow-pos, pow-add, pow-mono, shl-exact, shl-shr, shr-shr, shr-lt, shr-mod, mod-pow-add, mod-mod-pow, high, split, shl-lt}
-use lib.Bits.{bitAnd, bitOr, and-mask, and-high, and-step, and-self, or-shifted-r, shifted-even, or-shr, or-step}
+use lib.Pow.{pow-pos, pow-add, pow-mono, shl-exact, shl-shr, shr-shr}
+use lib.Pow.{shr-lt, shr-mod, mod-pow-add, mod-mod-pow, high, split}
+use lib.Bits.{bitAnd, bitOr, and-mask, and-high, and-step, and-self, or-shifted-r, shifted-even}
 use lib.Count.{trailingZeros, under}
 use Rattle.rules.specs.Runs.{bit}
 
@@ -45,24 +48,32 @@ pub field-one : (hi lo e w b : ℕ) → (lo / 2 ^ b) % 2 ^ w ≡ (hi * 2 ^ (e + 
 field-one hi lo e w b = sym (ap (λ (x : ℕ). x % 2 ^ w) (drop-low hi lo (e + w) b) ∙ drop-high hi (lo / 2 ^ b) e w)
 
 -- the field crosses into the high word, of which `hi << d` keeps what fits
-pub field-two : (hi lo d b e w : ℕ) → b + d ≡ e + w → lo < 2 ^ (d + b) → bitOr (lo / 2 ^ b) ((hi * 2 ^ d) % 2 ^ (b + d)) % 2 ^ w ≡ (hi * 2 ^ (d + b) + lo) / 2 ^ b % 2 ^ w
+pub field-two : (hi lo d b e w : ℕ) → b + d ≡ e + w → lo < 2 ^ (d + b)
+    → bitOr (lo / 2 ^ b) ((hi * 2 ^ d) % 2 ^ (b + d)) % 2 ^ w ≡ (hi * 2 ^ (d + b) + lo) / 2 ^ b % 2 ^ w
 field-two hi lo d b e w h l =
-    rw (shl-keeps, or-shifted-r (hi % 2 ^ b) d (lo / 2 ^ b) (shr-lt d b l), drop-low, ← shl-keeps, h) (wrap-add (hi * 2 ^ d) (lo / 2 ^ b) e w)
+    rw (shl-keeps, or-shifted-r (hi % 2 ^ b) d (lo / 2 ^ b) (shr-lt d b l), drop-low, ← shl-keeps, h)
+    (wrap-add (hi * 2 ^ d) (lo / 2 ^ b) e w)
 
 -- the two branches of `field2`, as the machine has them
-pub near : (hi lo b w : ℕ) → w < 64 → b + w ≤ 64 → bitAnd (lo / 2 ^ b) ((1 * 2 ^ w) % 2 ^ 64 - 1) ≡ (hi * 2 ^ 64 + lo) / 2 ^ b % 2 ^ w
+pub near : (hi lo b w : ℕ) → w < 64 → b + w ≤ 64
+    → bitAnd (lo / 2 ^ b) ((1 * 2 ^ w) % 2 ^ 64 - 1) ≡ (hi * 2 ^ 64 + lo) / 2 ^ b % 2 ^ w
 near hi lo b w h l =
     let s : 64 - (w + b) + w + b ≡ 64 = omega arith in
-    rw (one-shl w h, and-mask) (subst (λ (n : ℕ). lo / 2 ^ b % 2 ^ w ≡ (hi * 2 ^ n + lo) / 2 ^ b % 2 ^ w) s (field-one hi lo (64 - (w + b)) w b))
+    rw (one-shl w h, and-mask)
+    (subst (λ (n : ℕ). lo / 2 ^ b % 2 ^ w ≡ (hi * 2 ^ n + lo) / 2 ^ b % 2 ^ w) s (field-one hi lo (64 - (w + b)) w b))
 
-pub far : (hi lo b w : ℕ) → w < 64 → b < 64 → lo < 2 ^ 64 → bitAnd (bitOr (lo / 2 ^ b) ((hi * 2 ^ (64 - b)) % 2 ^ 64)) ((1 * 2 ^ w) % 2 ^ 64 - 1) ≡ (hi * 2 ^ 64 + lo) / 2 ^ b % 2 ^ w
+pub far : (hi lo b w : ℕ) → w < 64 → b < 64 → lo < 2 ^ 64
+    → bitAnd (bitOr (lo / 2 ^ b) ((hi * 2 ^ (64 - b)) % 2 ^ 64)) ((1 * 2 ^ w) % 2 ^ 64 - 1)
+    ≡ (hi * 2 ^ 64 + lo) / 2 ^ b % 2 ^ w
 far hi lo b w h hb l =
     let s : 64 - b + b ≡ 64 = omega arith in
     let t : b + (64 - b) ≡ 64 = omega arith in
     let u : b + (64 - b) ≡ 64 - w + w = omega arith in
-    rw (one-shl w h, and-mask)
-    (subst (λ (n : ℕ). bitOr (lo / 2 ^ b) ((hi * 2 ^ (64 - b)) % 2 ^ n) % 2 ^ w ≡ (hi * 2 ^ 64 + lo) / 2 ^ b % 2 ^ w) t
-    (subst (λ (n : ℕ). lo < 2 ^ n → bitOr (lo / 2 ^ b) ((hi * 2 ^ (64 - b)) % 2 ^ (b + (64 - b))) % 2 ^ w ≡ (hi * 2 ^ n + lo) / 2 ^ b % 2 ^ w) s (field-two hi lo (64 - b) b (64 - w) w u) l))
+    let kept : ℕ → ℕ = λ n. bitOr (lo / 2 ^ b) ((hi * 2 ^ (64 - b)) % 2 ^ n) % 2 ^ w in
+    let whole : ℕ → ℕ = λ n. (hi * 2 ^ n + lo) / 2 ^ b % 2 ^ w in
+    let two = field-two hi lo (64 - b) b (64 - w) w u in
+    let all = subst (λ (n : ℕ). lo < 2 ^ n → kept (b + (64 - b)) ≡ whole n) s two l in
+    rw (one-shl w h, and-mask) (subst (λ (n : ℕ). kept n ≡ whole 64) t all)
 
 -- ---- a field that is placed
 
@@ -70,23 +81,25 @@ far hi lo b w h hb l =
 placed-lo : (acc v b : ℕ) → b < 64 → acc < 2 ^ b → bitOr acc ((v * 2 ^ b) % 2 ^ 64) ≡ v % 2 ^ (64 - b) * 2 ^ b + acc
 placed-lo acc v b g h =
     let s : 64 - b + b ≡ 64 = omega arith in
-    subst (λ (n : ℕ). bitOr acc ((v * 2 ^ b) % 2 ^ n) ≡ v % 2 ^ (64 - b) * 2 ^ b + acc) s (rw shl-keeps (or-shifted-r (v % 2 ^ (64 - b)) b acc h))
+    subst (λ (n : ℕ). bitOr acc ((v * 2 ^ b) % 2 ^ n) ≡ v % 2 ^ (64 - b) * 2 ^ b + acc) s
+    (rw shl-keeps (or-shifted-r (v % 2 ^ (64 - b)) b acc h))
 
-pub placed-one : (acc v b w : ℕ) → b < 64 → acc < 2 ^ b → v < 2 ^ w → b + w ≤ 64 → bitOr acc ((v * 2 ^ b) % 2 ^ 64) ≡ v * 2 ^ b + acc
+pub placed-one : (acc v b w : ℕ) → b < 64 → acc < 2 ^ b → v < 2 ^ w → b + w ≤ 64
+    → bitOr acc ((v * 2 ^ b) % 2 ^ 64) ≡ v * 2 ^ b + acc
 placed-one acc v b w g h l t =
     let k : w ≤ 64 - b = omega arith in
     placed-lo acc v b g h ∙ ap (λ (x : ℕ). x * 2 ^ b + acc) (mod-eq-of-lt (lt-of-lt-of-le l (pow-mono k)))
 
-pub placed-two : (acc v b : ℕ) → b < 64 → acc < 2 ^ b → v / 2 ^ (64 - b) * 2 ^ 64 + bitOr acc ((v * 2 ^ b) % 2 ^ 64) ≡ v * 2 ^ b + acc
+pub placed-two : (acc v b : ℕ) → b < 64 → acc < 2 ^ b
+    → v / 2 ^ (64 - b) * 2 ^ 64 + bitOr acc ((v * 2 ^ b) % 2 ^ 64) ≡ v * 2 ^ b + acc
 placed-two acc v b g h =
     let d : ℕ = 64 - b in
     let s : d + b ≡ 64 = omega arith in
-    let p : v / 2 ^ d * 2 ^ 64 ≡ v / 2 ^ d * 2 ^ d * 2 ^ b = subst (λ (n : ℕ). v / 2 ^ d * 2 ^ n ≡ v / 2 ^ d * 2 ^ d * 2 ^ b) s (rw (pow-add, mul-assoc)) in
-    let q : v * 2 ^ b ≡ v / 2 ^ d * 2 ^ d * 2 ^ b + v % 2 ^ d * 2 ^ b = ap (λ (x : ℕ). x * 2 ^ b) (sym (split v d)) ∙ add-mul (v / 2 ^ d * 2 ^ d) (v % 2 ^ d) (2 ^ b) in
+    let p : v / 2 ^ d * 2 ^ 64 ≡ v / 2 ^ d * 2 ^ d * 2 ^ b =
+    subst (λ (n : ℕ). v / 2 ^ d * 2 ^ n ≡ v / 2 ^ d * 2 ^ d * 2 ^ b) s (rw (pow-add, mul-assoc)) in
+    let q : v * 2 ^ b ≡ v / 2 ^ d * 2 ^ d * 2 ^ b + v % 2 ^ d * 2 ^ b =
+    ap (λ (x : ℕ). x * 2 ^ b) (sym (split v d)) ∙ add-mul (v / 2 ^ d * 2 ^ d) (v % 2 ^ d) (2 ^ b) in
     omega (arith, placed-lo acc v b g h)
-
-pub placed-lt : (acc v b w : ℕ) → acc < 2 ^ b → v < 2 ^ w → v * 2 ^ b + acc < 2 ^ (w + b)
-placed-lt acc v b w h l = rw pow-add (digits-lt l h)
 
 -- ---- bits
 
@@ -98,14 +111,17 @@ pub bit-suc : (n j : ℕ) → bit n (suc j) ≡ bit (n / 2) j
 unfolding bit
 bit-suc n j = rw (pow-succ', div-div-eq-div-mul)
 
-pub bit-cases : (x j : ℕ) → (bit x j ≡ 0) ⊎ (bit x j ≡ 1)
-unfolding bit
-bit-cases x j = go (x / 2 ^ j % 2) (mod-lt (x / 2 ^ j) (zero-lt-suc 1))
+pub digit : (x : ℕ) → (x % 2 ≡ 0) ⊎ (x % 2 ≡ 1)
+digit x = go (x % 2) (omega arith)
   where
     go : (d : ℕ) → d < 2 → (d ≡ 0) ⊎ (d ≡ 1)
     go zero h = inl refl
     go (suc zero) h = inr refl
     go (suc (suc d)) h = absurd (omega arith)
+
+pub bit-cases : (x j : ℕ) → (bit x j ≡ 0) ⊎ (bit x j ≡ 1)
+unfolding bit
+bit-cases x j = digit (x / 2 ^ j)
 
 pub one-zero : {n : ℕ} → n ≡ 1 → n ≡ 0 → ⊥
 one-zero p q = omega arith
@@ -154,28 +170,6 @@ pub bit-beyond : (x i : ℕ) → x < 2 ^ i → bit x i ≡ 0
 unfolding bit
 bit-beyond x i h = ap (λ (y : ℕ). y % 2) (div-eq-of-lt h)
 
-pub bit-up : (v q b j : ℕ) → bit (v * 2 ^ (q + b)) (q + j) ≡ bit (v * 2 ^ b) j
-unfolding bit
-bit-up v q b j = rw (add-comm q b, pow-add, ← mul-assoc, ← shr-shr, shl-shr)
-
-pub bit-over : (v d b j : ℕ) → bit (v * 2 ^ b) (b + (d + j)) ≡ bit (v / 2 ^ d) j
-unfolding bit
-bit-over v d b j = rw (← shr-shr (v * 2 ^ b) b (d + j), shl-shr, ← shr-shr v d j)
-
-or-odd : (a b : ℕ) → bitOr a b % 2 ≡ max (a % 2) (b % 2)
-or-odd a b = rw or-step (omega arith)
-
-pub bit-or : (a b j : ℕ) → bit (bitOr a b) j ≡ max (bit a j) (bit b j)
-unfolding bit
-bit-or a b j = ap (λ (x : ℕ). x % 2) (or-shr a b j) ∙ or-odd (a / 2 ^ j) (b / 2 ^ j)
-
--- the bits of v * 2 ^ o are 0 outside its field
-pub outside : (v o w i : ℕ) → v < 2 ^ w → (i < o) ⊎ (o + w ≤ i) → bit (v * 2 ^ o) i ≡ 0
-outside v o w i l (inl h) = bit-cleared v o i h
-outside v o w i l (inr h) =
-    let g : w + o ≤ i = omega arith in
-    bit-beyond (v * 2 ^ o) i (lt-of-lt-of-le (shl-lt w o l) (pow-mono g))
-
 -- a number whose d low bits are 0
 pub bits-none : (x d : ℕ) → ((j : ℕ) → j < d → bit x j ≡ 0) → x % 2 ^ d ≡ 0
 unfolding bit
@@ -183,7 +177,8 @@ bits-none x zero h = mod-one x
 bits-none x (suc d) h =
     let e : 1 + d ≡ suc d = omega arith in
     let t : x / 2 ^ d % 2 ≡ 0 = h d (omega arith) in
-    subst (λ (k : ℕ). x % 2 ^ k ≡ 0) e (mod-pow-add x 1 d ∙ rw (t, bits-none x d (λ j l. h j (omega arith))) (omega arith))
+    subst (λ (k : ℕ). x % 2 ^ k ≡ 0) e
+    (mod-pow-add x 1 d ∙ rw (t, bits-none x d (λ j l. h j (omega arith))) (omega arith))
 
 -- ---- trailing zeros
 
@@ -193,7 +188,8 @@ unfolding trailingZeros
 tz-below zero n j h = absurd (not-suc-le-zero h)
 tz-below (suc k) n j h = go (λ i. tz-below k (n / 2) i) (n % 2) refl j h
   where
-    go : ((i : ℕ) → i < trailingZeros k (n / 2) → bit (n / 2) i ≡ 0) → (d : ℕ) → n % 2 ≡ d → (j : ℕ) → j < under d (trailingZeros k (n / 2)) → bit n j ≡ 0
+    go : ((i : ℕ) → i < trailingZeros k (n / 2) → bit (n / 2) i ≡ 0) → (d : ℕ) → n % 2 ≡ d → (j : ℕ)
+        → j < under d (trailingZeros k (n / 2)) → bit n j ≡ 0
     go ih zero e zero h = bit-zero n ∙ e
     go ih zero e (suc j) h = bit-suc n j ∙ ih j (le-of-suc-le-suc h)
     go ih (suc d) e j h = absurd (not-suc-le-zero h)
@@ -204,7 +200,8 @@ unfolding trailingZeros
 tz-set zero n h = absurd (not-suc-le-zero h)
 tz-set (suc k) n h = go (tz-set k (n / 2)) (n % 2) refl (mod-lt n (zero-lt-suc 1)) h
   where
-    go : (trailingZeros k (n / 2) < k → bit (n / 2) (trailingZeros k (n / 2)) ≡ 1) → (d : ℕ) → n % 2 ≡ d → d < 2 → under d (trailingZeros k (n / 2)) < suc k → bit n (under d (trailingZeros k (n / 2))) ≡ 1
+    go : (trailingZeros k (n / 2) < k → bit (n / 2) (trailingZeros k (n / 2)) ≡ 1) → (d : ℕ) → n % 2 ≡ d → d < 2
+        → under d (trailingZeros k (n / 2)) < suc k → bit n (under d (trailingZeros k (n / 2))) ≡ 1
     go ih zero e l h = bit-suc n (trailingZeros k (n / 2)) ∙ ih (le-of-suc-le-suc h)
     go ih (suc zero) e l h = bit-zero n ∙ e
     go ih (suc (suc d)) e l h = absurd (omega arith)
@@ -220,7 +217,8 @@ tz-lt (suc k) n p h = go (λ (p : 0 < n / 2). tz-lt k (n / 2) p (omega (arith, p
     go ih (suc d) e = zero-lt-suc k
 
 -- `x & (x - 1)` clears the lowest 1, which is at t
-pub clear-lowest : (x t : ℕ) → ((j : ℕ) → j < t → bit x j ≡ 0) → bit x t ≡ 1 → bitAnd x (x - 1) ≡ x / 2 ^ suc t * 2 ^ suc t
+pub clear-lowest : (x t : ℕ) → ((j : ℕ) → j < t → bit x j ≡ 0) → bit x t ≡ 1
+    → bitAnd x (x - 1) ≡ x / 2 ^ suc t * 2 ^ suc t
 clear-lowest x zero z o =
     let e : x % 2 ≡ 1 = sym (bit-zero x) ∙ o in
     let h : (x - 1) / 2 ≡ x / 2 = omega arith in
@@ -235,10 +233,12 @@ clear-lowest x (suc t) z o =
     and-step x (x - 1) ∙ rw (e, h, ih, p, q, ← mul-assoc) (omega arith)
 
 -- `x & !((1 << f) - 1)` clears the f low bits
-pub clear-low : (x f : ℕ) → x < 2 ^ 64 → f < 64 → bitAnd x ((2 ^ 64 - 1) - ((1 * 2 ^ f) % 2 ^ 64 - 1)) ≡ x / 2 ^ f * 2 ^ f
+pub clear-low : (x f : ℕ) → x < 2 ^ 64 → f < 64
+    → bitAnd x ((2 ^ 64 - 1) - ((1 * 2 ^ f) % 2 ^ 64 - 1)) ≡ x / 2 ^ f * 2 ^ f
 clear-low x f l h =
     let s : 64 - f + f ≡ 64 = omega arith in
-    let m : (2 ^ 64 - 1) - ((1 * 2 ^ f) % 2 ^ 64 - 1) ≡ 2 ^ (64 - f + f) - 2 ^ f = rw (one-shl f h, s) (omega (arith, pow-pos f)) in
+    let m : (2 ^ 64 - 1) - ((1 * 2 ^ f) % 2 ^ 64 - 1) ≡ 2 ^ (64 - f + f) - 2 ^ f =
+    rw (one-shl f h, s) (omega (arith, pow-pos f)) in
     let l' : x < 2 ^ (64 - f + f) = rw s l in
     ap (bitAnd x) m ∙ and-high x (64 - f) f ∙ ap (λ (y : ℕ). y * 2 ^ f) (shr-mod (64 - f) f l')
 

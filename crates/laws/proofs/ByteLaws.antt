@@ -3,12 +3,14 @@ use mathlib.Core.Path.{_≡_, refl, sym, ap, ap₂, _∙_}
 use mathlib.Core.List.{List, [], _∷_, _++_, append-assoc, append-nil}
 use mathlib.Core.Logic.{_⊎_, inl, inr}
 use Prim.Native.Nat.{ℕ, zero, suc, _+_, _*_, _/_, _%_, _^_, _≤_, _<_}
-use native.Mathlib.Nat.{mod-lt, div-one, mul-assoc, zero-lt-suc, add-zero, add-suc, add-assoc, pow-suc, mod-one, mul-comm, one-le-pow, zero-add, div-div-eq-div-mul, mul-zero, mul-suc, mod-eq-of-lt}
+use native.Mathlib.Nat.{mod-lt, div-one, mul-assoc, zero-lt-suc, add-zero, add-suc, add-assoc, pow-suc, mod-one}
+use native.Mathlib.Nat.{mul-comm, one-le-pow, zero-add, div-div-eq-div-mul, mul-zero, mul-suc, mod-eq-of-lt}
 use native.Mathlib.Decide.{decLt}
 use native.Mathlib.Omega.{arith}
 use lib.Arith.{mod-mul}
 use lib.Dec.{lit<}
-use lib.ListN.{length, getD, take, drop, set, length-append, length-drop, take-append-drop, List·getD-append, List·getD-eq-default}
+use lib.ListN.{length, getD, take, drop, set, length-append, length-drop}
+use lib.ListN.{take-append-drop, List·getD-append, List·getD-eq-default}
 use lib.Seq.{sets, getD-append-add, getD-take, getD-drop, length-take-le, drop-drop, ext-getD, sets-eq, getD-set-other}
 use lib.Pow.{pow-add, shr-shr}
 use Rattle.rules.specs.Bytes.{be, beAt}
@@ -27,10 +29,12 @@ beAt-lt zero s at h = lit< tt
 beAt-lt (suc k) s at h = rw pow-suc (omega (arith, beAt-lt k s at h, h (at + k)))
 
 -- two lists that agree on the bytes read give one number
-pub beAt-same : (m : ℕ) (d e : List ℕ) (at : ℕ) → ((i : ℕ) → at ≤ i → i < at + m → getD d i 0 ≡ getD e i 0) → beAt m d at ≡ beAt m e at
+pub beAt-same : (m : ℕ) (d e : List ℕ) (at : ℕ) → ((i : ℕ) → at ≤ i → i < at + m → getD d i 0 ≡ getD e i 0)
+    → beAt m d at ≡ beAt m e at
 unfolding beAt
 beAt-same zero d e at h = refl
-beAt-same (suc m) d e at h = ap₂ (λ (x y : ℕ). x * 256 + y) (beAt-same m d e at (λ i l u. h i l (omega arith))) (h (at + m) (omega arith) (omega arith))
+beAt-same (suc m) d e at h = ap₂ (λ (x y : ℕ). x * 256 + y) (beAt-same m d e at (λ i l u. h i l (omega arith)))
+    (h (at + m) (omega arith) (omega arith))
 
 -- behind the end there are zeros
 pub beAt-beyond : (k : ℕ) (s : List ℕ) (at : ℕ) → length s ≤ at → beAt k s at ≡ 0
@@ -43,7 +47,12 @@ pub beAt-part : (k : ℕ) (s : List ℕ) (m a o : ℕ) → o + k ≤ m → beAt 
 unfolding beAt
 beAt-part zero s m a o h = refl
 beAt-part (suc k) s m a o h =
-    rw (beAt-part k s m a o (omega arith), getD-take m (drop a s) (o + k) 0 (omega arith), getD-drop a s (o + k) 0, add-assoc a o k)
+    rw (
+      beAt-part k s m a o (omega arith),
+      getD-take m (drop a s) (o + k) 0 (omega arith),
+      getD-drop a s (o + k) 0,
+      add-assoc a o k,
+    )
 
 -- ---- written, and read
 
@@ -77,7 +86,8 @@ beAt-none t = refl
 pub read-be : (k v : ℕ) (t : List ℕ) → beAt k (be k v ++ t) 0 ≡ v % 256 ^ k
 unfolding be
 read-be zero v t = beAt-none t ∙ sym (mod-one v)
-read-be (suc k) v t = rw (beAt-cons, read-be k v t, pow-suc, mul-comm (256 ^ k) 256) (sym (mod-mul v (zero-lt-suc 255) (one-le-pow k 256 (zero-lt-suc 255))))
+read-be (suc k) v t = rw (beAt-cons, read-be k v t, pow-suc, mul-comm (256 ^ k) 256)
+    (sym (mod-mul v (zero-lt-suc 255) (one-le-pow k 256 (zero-lt-suc 255))))
 
 -- j + k bytes are j bytes and the k below them
 pub be-cat : (j k v : ℕ) → be (j + k) v ≡ be j (v / 256 ^ k) ++ be k v
@@ -85,7 +95,8 @@ unfolding be
 be-cat zero k v = rw zero-add
 be-cat (suc j) k v =
     let e : suc j + k ≡ suc (j + k) = omega arith in
-    let p : v / 256 ^ k / 256 ^ j ≡ v / 256 ^ (j + k) = div-div-eq-div-mul v (256 ^ k) (256 ^ j) ∙ rw (pow-add 256 j k, mul-comm (256 ^ j) (256 ^ k)) in
+    let p : v / 256 ^ k / 256 ^ j ≡ v / 256 ^ (j + k) =
+    div-div-eq-div-mul v (256 ^ k) (256 ^ j) ∙ rw (pow-add 256 j k, mul-comm (256 ^ j) (256 ^ k)) in
     rw (e, p, be-cat j k v)
 
 -- ---- stored
@@ -97,10 +108,12 @@ sets-cat d at (x ∷ a) b =
     let e : at + length (x ∷ a) ≡ suc at + length a = omega arith in
     rw e (sets-cat (set d at x) (suc at) a b)
 
-pub sets-then : (c d e : List ℕ) (at p : ℕ) (a b : List ℕ) → d ≡ sets c at a → p ≡ at + length a → e ≡ sets d p b → e ≡ sets c at (a ++ b)
+pub sets-then : (c d e : List ℕ) (at p : ℕ) (a b : List ℕ) → d ≡ sets c at a → p ≡ at + length a → e ≡ sets d p b
+    → e ≡ sets c at (a ++ b)
 sets-then c d e at p a b x n y = y ∙ rw (x, n) (sets-cat c at a b)
 
-pub sets-be : (j k v : ℕ) (c : List ℕ) {d e : List ℕ} (at : ℕ) → d ≡ sets c at (be j (v / 256 ^ k)) → e ≡ sets d (at + j) (be k v) → e ≡ sets c at (be (j + k) v)
+pub sets-be : (j k v : ℕ) (c : List ℕ) {d e : List ℕ} (at : ℕ) → d ≡ sets c at (be j (v / 256 ^ k))
+    → e ≡ sets d (at + j) (be k v) → e ≡ sets c at (be (j + k) v)
 sets-be j k v c at p q =
     let a : List ℕ = be j (v / 256 ^ k) in
     let n : at + j ≡ at + length a = omega (arith, length-be j (v / 256 ^ k)) in
@@ -109,10 +122,13 @@ sets-be j k v c at p q =
 -- outside what is stored nothing changes
 pub sets-other : (l d : List ℕ) (at i : ℕ) → (i < at) ⊎ (at + length l ≤ i) → getD (sets d at l) i 0 ≡ getD d i 0
 sets-other [] d at i h = refl
-sets-other (x ∷ l) d at i (inl h) = sets-other l (set d at x) (suc at) i (inl (omega arith)) ∙ getD-set-other d at i x 0 (λ e. omega arith)
-sets-other (x ∷ l) d at i (inr h) = sets-other l (set d at x) (suc at) i (inr (omega arith)) ∙ getD-set-other d at i x 0 (λ e. omega arith)
+sets-other (x ∷ l) d at i (inl h) =
+    sets-other l (set d at x) (suc at) i (inl (omega arith)) ∙ getD-set-other d at i x 0 (λ e. omega arith)
+sets-other (x ∷ l) d at i (inr h) =
+    sets-other l (set d at x) (suc at) i (inr (omega arith)) ∙ getD-set-other d at i x 0 (λ e. omega arith)
 
-pub beAt-sets : (m : ℕ) (l d : List ℕ) (at p : ℕ) → (p + m ≤ at) ⊎ (at + length l ≤ p) → beAt m (sets d at l) p ≡ beAt m d p
+pub beAt-sets : (m : ℕ) (l d : List ℕ) (at p : ℕ) → (p + m ≤ at) ⊎ (at + length l ≤ p)
+    → beAt m (sets d at l) p ≡ beAt m d p
 beAt-sets m l d at p (inl h) = beAt-same m (sets d at l) d p (λ i a b. sets-other l d at i (inl (omega arith)))
 beAt-sets m l d at p (inr h) = beAt-same m (sets d at l) d p (λ i a b. sets-other l d at i (inr (omega arith)))
 
@@ -120,7 +136,8 @@ beAt-sets m l d at p (inr h) = beAt-same m (sets d at l) d p (λ i a b. sets-oth
 pub read-sets : (k v : ℕ) (d : List ℕ) (at : ℕ) → at + k ≤ length d → beAt k (sets d at (be k v)) at ≡ v % 256 ^ k
 read-sets k v d at h =
     let n : at + length (be k v) ≤ length d = omega (arith, length-be k v) in
-    let p = beAt-past k at (take at d) (be k v ++ drop (at + length (be k v)) d) 0 (length-take-le at d (omega arith)) in
+    let p =
+    beAt-past k at (take at d) (be k v ++ drop (at + length (be k v)) d) 0 (length-take-le at d (omega arith)) in
     rw (sets-eq (be k v) d at n, append-assoc) (rw add-zero at p ∙ read-be k v (drop (at + length (be k v)) d))
 
 -- ---- words
@@ -137,7 +154,9 @@ read-words (suc m) v t zero h = rw (append-assoc, read-be 8 v, div-one)
 read-words (suc m) v t (suc k) h =
     let e : 8 * suc k ≡ 8 + 8 * k = omega arith in
     let g : 64 * suc k ≡ 64 + 64 * k = omega arith in
-    rw (append-assoc, e, g, ← shr-shr v 64 (64 * k)) (beAt-past 8 8 (be 8 v) (words m (v / 2 ^ 64) ++ t) (8 * k) (length-be 8 v) ∙ read-words m (v / 2 ^ 64) t k (omega arith))
+    rw (append-assoc, e, g, ← shr-shr v 64 (64 * k))
+    (beAt-past 8 8 (be 8 v) (words m (v / 2 ^ 64) ++ t) (8 * k) (length-be 8 v)
+    ∙ read-words m (v / 2 ^ 64) t k (omega arith))
 
 -- ---- bytes
 
@@ -216,18 +235,21 @@ module _ (s t : List ℕ) where
         ]
 
     -- c numbers of k bytes
-    pub alike-reads : (k at c : ℕ) → ((q : ℕ) → q < c → beAt k s (at + k * q) ≡ beAt k t (at + k * q)) → Alike at (at + k * c)
+    pub alike-reads : (k at c : ℕ) → ((q : ℕ) → q < c → beAt k s (at + k * q) ≡ beAt k t (at + k * q))
+        → Alike at (at + k * c)
     alike-reads k at zero e = rw (mul-zero k) (λ i l h. absurd (omega arith))
     alike-reads k at (suc c) e =
         let g : at + k * c + k ≡ at + k * suc c = rw mul-suc (omega arith) in
-        alike-append at (at + k * c) (at + k * suc c) (alike-reads k at c (λ q h. e q (omega arith))) (rw g at (alike-read k (at + k * c) (e c (omega arith))))
+        alike-append at (at + k * c) (at + k * suc c) (alike-reads k at c (λ q h. e q (omega arith)))
+        (rw g at (alike-read k (at + k * c) (e c (omega arith))))
 
 -- read, and written again
 pub be-read : (k : ℕ) (s : List ℕ) → Bytes s → k ≤ length s → be k (beAt k s 0) ≡ take k s
 be-read k s b h =
     let v : ℕ = beAt k s 0 in
     let m : length (take k s) ≡ k = length-take-le k s h in
-    let e : beAt k (be k v ++ []) 0 ≡ beAt k (take k s) 0 = read-be k v [] ∙ mod-eq-of-lt (beAt-lt k s 0 b) ∙ sym (beAt-take k k s 0 (omega arith)) in
+    let e : beAt k (be k v ++ []) 0 ≡ beAt k (take k s) 0 =
+    read-be k v [] ∙ mod-eq-of-lt (beAt-lt k s 0 b) ∙ sym (beAt-take k k s 0 (omega arith)) in
     let a = alike-read (be k v) (take k s) (bytes-be k v) (bytes-take k s b) k 0 (rw (append-nil (be k v)) at e) in
     alike-same (be k v) (take k s) (length-be k v ∙ sym m) (λ i l u. a i l (omega (arith, length-be k v)))
 

@@ -25,15 +25,18 @@ module _ (h : ℕ) (s : List ℕ) (r : Refusal) where
   head-version l e n = rw (le-ltb (length s) h l, eq-eqb (stated s) (length s) e, ne-eqb (getD s 4 0) version n)
 
   pub head-next : Headed h s → headTests h s r ≡ r
-  head-next p = rw (le-ltb (length s) h (p .header), eq-eqb (stated s) (length s) (p .states), eq-eqb (getD s 4 0) version (p .version-is))
+  head-next p = rw (
+    le-ltb (length s) h (p .header),
+    eq-eqb (stated s) (length s) (p .states),
+    eq-eqb (getD s 4 0) version (p .version-is),
+  )
 
   -- the three tests alone, and then r
   pub head-then : headTests h s r ≡ andThen (headTests h s Accepted) r
   unfolding andThen accepted
   head-then = go (ltb (length s) h) (eqb (stated s) (length s)) (eqb (getD s 4 0) version)
     where
-      go : (a b c : Bool)
-          → cond a Short (cond (not b) Length (cond (not c) Version r))
+      go : (a b c : Bool) → cond a Short (cond (not b) Length (cond (not c) Version r))
           ≡ andThen (cond a Short (cond (not b) Length (cond (not c) Version Accepted))) r
       go true b c = refl
       go false false c = refl

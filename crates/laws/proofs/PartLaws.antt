@@ -3,13 +3,13 @@ use mathlib.Core.Bool.{Bool, true, false, cond, _||_}
 use mathlib.Core.Path.{_≡_, refl, sym, ap, _∙_}
 use mathlib.Core.List.{List, [], _++_, append-nil}
 use Prim.Native.Nat.{ℕ, zero, suc, _+_, _-_, _^_, _≤_, _<_}
-use native.Mathlib.Nat.{mod-eq-of-lt, zero-add, add-zero, add-suc}
+use native.Mathlib.Nat.{mod-eq-of-lt, add-zero}
 use native.Mathlib.Numerals.{add-one}
 use native.Mathlib.Omega.{arith}
 use borrow.Author.Tests.{le-ltb, lt-ltb, ltb-false}
 use lib.Dec.{ltb, lit<}
 use lib.ListN.{length, getD, take, drop, length-append, length-drop, take-append-drop}
-use lib.Seq.{take-at, drop-at, length-take-le, getD-append-add, drop-drop}
+use lib.Seq.{take-at, drop-at, getD-append-add, drop-drop}
 use Rattle.rules.specs.declared.Refusal.{Refusal}
 use Rattle.rules.specs.declared.Refusal.the-variants.{Accepted, Short, Length}
 use Rattle.rules.specs.Refusal.{accepted, andThen}
@@ -17,7 +17,8 @@ use Rattle.rules.specs.Bytes.{be, beAt, sized}
 use Rattle.rules.specs.ReadList.{stated}
 use Rattle.rules.specs.Parts.{after, part, inside}
 use Rattle.laws.specs.Blocks.{Whole, blockAt, Inside, Lies}
-use Rattle.laws.proofs.ByteLaws.{Bytes, beAt-drop, bytes-take, bytes-drop, length-be, read-be, beAt-front, beAt-take, be-read}
+use Rattle.laws.proofs.ByteLaws.{Bytes, beAt-drop, bytes-take, bytes-drop}
+use Rattle.laws.proofs.ByteLaws.{length-be, read-be, beAt-front, be-read, beAt-lt}
 use Rattle.laws.proofs.RefusalLaws.{test-passed, or-parts}
 
 -- ---- the stated length
@@ -26,9 +27,9 @@ pub stated-front : (b t : List ℕ) → 4 ≤ length b → stated (b ++ t) ≡ s
 unfolding stated
 stated-front b t h = beAt-front 4 b t 0 h
 
-pub stated-take : (n : ℕ) (s : List ℕ) → 4 ≤ n → stated (take n s) ≡ stated s
+pub stated-lt : (s : List ℕ) → Bytes s → stated s < 2 ^ 32
 unfolding stated
-stated-take n s h = beAt-take 4 n s 0 h
+stated-lt s b = beAt-lt 4 s 0 b
 
 -- ---- bytes behind their own length
 
@@ -125,23 +126,16 @@ module _ (h : ℕ) (s : List ℕ) where
   unfolding blockAt
   blockAt-suc k = ap (λ (n : ℕ). blockAt h n s) (add-one k)
 
-  pub blockAt-mono : (k d : ℕ) → blockAt h k s ≤ blockAt h (k + d) s
-  unfolding blockAt
-  blockAt-mono k zero = rw add-zero (omega arith)
-  blockAt-mono k (suc d) = rw add-suc (omega (arith, blockAt-mono k d))
-
-  pub blockAt-ge : (k : ℕ) → h ≤ blockAt h k s
-  unfolding blockAt
-  blockAt-ge k = rw (zero-add k) at (blockAt-mono 0 k)
-
 -- ---- a block at the front of what remains
 
 module _ (h : ℕ) (f : List ℕ → Refusal) (s : List ℕ) where
   pub inside-parts : inside h f s ≡ Accepted → Inside h f s
   unfolding inside
   inside-parts e =
-      let p = test-passed (ltb (length s) h) Short (cond (ltb (stated s) h || ltb (length s) (stated s)) Length (f (take (stated s) s))) (lit< tt) e in
-      let q = test-passed (ltb (stated s) h || ltb (length s) (stated s)) Length (f (take (stated s) s)) (lit< tt) (p .1) in
+      let p = test-passed (ltb (length s) h) Short
+      (cond (ltb (stated s) h || ltb (length s) (stated s)) Length (f (take (stated s) s))) (lit< tt) e in
+      let q =
+      test-passed (ltb (stated s) h || ltb (length s) (stated s)) Length (f (take (stated s) s)) (lit< tt) (p .1) in
       let r = or-parts (ltb (stated s) h) (ltb (length s) (stated s)) (q .0) in
       record {
         header = ltb-false (length s) h (p .0);
@@ -172,20 +166,11 @@ module _ (h : ℕ) (f : List ℕ → Refusal) (s : List ℕ) where
   unfolding inside andThen accepted
   inside-then = go (ltb (length s) h) (ltb (stated s) h || ltb (length s) (stated s))
     where
-      go : (a b : Bool)
-          → cond a Short (cond b Length (f (take (stated s) s)))
+      go : (a b : Bool) → cond a Short (cond b Length (f (take (stated s) s)))
           ≡ andThen (cond a Short (cond b Length Accepted)) (f (take (stated s) s))
       go true b = refl
       go false true = refl
       go false false = refl
-
-  pub inside-whole : 4 ≤ h → Inside h f s → Whole (take (stated s) s)
-  inside-whole l i =
-      let m : length (take (stated s) s) ≡ stated s = length-take-le (stated s) s (i .within) in
-      record {
-        header = omega (arith, i .holds);
-        states = stated-take (stated s) s (omega (arith, i .holds)) ∙ sym m;
-      }
 
 pub inside-append : (h : ℕ) (f : List ℕ → Refusal) (b t : List ℕ) → Whole b → h ≤ length b → inside h f (b ++ t) ≡ f b
 inside-append h f b t w l =
@@ -197,14 +182,15 @@ inside-append h f b t w l =
 ends-within : (n p q : ℕ) → 0 < q → q ≤ n - p → p + q ≤ n
 ends-within n p q h g = omega arith
 
-pub inside-lies : (h : ℕ) (f : List ℕ → Refusal) (from : ℕ) (s : List ℕ) (k : ℕ) → 0 < h → Inside h f (after k (drop from s))
-    → Lies h (blockAt from k s) s (part k (drop from s))
+pub inside-lies : (h : ℕ) (f : List ℕ → Refusal) (from : ℕ) (s : List ℕ) (k : ℕ) → 0 < h
+    → Inside h f (after k (drop from s)) → Lies h (blockAt from k s) s (part k (drop from s))
 inside-lies h f from s k l i =
     let p : ℕ = blockAt from k s in
     let e : after k (drop from s) ≡ drop p s = after-at from s k in
     let n : h ≤ beAt 4 s p = rw (e, stated-drop p s) at (i .holds) in
     record {
       holds = n;
-      within = ends-within (length s) p (beAt 4 s p) (omega arith) (rw (e, stated-drop p s, length-drop) at (i .within));
+      within =
+          ends-within (length s) p (beAt 4 s p) (omega arith) (rw (e, stated-drop p s, length-drop) at (i .within));
       part-is = part-at from s k;
     }

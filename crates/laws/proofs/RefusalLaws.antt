@@ -8,7 +8,8 @@ use lib.Dec.{eqb}
 use lib.ListN.{getD}
 use borrow.Author.Tests.{eqb-true, not-true, not-false}
 use Rattle.rules.specs.declared.Refusal.{Refusal}
-use Rattle.rules.specs.declared.Refusal.the-variants.{Accepted, Short, Length, Version, Limit, Layout, Runs, Parts, Question, Room, Lists}
+use Rattle.rules.specs.declared.Refusal.the-variants.{Accepted, Short, Length, Version, Limit}
+use Rattle.rules.specs.declared.Refusal.the-variants.{Layout, Runs, Parts, Question, Room, Lists}
 use Rattle.rules.specs.Refusal.{number, accepted, andThen}
 
 -- ---- numbers
@@ -16,7 +17,8 @@ use Rattle.rules.specs.Refusal.{number, accepted, andThen}
 -- number k + 1 of a list of refusals, Accepted past its end
 abbrev named : ℕ → Refusal
 named zero = Accepted
-named (suc k) = getD (Short ∷ Length ∷ Version ∷ Limit ∷ Layout ∷ Runs ∷ Parts ∷ Question ∷ Room ∷ Lists ∷ []) k Accepted
+named (suc k) =
+    getD (Short ∷ Length ∷ Version ∷ Limit ∷ Layout ∷ Runs ∷ Parts ∷ Question ∷ Room ∷ Lists ∷ []) k Accepted
 
 named-number : (r : Refusal) → named (number r) ≡ r
 named-number Accepted = refl

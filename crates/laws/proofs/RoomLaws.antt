@@ -46,7 +46,8 @@ laid-same n room b l e = rw (l, e) (take-append-drop n room)
 -- ---- a writer's result
 
 -- what a test that leads to a refusal leaves of a writer's success
-pub made-passed : (t : Bool) (r : Refusal) (room : List ℕ) (m : Made) → 0 < number r → (cond t (refused r room) m) .refusal ≡ Accepted → (t ≡ false) × (m .refusal ≡ Accepted)
+pub made-passed : (t : Bool) (r : Refusal) (room : List ℕ) (m : Made) → 0 < number r
+    → (cond t (refused r room) m) .refusal ≡ Accepted → (t ≡ false) × (m .refusal ≡ Accepted)
 made-passed true r room m h e = absurd (omega (arith, ap number e))
 made-passed false r room m h e = (refl, e)
 
@@ -61,4 +62,5 @@ module _ (b room : List ℕ) where
 
   pub fits-stored : stored b room .refusal ≡ Accepted → length b ≤ length room
   unfolding stored
-  fits-stored e = ltb-false (length room) (length b) (made-passed (ltb (length room) (length b)) Room room (success b room) (lit< tt) e .0)
+  fits-stored e = ltb-false (length room) (length b)
+      (made-passed (ltb (length room) (length b)) Room room (success b room) (lit< tt) e .0)

@@ -1,7 +1,9 @@
--- Laws of the width of a list's low parts: the powers of 2 about U / n, that only one width has them, and the lower run's bits.
+-- Laws of the width of a list's low parts:
+-- the powers of 2 about U / n, that only one width has them, and the lower run's bits.
 use mathlib.Core.Path.{_≡_}
 use Prim.Native.Nat.{ℕ, zero, suc, _*_, _/_, _^_, _≤_, _<_}
-use native.Mathlib.Nat.{pow-suc, le-trans, lt-of-not-le, lt-irrefl, lt-of-lt-of-le, le-of-suc-le-suc, le-antisymm, div-le-self, le-div-iff-mul-le, mul-le-mul-left, mul-div-le}
+use native.Mathlib.Nat.{pow-suc, le-trans, lt-of-not-le, lt-irrefl, lt-of-lt-of-le, le-of-suc-le-suc}
+use native.Mathlib.Nat.{le-antisymm, div-le-self, le-div-iff-mul-le, mul-le-mul-left, mul-div-le}
 use native.Mathlib.Decide.{decLe}
 use native.Mathlib.Omega.{arith}
 use borrow.Author.Tests.{le-leb, lt-leb}
@@ -22,7 +24,8 @@ greatest-is (suc f) q p h =
 
 -- of the powers of 2 up to q none is above that which passes q when doubled
 pub power-le : (q r w : ℕ) → 2 ^ r ≤ q → q < 2 ^ suc w → r ≤ w
-power-le q r w h g = le-of-suc-le-suc (lt-of-not-le (λ (l : suc w ≤ r). lt-irrefl q (lt-of-lt-of-le g (le-trans (pow-mono l) h))))
+power-le q r w h g =
+    le-of-suc-le-suc (lt-of-not-le (λ (l : suc w ≤ r). lt-irrefl q (lt-of-lt-of-le g (le-trans (pow-mono l) h))))
 
 pub power-unique : (q r w : ℕ) → 2 ^ r ≤ q → q < 2 ^ suc r → 2 ^ w ≤ q → q < 2 ^ suc w → r ≡ w
 power-unique q r w a b c d = le-antisymm (power-le q r w a d) (power-le q w r c b)
@@ -50,4 +53,5 @@ module _ (U n : ℕ) (some : 0 < n) (below : n ≤ U) (fits : U < 2 ^ 32) where
 
   -- the lower run has at most U bits
   pub low-bits : n * width U n ≤ U
-  low-bits = le-trans (mul-le-mul-left n (le-trans (omega (arith, under-pow (width U n))) (width-is .0))) (mul-div-le U n)
+  low-bits =
+      le-trans (mul-le-mul-left n (le-trans (omega (arith, under-pow (width U n))) (width-is .0))) (mul-div-le U n)

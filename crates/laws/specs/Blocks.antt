@@ -3,7 +3,8 @@
 --   Headed h s      what a block's first three tests leave, its header of h bytes
 --   headTests h s r those tests, and r where all have passed
 --   Whole b         the block b states its own length
---   blockAt h k s   the place of s at which block number k starts, the first at h, by the lengths that those before it state
+--   blockAt h k s   the place of s at which block number k starts,
+--                   the first at h, by the lengths that those before it state
 --   Inside h f s    inside, its tests by name
 --   Lies h p s b    b are the bytes of s at place p, as many as stated there, h at the least and all within s
 use mathlib.Core.Bool.{cond, not}

@@ -1,9 +1,10 @@
--- Laws of the place after a zero, over any count of ones; the count of a number and that of a run; pointers and their bytes.
+-- Laws of the place after a zero, over any count of ones;
+-- the count of a number and that of a run; pointers and their bytes.
 use mathlib.Core.Path.{_≡_, refl, sym, ap, _∙_}
-use mathlib.Core.Logic.{_⊎_, inl, inr}
+use mathlib.Core.Logic.{inl, inr}
 use mathlib.Core.List.{List, _++_, append-assoc}
 use Prim.Native.Nat.{ℕ, zero, suc, _+_, _-_, _*_, _%_, _^_, _≤_, _<_}
-use native.Mathlib.Nat.{zero-add, add-zero, add-suc, le-antisymm, mod-one}
+use native.Mathlib.Nat.{zero-add, add-zero, le-antisymm, mod-one}
 use native.Mathlib.Decide.{decLt}
 use native.Mathlib.Omega.{arith}
 use lib.Count.{ones}
@@ -15,24 +16,12 @@ use Rattle.rules.specs.Counts.{onesBelow}
 use Rattle.rules.specs.List.{afterZero, pointer, pointers}
 use Rattle.laws.proofs.BitLaws.{bit-cases}
 use Rattle.laws.proofs.ByteLaws.{Bytes, bytes-be, bytes-cat, beAt-past, length-be, read-be}
-use Rattle.laws.proofs.CountLaws.{ones-more, below-suc}
-use Rattle.laws.proofs.RunLaws.{run-cases}
+use Rattle.laws.proofs.CountLaws.{Steps, count-slope, ones-more, below-suc}
 use Rattle.listlaws.specs.Sound.{onesTo, After}
 
 -- ---- any count that each place raises by 0 or 1
 
-abbrev pub Steps : (ℕ → ℕ) → Type 0
-Steps c = (j : ℕ) → (c (suc j) ≡ c j) ⊎ (c (suc j) ≡ suc (c j))
-
 module _ (c : ℕ → ℕ) (steps : Steps c) where
-  pub count-mono : (a d : ℕ) → c a ≤ c (a + d)
-  count-mono a zero = rw add-zero (omega arith)
-  count-mono a (suc d) = rw add-suc (elim (steps (a + d)) [ inl e ↦ omega (arith, count-mono a d, e) | inr e ↦ omega (arith, count-mono a d, e) ])
-
-  pub count-slope : (a d : ℕ) → c (a + d) ≤ c a + d
-  count-slope a zero = rw add-zero (omega arith)
-  count-slope a (suc d) = rw add-suc (elim (steps (a + d)) [ inl e ↦ omega (arith, count-slope a d, e) | inr e ↦ omega (arith, count-slope a d, e) ])
-
   module _ (k q : ℕ) (a : After c k q) where
     -- fewer than k zeros below x
     pub after-lt : (x : ℕ) → x < k + c x → x < q
@@ -41,7 +30,7 @@ module _ (c : ℕ → ℕ) (steps : Steps c) where
           | yes l ↦ l
           | no g ↦
               let e : q + (x - q) ≡ x = omega arith in
-              absurd (omega (arith, rw e at (count-slope q (x - q)), a .counted))
+              absurd (omega (arith, rw e at (count-slope c steps q (x - q)), a .counted))
         ]
 
     -- at least k zeros below x
@@ -52,13 +41,14 @@ module _ (c : ℕ → ℕ) (steps : Steps c) where
               let e : x + (q - 1 - x) ≡ q - 1 = omega arith in
               let g : suc (q - 1) ≡ q = omega arith in
               let z = rw g at (a .zero-last (q - 1) g) in
-              absurd (omega (arith, rw e at (count-slope x (q - 1 - x)), a .counted, z))
+              absurd (omega (arith, rw e at (count-slope c steps x (q - 1 - x)), a .counted, z))
           | no g ↦ omega arith
         ]
 
   -- one place is after zero number k
   pub after-unique : (k q r : ℕ) → After c k q → After c k r → q ≡ r
-  after-unique k q r a b = le-antisymm (after-le k q a r (omega (arith, b .counted))) (after-le k r b q (omega (arith, a .counted)))
+  after-unique k q r a b =
+      le-antisymm (after-le k q a r (omega (arith, b .counted))) (after-le k r b q (omega (arith, a .counted)))
 
 -- a place that a zero ends
 pub after-suc : (c : ℕ → ℕ) (k j : ℕ) → c (suc j) ≡ c j → k + c j ≡ suc j → After c k (suc j)
@@ -79,11 +69,10 @@ after-agree c d k q e a = record {
 -- ---- the count of a number and that of a run
 
 pub ones-steps : (u : ℕ) → Steps (onesTo u)
-ones-steps u j = elim (bit-cases u j) [ inl e ↦ inl (omega (arith, ones-more u j, e)) | inr e ↦ inr (omega (arith, ones-more u j, e)) ]
-
-pub run-steps : (s : List ℕ) (at : ℕ) → Steps (onesBelow s at)
-unfolding onesBelow
-run-steps s at j = elim (run-cases s at j) [ inl e ↦ inl (omega (arith, e)) | inr e ↦ inr (omega (arith, e)) ]
+ones-steps u j = elim (bit-cases u j) [
+  | inl e ↦ inl (omega (arith, ones-more u j, e))
+  | inr e ↦ inr (omega (arith, ones-more u j, e))
+]
 
 pub ones-none : (u : ℕ) → onesTo u 0 ≡ 0
 unfolding ones
@@ -91,24 +80,20 @@ ones-none u = rw mod-one
 
 -- the bit before such a place is 0, and with the count that is all
 module _ (u k j : ℕ) where
-  pub after-bit : After (onesTo u) k (suc j) → bit u j ≡ 0
-  after-bit a = omega (arith, a .zero-last j refl, ones-more u j)
-
   pub after-from : bit u j ≡ 0 → k + onesTo u j ≡ suc j → After (onesTo u) k (suc j)
   after-from z e = after-suc (onesTo u) k j (omega (arith, ones-more u j)) e
 
 module _ (s : List ℕ) (at k j : ℕ) where
-  pub run-after-bit : After (onesBelow s at) k (suc j) → runBit s at j ≡ 0
-  run-after-bit a = omega (arith, a .zero-last j refl, below-suc s at j)
-
   pub run-after-from : runBit s at j ≡ 0 → k + onesBelow s at j ≡ suc j → After (onesBelow s at) k (suc j)
   run-after-from z e = after-suc (onesBelow s at) k j (omega (arith, below-suc s at j)) e
 
 -- a run and a number with the same bits
-pub count-agree : (s : List ℕ) (at u b : ℕ) → ((i : ℕ) → i < b → runBit s at i ≡ bit u i) → (p : ℕ) → p ≤ b → onesBelow s at p ≡ onesTo u p
+pub count-agree : (s : List ℕ) (at u b : ℕ) → ((i : ℕ) → i < b → runBit s at i ≡ bit u i) → (p : ℕ) → p ≤ b
+    → onesBelow s at p ≡ onesTo u p
 unfolding onesBelow
 count-agree s at u b e zero h = sym (ones-none u)
-count-agree s at u b e (suc p) h = omega (arith, count-agree s at u b e p (omega arith), ones-more u p, e p (omega arith))
+count-agree s at u b e (suc p) h =
+    omega (arith, count-agree s at u b e p (omega arith), ones-more u p, e p (omega arith))
 
 -- ---- after zero number k of the b bits of u from place p on, below which are h zeros
 
@@ -120,9 +105,11 @@ zero-none (suc b) u p = refl
 module _ (u : ℕ) where
   -- what is to be shown of b bits
   abbrev Reached : ℕ → Type 0
-  Reached b = (k p h : ℕ) → h + onesTo u p ≡ p → 0 < k → k + onesTo u (p + b) ≤ b + onesTo u p → After (onesTo u) (h + k) (afterZero b u k p)
+  Reached b = (k p h : ℕ) → h + onesTo u p ≡ p → 0 < k → k + onesTo u (p + b) ≤ b + onesTo u p
+      → After (onesTo u) (h + k) (afterZero b u k p)
 
-  past-zero : (b k p h : ℕ) → Reached b → h + onesTo u p ≡ p → bit u p ≡ 0 → k + onesTo u (suc p + b) ≤ b + onesTo u p → After (onesTo u) (h + suc k) (afterZero b u k (suc p))
+  past-zero : (b k p h : ℕ) → Reached b → h + onesTo u p ≡ p → bit u p ≡ 0 → k + onesTo u (suc p + b) ≤ b + onesTo u p
+      → After (onesTo u) (h + suc k) (afterZero b u k (suc p))
   past-zero b zero p h ih e z l =
       rw (zero-none b u (suc p)) (after-from u (h + 1) p z (omega arith))
   past-zero b (suc k) p h ih e z l =
@@ -143,7 +130,8 @@ module _ (u : ℕ) where
         | inr z ↦ rw (z, afterZero, one) (ih (suc k) (suc p) h (omega (arith, m, z)) g (omega (arith, m, z, l')))
       ]
 
-  pub afterZero-is : (b k p h : ℕ) → h + onesTo u p ≡ p → 0 < k → k + onesTo u (p + b) ≤ b + onesTo u p → After (onesTo u) (h + k) (afterZero b u k p)
+  pub afterZero-is : (b k p h : ℕ) → h + onesTo u p ≡ p → 0 < k → k + onesTo u (p + b) ≤ b + onesTo u p
+      → After (onesTo u) (h + k) (afterZero b u k p)
   afterZero-is zero k p h e g l =
       let z : p + 0 ≡ p = omega arith in
       absurd (omega (arith, rw z at l))
@@ -151,7 +139,10 @@ module _ (u : ℕ) where
 
 -- from the start, and for k = 0 too
 pub afterZero-start : (u b k : ℕ) → k + onesTo u b ≤ b → After (onesTo u) k (afterZero b u k 0)
-afterZero-start u b zero l = rw zero-none (record { counted = zero-add (onesTo u 0) ∙ ones-none u; zero-last = λ j g. absurd (omega arith) })
+afterZero-start u b zero l = rw zero-none (record {
+  counted = zero-add (onesTo u 0) ∙ ones-none u;
+  zero-last = λ j g. absurd (omega arith);
+})
 afterZero-start u b (suc k) l =
     let z : 0 + b ≡ b = omega arith in
     let n = ones-none u in
@@ -161,11 +152,13 @@ pub afterZero-le : (u b k : ℕ) → k + onesTo u b ≤ b → afterZero b u k 0 
 afterZero-le u b k l = after-le (onesTo u) (ones-steps u) k (afterZero b u k 0) (afterZero-start u b k l) b l
 
 -- the same of a run with those bits
-pub run-after : (s : List ℕ) (at u b k : ℕ) → ((i : ℕ) → i < b → runBit s at i ≡ bit u i) → k + onesBelow s at b ≤ b → After (onesBelow s at) k (afterZero b u k 0)
+pub run-after : (s : List ℕ) (at u b k : ℕ) → ((i : ℕ) → i < b → runBit s at i ≡ bit u i) → k + onesBelow s at b ≤ b
+    → After (onesBelow s at) k (afterZero b u k 0)
 run-after s at u b k e l =
     let c = count-agree s at u b e in
     let l' : k + onesTo u b ≤ b = omega (arith, c b (omega arith)) in
-    after-agree (onesTo u) (onesBelow s at) k (afterZero b u k 0) (λ p h. sym (c p (omega (arith, afterZero-le u b k l')))) (afterZero-start u b k l')
+    after-agree (onesTo u) (onesBelow s at) k (afterZero b u k 0)
+    (λ p h. sym (c p (omega (arith, afterZero-le u b k l')))) (afterZero-start u b k l')
 
 -- ---- pointers
 
@@ -178,26 +171,29 @@ module _ (u b i : ℕ) (l : 256 * i + onesTo u b ≤ b) where
   unfolding pointer
   pointer-le = afterZero-le u b (256 * i) l
 
-  pub pointer-unique : (p : ℕ) → After (onesTo u) (256 * i) p → p ≡ pointer b u i
-  pointer-unique p a = after-unique (onesTo u) (ones-steps u) (256 * i) p (pointer b u i) a pointer-is
-
 -- ---- as bytes
 
 pub length-pointers : (b u i c : ℕ) → length (pointers b u i c) ≡ 4 * c
 unfolding pointers
 length-pointers b u i zero = refl
-length-pointers b u i (suc c) = rw (length-append, length-be 4 (pointer b u i)) (omega (arith, length-pointers b u (i + 1) c))
+length-pointers b u i (suc c) =
+    rw (length-append, length-be 4 (pointer b u i)) (omega (arith, length-pointers b u (i + 1) c))
 
-pub read-pointers : (b u i c : ℕ) (t : List ℕ) (j : ℕ) → j < c → beAt 4 (pointers b u i c ++ t) (4 * j) ≡ pointer b u (i + j) % 2 ^ 32
+pub read-pointers : (b u i c : ℕ) (t : List ℕ) (j : ℕ) → j < c
+    → beAt 4 (pointers b u i c ++ t) (4 * j) ≡ pointer b u (i + j) % 2 ^ 32
 unfolding pointers
 read-pointers b u i zero t j h = absurd (omega arith)
-read-pointers b u i (suc c) t zero h = rw (append-assoc, add-zero i) (read-be 4 (pointer b u i) (pointers b u (i + 1) c ++ t))
+read-pointers b u i (suc c) t zero h =
+    rw (append-assoc, add-zero i) (read-be 4 (pointer b u i) (pointers b u (i + 1) c ++ t))
 read-pointers b u i (suc c) t (suc j) h =
     let e : 4 * suc j ≡ 4 + 4 * j = omega arith in
     let g : i + suc j ≡ i + 1 + j = omega arith in
-    rw (append-assoc, e, g) (beAt-past 4 4 (be 4 (pointer b u i)) (pointers b u (i + 1) c ++ t) (4 * j) (length-be 4 (pointer b u i)) ∙ read-pointers b u (i + 1) c t j (omega arith))
+    rw (append-assoc, e, g)
+    (beAt-past 4 4 (be 4 (pointer b u i)) (pointers b u (i + 1) c ++ t) (4 * j) (length-be 4 (pointer b u i))
+    ∙ read-pointers b u (i + 1) c t j (omega arith))
 
 pub bytes-pointers : (b u i c : ℕ) → Bytes (pointers b u i c)
 unfolding pointers
 bytes-pointers b u i zero j = lit< tt
-bytes-pointers b u i (suc c) j = bytes-cat (be 4 (pointer b u i)) (pointers b u (i + 1) c) (bytes-be 4 (pointer b u i)) (λ k. bytes-pointers b u (i + 1) c k) j
+bytes-pointers b u i (suc c) j = bytes-cat (be 4 (pointer b u i)) (pointers b u (i + 1) c) (bytes-be 4 (pointer b u i))
+    (λ k. bytes-pointers b u (i + 1) c k) j

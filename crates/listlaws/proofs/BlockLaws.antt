@@ -13,7 +13,8 @@ use Rattle.rules.specs.Bytes.{be, beAt, sized, same}
 use Rattle.rules.specs.Runs.{runWord, wordsFor, words}
 use Rattle.rules.specs.List.{width, zeros, upper, lower, pointer, pointers, lowerAt, upperAt, size, runs, body, block}
 use Rattle.rules.specs.ReadList.{stated, listU, listN}
-use Rattle.laws.proofs.ByteLaws.{length-be, beAt-past, read-be, length-words, read-words, Bytes, bytes-be, bytes-cat, bytes-words}
+use Rattle.laws.proofs.ByteLaws.{length-be, beAt-past, read-be, length-words}
+use Rattle.laws.proofs.ByteLaws.{read-words, Bytes, bytes-be, bytes-cat, bytes-words}
 use Rattle.listlaws.proofs.AfterLaws.{length-pointers, read-pointers, bytes-pointers}
 use Rattle.listlaws.proofs.RisingLaws.{and-parts}
 
@@ -32,7 +33,8 @@ module _ (L U n : ℕ) (X : List ℕ) where
   past-5 : (k o : ℕ) → beAt k framed (5 + o) ≡ beAt k (be 4 U ++ (be 4 n ++ X)) o
   past-5 k o =
       let e : 5 + o ≡ 4 + (1 + o) = omega arith in
-      rw e (beAt-past k 4 (be 4 L) (version ∷ (be 4 U ++ (be 4 n ++ X))) (1 + o) (length-be 4 L) ∙ beAt-past k 1 (version ∷ []) (be 4 U ++ (be 4 n ++ X)) o refl)
+      rw e (beAt-past k 4 (be 4 L) (version ∷ (be 4 U ++ (be 4 n ++ X))) (1 + o) (length-be 4 L)
+      ∙ beAt-past k 1 (version ∷ []) (be 4 U ++ (be 4 n ++ X)) o refl)
 
   past-9 : (k o : ℕ) → beAt k framed (9 + o) ≡ beAt k (be 4 n ++ X) o
   past-9 k o =
@@ -45,7 +47,8 @@ module _ (L U n : ℕ) (X : List ℕ) where
       rw e (past-9 k (4 + o) ∙ beAt-past k 4 (be 4 n) X o (length-be 4 n))
 
   framed-length : length framed ≡ 13 + length X
-  framed-length = rw (length-append, length-append, length-append, length-be 4 L, length-be 4 U, length-be 4 n) (omega arith)
+  framed-length =
+      rw (length-append, length-append, length-append, length-be 4 L, length-be 4 U, length-be 4 n) (omega arith)
 
   framed-bytes : Bytes X → Bytes framed
   framed-bytes b = bytes-cat (be 4 L) (version ∷ (be 4 U ++ (be 4 n ++ X))) (bytes-be 4 L) rest
@@ -78,17 +81,23 @@ module _ (U n w : ℕ) (xs : List ℕ) where
 
   runs-bytes : Bytes (runs U n w xs)
   unfolding runs
-  runs-bytes = bytes-cat first (second ++ third) (bytes-pointers (n + Z) (upper w 0 xs) 1 (Z / 256)) (bytes-cat second third (bytes-words (wordsFor (n * w)) (lower w 0 xs)) (bytes-words (wordsFor (n + Z)) (upper w 0 xs)))
+  runs-bytes =
+      bytes-cat first (second ++ third) (bytes-pointers (n + Z) (upper w 0 xs) 1 (Z / 256)) (bytes-cat second third
+      (bytes-words (wordsFor (n * w)) (lower w 0 xs)) (bytes-words (wordsFor (n + Z)) (upper w 0 xs)))
 
-  runs-pointer : (q : ℕ) → q < Z / 256 → beAt 4 (runs U n w xs) (4 * q) ≡ pointer (n + Z) (upper w 0 xs) (1 + q) % 2 ^ 32
+  runs-pointer : (q : ℕ) → q < Z / 256
+      → beAt 4 (runs U n w xs) (4 * q) ≡ pointer (n + Z) (upper w 0 xs) (1 + q) % 2 ^ 32
   unfolding runs
   runs-pointer q h = read-pointers (n + Z) (upper w 0 xs) 1 (Z / 256) (second ++ third) q h
 
-  runs-lower : (k : ℕ) → k < wordsFor (n * w) → beAt 8 (runs U n w xs) (4 * (Z / 256) + 8 * k) ≡ lower w 0 xs / 2 ^ (64 * k) % 2 ^ 64
+  runs-lower : (k : ℕ) → k < wordsFor (n * w)
+      → beAt 8 (runs U n w xs) (4 * (Z / 256) + 8 * k) ≡ lower w 0 xs / 2 ^ (64 * k) % 2 ^ 64
   unfolding runs
-  runs-lower k h = beAt-past 8 (4 * (Z / 256)) first (second ++ third) (8 * k) first-length ∙ read-words (wordsFor (n * w)) (lower w 0 xs) third k h
+  runs-lower k h = beAt-past 8 (4 * (Z / 256)) first (second ++ third) (8 * k) first-length
+      ∙ read-words (wordsFor (n * w)) (lower w 0 xs) third k h
 
-  runs-upper : (k : ℕ) → k < wordsFor (n + Z) → beAt 8 (runs U n w xs) (4 * (Z / 256) + (8 * wordsFor (n * w) + 8 * k)) ≡ upper w 0 xs / 2 ^ (64 * k) % 2 ^ 64
+  runs-upper : (k : ℕ) → k < wordsFor (n + Z)
+      → beAt 8 (runs U n w xs) (4 * (Z / 256) + (8 * wordsFor (n * w) + 8 * k)) ≡ upper w 0 xs / 2 ^ (64 * k) % 2 ^ 64
   unfolding runs
   runs-upper k h =
       beAt-past 8 (4 * (Z / 256)) first (second ++ third) (8 * wordsFor (n * w) + 8 * k) first-length
@@ -118,7 +127,8 @@ module _ (U : ℕ) (xs : List ℕ) where
 
   total-is : total ≡ length (block U xs)
   unfolding block sized
-  total-is = sym (length-append (be 4 total) (version ∷ (be 4 U ++ (be 4 (length xs) ++ body U xs))) ∙ ap (λ (k : ℕ). k + length (version ∷ (be 4 U ++ (be 4 (length xs) ++ body U xs)))) (length-be 4 total))
+  total-is = sym (length-append (be 4 total) (version ∷ (be 4 U ++ (be 4 (length xs) ++ body U xs)))
+      ∙ ap (λ (k : ℕ). k + length (version ∷ (be 4 U ++ (be 4 (length xs) ++ body U xs)))) (length-be 4 total))
 
   pub block-body : length (block U xs) ≡ 13 + length (body U xs)
   block-body = ap length block-is ∙ framed-length total U (length xs) (body U xs)
@@ -128,18 +138,21 @@ module _ (U : ℕ) (xs : List ℕ) where
 
   pub block-stated : stated (block U xs) ≡ length (block U xs) % 2 ^ 32
   unfolding stated
-  block-stated = ap (λ (l : List ℕ). beAt 4 l 0) block-is ∙ read-be 4 total (version ∷ (be 4 U ++ (be 4 (length xs) ++ body U xs))) ∙ ap (λ (k : ℕ). k % 2 ^ 32) total-is
+  block-stated = ap (λ (l : List ℕ). beAt 4 l 0) block-is
+      ∙ read-be 4 total (version ∷ (be 4 U ++ (be 4 (length xs) ++ body U xs))) ∙ ap (λ (k : ℕ). k % 2 ^ 32) total-is
 
   pub block-version : getD (block U xs) 4 0 ≡ version
   block-version = ap (λ (l : List ℕ). getD l 4 0) block-is ∙ framed-version total U (length xs) (body U xs)
 
   pub block-U : listU (block U xs) ≡ U % 2 ^ 32
   unfolding listU
-  block-U = ap (λ (l : List ℕ). beAt 4 l 5) block-is ∙ past-5 total U (length xs) (body U xs) 4 0 ∙ read-be 4 U (be 4 (length xs) ++ body U xs)
+  block-U = ap (λ (l : List ℕ). beAt 4 l 5) block-is ∙ past-5 total U (length xs) (body U xs) 4 0
+      ∙ read-be 4 U (be 4 (length xs) ++ body U xs)
 
   pub block-n : listN (block U xs) ≡ length xs % 2 ^ 32
   unfolding listN
-  block-n = ap (λ (l : List ℕ). beAt 4 l 9) block-is ∙ past-9 total U (length xs) (body U xs) 4 0 ∙ read-be 4 (length xs) (body U xs)
+  block-n = ap (λ (l : List ℕ). beAt 4 l 9) block-is ∙ past-9 total U (length xs) (body U xs) 4 0
+      ∙ read-be 4 (length xs) (body U xs)
 
   -- with elements there are runs
   module _ (n w : ℕ) (len : length xs ≡ n) (some : 0 < n) (ew : w ≡ width U n) where
@@ -147,28 +160,33 @@ module _ (U : ℕ) (xs : List ℕ) where
     body-is = body-runs U n w xs len some ew
 
     past : (k o : ℕ) → beAt k (block U xs) (13 + o) ≡ beAt k (runs U n w xs) o
-    past k o = ap (λ (l : List ℕ). beAt k l (13 + o)) block-is ∙ past-header total U (length xs) (body U xs) k o ∙ ap (λ (l : List ℕ). beAt k l o) body-is
+    past k o = ap (λ (l : List ℕ). beAt k l (13 + o)) block-is ∙ past-header total U (length xs) (body U xs) k o
+        ∙ ap (λ (l : List ℕ). beAt k l o) body-is
 
     pub block-length : length (block U xs) ≡ upperAt U n w + 8 * wordsFor (n + zeros U w)
     unfolding upperAt lowerAt
     block-length = omega (arith, block-body, ap length body-is, runs-length U n w xs)
 
-    pub block-pointer : (q : ℕ) → 0 < q → q ≤ zeros U w / 256 → beAt 4 (block U xs) (9 + 4 * q) ≡ pointer (n + zeros U w) (upper w 0 xs) q % 2 ^ 32
+    pub block-pointer : (q : ℕ) → 0 < q → q ≤ zeros U w / 256
+        → beAt 4 (block U xs) (9 + 4 * q) ≡ pointer (n + zeros U w) (upper w 0 xs) q % 2 ^ 32
     block-pointer q g h =
         let e : 9 + 4 * q ≡ 13 + 4 * (q - 1) = omega arith in
         let p : 1 + (q - 1) ≡ q = omega arith in
         rw e (past 4 (4 * (q - 1)) ∙ rw p at (runs-pointer U n w xs (q - 1) (omega arith)))
 
-    pub block-lower : (k : ℕ) → k < wordsFor (n * w) → runWord (block U xs) (lowerAt U w) k ≡ lower w 0 xs / 2 ^ (64 * k) % 2 ^ 64
+    pub block-lower : (k : ℕ) → k < wordsFor (n * w)
+        → runWord (block U xs) (lowerAt U w) k ≡ lower w 0 xs / 2 ^ (64 * k) % 2 ^ 64
     unfolding runWord lowerAt
     block-lower k h =
         let e : 13 + 4 * (zeros U w / 256) + 8 * k ≡ 13 + (4 * (zeros U w / 256) + 8 * k) = omega arith in
         rw e (past 8 (4 * (zeros U w / 256) + 8 * k) ∙ runs-lower U n w xs k h)
 
-    pub block-upper : (k : ℕ) → k < wordsFor (n + zeros U w) → runWord (block U xs) (upperAt U n w) k ≡ upper w 0 xs / 2 ^ (64 * k) % 2 ^ 64
+    pub block-upper : (k : ℕ) → k < wordsFor (n + zeros U w)
+        → runWord (block U xs) (upperAt U n w) k ≡ upper w 0 xs / 2 ^ (64 * k) % 2 ^ 64
     unfolding runWord lowerAt upperAt
     block-upper k h =
-        let e : 13 + 4 * (zeros U w / 256) + 8 * wordsFor (n * w) + 8 * k ≡ 13 + (4 * (zeros U w / 256) + (8 * wordsFor (n * w) + 8 * k)) = omega arith in
+        let e : 13 + 4 * (zeros U w / 256) + 8 * wordsFor (n * w) + 8 * k
+        ≡ 13 + (4 * (zeros U w / 256) + (8 * wordsFor (n * w) + 8 * k)) = omega arith in
         rw e (past 8 (4 * (zeros U w / 256) + (8 * wordsFor (n * w) + 8 * k)) ∙ runs-upper U n w xs k h)
 
 -- the length that U and n give, n at least 1

@@ -1,13 +1,13 @@
--- Laws of the lower run's number: its fields, and how long it is.
+-- Laws of the lower run's number: its fields are the low parts.
 use mathlib.Core.Path.{_≡_, sym, ap, _∙_}
 use mathlib.Core.List.{List, [], _∷_}
 use Prim.Native.Nat.{ℕ, zero, suc, _+_, _*_, _/_, _%_, _^_, _<_}
-use native.Mathlib.Nat.{zero-add, add-comm, mul-assoc, add-mul, one-mul, zero-mul, mod-lt, mod-mod, mul-add-mod-self-right, mul-le-mul-right}
+use native.Mathlib.Nat.{zero-add, add-comm, mul-assoc, add-mul, one-mul}
+use native.Mathlib.Nat.{zero-mul, mod-lt, mod-mod, mul-add-mod-self-right}
 use native.Mathlib.Omega.{arith}
 use lib.ListN.{length, getD}
 use lib.Pow.{pow-add, pow-pos, shl-shr, shr-shr, high, shl-lt}
 use Rattle.rules.specs.List.{lower}
-use Rattle.laws.proofs.BitLaws.{filled-lt}
 
 module _ (w : ℕ) where
   more : (i : ℕ) → (i + 1) * w ≡ w + i * w
@@ -25,7 +25,8 @@ module _ (w : ℕ) where
   first-lt x i = rw (more i) (shl-lt w (i * w) (mod-lt x (pow-pos w)))
 
   -- field number i + j is the low part of element number i + j
-  lower-field : (i : ℕ) (xs : List ℕ) (j : ℕ) → j < length xs → lower w i xs / 2 ^ ((i + j) * w) % 2 ^ w ≡ getD xs j 0 % 2 ^ w
+  lower-field : (i : ℕ) (xs : List ℕ) (j : ℕ) → j < length xs
+      → lower w i xs / 2 ^ ((i + j) * w) % 2 ^ w ≡ getD xs j 0 % 2 ^ w
   unfolding lower
   lower-field i [] j h = absurd (omega arith)
   lower-field i (x ∷ xs) zero h =
@@ -37,24 +38,13 @@ module _ (w : ℕ) where
       let t = lower-shape (i + 1) xs in
       let a : i + suc j ≡ i + 1 + j = omega arith in
       let g : (i + 1 + j) * w ≡ (i + 1) * w + j * w = add-mul (i + 1) j w in
-      let one : (x % 2 ^ w * 2 ^ (i * w) + lower w (i + 1) xs) / 2 ^ ((i + 1) * w) ≡ t .0 = rw (t .1, add-comm (x % 2 ^ w * 2 ^ (i * w)) (t .0 * 2 ^ ((i + 1) * w))) (high (t .0) ((i + 1) * w) (first-lt x i)) in
+      let one : (x % 2 ^ w * 2 ^ (i * w) + lower w (i + 1) xs) / 2 ^ ((i + 1) * w) ≡ t .0 =
+      rw (t .1, add-comm (x % 2 ^ w * 2 ^ (i * w)) (t .0 * 2 ^ ((i + 1) * w)))
+      (high (t .0) ((i + 1) * w) (first-lt x i)) in
       let two : lower w (i + 1) xs / 2 ^ ((i + 1) * w) ≡ t .0 = rw (t .1) (shl-shr (t .0) ((i + 1) * w)) in
       rw (a, g, ← shr-shr, one, ← two, shr-shr, ← g) (lower-field (i + 1) xs j (omega arith))
-
-  lower-below : (i : ℕ) (xs : List ℕ) → lower w i xs < 2 ^ ((i + length xs) * w)
-  unfolding lower
-  lower-below i [] = pow-pos ((i + 0) * w)
-  lower-below i (x ∷ xs) =
-      let t = lower-shape (i + 1) xs in
-      let e : i + 1 + length xs ≡ i + suc (length xs) = omega arith in
-      let l = rw (e, t .1) at (lower-below (i + 1) xs) in
-      rw (t .1, add-comm (x % 2 ^ w * 2 ^ (i * w)) (t .0 * 2 ^ ((i + 1) * w)))
-      (filled-lt (t .0) (x % 2 ^ w * 2 ^ (i * w)) ((i + 1) * w) ((i + suc (length xs)) * w) (mul-le-mul-right w (omega arith)) (first-lt x i) l)
 
   -- ---- the whole lower run
 
   pub lower-at : (xs : List ℕ) (j : ℕ) → j < length xs → lower w 0 xs / 2 ^ (j * w) % 2 ^ w ≡ getD xs j 0 % 2 ^ w
   lower-at xs j h = rw (zero-add j) at (lower-field 0 xs j h)
-
-  pub lower-lt : (xs : List ℕ) → lower w 0 xs < 2 ^ (length xs * w)
-  lower-lt xs = rw (zero-add (length xs)) at (lower-below 0 xs)

@@ -2,22 +2,22 @@
 use mathlib.Core.Bool.{true}
 use mathlib.Core.Path.{_≡_, sym, ap, _∙_}
 use mathlib.Core.List.{List}
-use Prim.Native.Nat.{ℕ, suc, _+_, _-_, _*_, _/_, _%_, _^_, _≤_, _<_}
+use Prim.Native.Nat.{ℕ, suc, _+_, _-_, _*_, _/_, _^_, _≤_, _<_}
 use native.Mathlib.Nat.{zero-add}
 use native.Mathlib.Decide.{decLt}
 use native.Mathlib.Omega.{arith}
 use lib.ListN.{length, getD}
-use lib.Pow.{shr-mono, split}
+use lib.Pow.{shr-mono}
 use Rattle.rules.specs.declared.Refusal.the-variants.{Accepted}
 use Rattle.rules.specs.Bytes.{beAt}
 use Rattle.rules.specs.Runs.{bit, runBit, field}
 use Rattle.rules.specs.Counts.{onesBelow}
 use Rattle.rules.specs.List.{rising, zeros, upper}
 use Rattle.rules.specs.ReadList.{listU, listN, decode, listRefusal}
-use Rattle.laws.proofs.CountLaws.{below-none, below-suc}
-use Rattle.laws.proofs.RunLaws.{ones-whole}
+use Rattle.laws.proofs.CountLaws.{below-none, run-steps}
+use Rattle.laws.proofs.RunLaws.{ones-whole, ones-mono}
 use Rattle.listlaws.specs.Sound.{widthOf, upperOf, lowerOf, bitsOf, After, Sound}
-use Rattle.listlaws.proofs.AfterLaws.{run-steps, count-mono, count-agree, after-le, after-lt}
+use Rattle.listlaws.proofs.AfterLaws.{count-agree, after-le}
 use Rattle.listlaws.proofs.RisingLaws.{rising-at}
 use Rattle.listlaws.proofs.ElementLaws.{element-at, upper-agrees}
 use Rattle.listlaws.proofs.UpperLaws.{upper-set, upper-rank}
@@ -59,32 +59,34 @@ module _ (s : List ℕ) (a : listRefusal s ≡ Accepted) where
           | yes l ↦ l
           | no g ↦
               let e : bitsOf s + (p - bitsOf s) ≡ p = omega arith in
-              absurd (omega (arith, rw e at (count-mono (onesBelow s (upperOf s)) (run-steps s (upperOf s)) (bitsOf s) (p - bitsOf s)), ones-total))
+              absurd (omega (arith, rw e at (ones-mono s (upperOf s) (bitsOf s) (p - bitsOf s)), ones-total))
         ]
 
     -- ---- pointers
 
-    pub pointer-after : (q : ℕ) → 0 < q → q ≤ zeros U (widthOf s) / 256 → After (onesBelow s (upperOf s)) (256 * q) (beAt 4 s (9 + 4 * q))
+    pub pointer-after : (q : ℕ) → 0 < q → q ≤ zeros U (widthOf s) / 256
+        → After (onesBelow s (upperOf s)) (256 * q) (beAt 4 s (9 + 4 * q))
     pointer-after = accepted-sound .pointers-are
 
-    pub pointer-ones : (q : ℕ) → 0 < q → q ≤ zeros U (widthOf s) / 256 → onesBelow s (upperOf s) (beAt 4 s (9 + 4 * q)) ≡ beAt 4 s (9 + 4 * q) - 256 * q
-    pointer-ones q g h = omega (arith, pointer-after q g h .counted)
-
     pub pointer-le : (q : ℕ) → 0 < q → q ≤ zeros U (widthOf s) / 256 → beAt 4 s (9 + 4 * q) ≤ bitsOf s
-    pointer-le q g h = after-le (onesBelow s (upperOf s)) (run-steps s (upperOf s)) (256 * q) (beAt 4 s (9 + 4 * q)) (pointer-after q g h) (bitsOf s) (omega (arith, ones-total))
+    pointer-le q g h = after-le (onesBelow s (upperOf s)) (run-steps s (upperOf s)) (256 * q) (beAt 4 s (9 + 4 * q))
+        (pointer-after q g h) (bitsOf s) (omega (arith, ones-total))
 
     -- ---- elements by rank
 
     -- the one with h zeros and i ones below it is that of element number i
-    pub element-of-rank : (h i : ℕ) → i < n → onesBelow s (upperOf s) (h + i) ≡ i → runBit s (upperOf s) (h + i) ≡ 1 → getD (decode s) i 0 ≡ h * 2 ^ widthOf s + field s (lowerOf s) (i * widthOf s) (widthOf s)
+    pub element-of-rank : (h i : ℕ) → i < n → onesBelow s (upperOf s) (h + i) ≡ i → runBit s (upperOf s) (h + i) ≡ 1
+        → getD (decode s) i 0 ≡ h * 2 ^ widthOf s + field s (lowerOf s) (i * widthOf s) (widthOf s)
     unfolding decode
     element-of-rank h i l c e =
         let z : 0 + 0 + (h + i) ≡ h + i = omega arith in
         let m : h + i < bitsOf s = ones-within (h + i) (omega arith) in
         let t : h + i + suc (bitsOf s - suc (h + i)) ≡ bitsOf s = omega arith in
-        let c' : onesBelow s (upperOf s) (0 + 0 + (h + i)) ≡ onesBelow s (upperOf s) (0 + 0) + i = rw z (c ∙ sym (ap (λ (k : ℕ). k + i) (below-none s (upperOf s)) ∙ zero-add i)) in
+        let c' : onesBelow s (upperOf s) (0 + 0 + (h + i)) ≡ onesBelow s (upperOf s) (0 + 0) + i =
+        rw z (c ∙ sym (ap (λ (k : ℕ). k + i) (below-none s (upperOf s)) ∙ zero-add i)) in
         ap (λ (l : List ℕ). getD l i 0) (read-is s U n some)
-        ∙ rw (zero-add h, zero-add i, t) at (element-at s (upperOf s) (lowerOf s) (widthOf s) h i (bitsOf s - suc (h + i)) 0 0 c' (rw (zero-add h, zero-add i) e))
+        ∙ rw (zero-add h, zero-add i, t) at (element-at s (upperOf s) (lowerOf s) (widthOf s) h i
+        (bitsOf s - suc (h + i)) 0 0 c' (rw (zero-add h, zero-add i) e))
 
     abbrev place : ℕ → ℕ
     place i = getD (decode s) i 0 / 2 ^ widthOf s + i
@@ -97,37 +99,17 @@ module _ (s : List ℕ) (a : listRefusal s ≡ Accepted) where
 
     run-agrees : (p : ℕ) → p < bitsOf s → runBit s (upperOf s) p ≡ bit (upper (widthOf s) 0 (decode s)) p
     unfolding decode
-    run-agrees p h = upper-agrees s (upperOf s) (lowerOf s) (widthOf s) (bitsOf s) p h ∙ ap (λ (l : List ℕ). bit (upper (widthOf s) 0 l) p) (sym (read-is s U n some))
+    run-agrees p h = upper-agrees s (upperOf s) (lowerOf s) (widthOf s) (bitsOf s) p h
+        ∙ ap (λ (l : List ℕ). bit (upper (widthOf s) 0 l) p) (sym (read-is s U n some))
 
     -- every element has its one, below which are its high part in zeros and its number in ones
-    pub rank-of-element : (i : ℕ) → i < n → (runBit s (upperOf s) (getD (decode s) i 0 / 2 ^ widthOf s + i) ≡ 1) × (onesBelow s (upperOf s) (getD (decode s) i 0 / 2 ^ widthOf s + i) ≡ i)
+    pub rank-of-element : (i : ℕ) → i < n → (runBit s (upperOf s) (getD (decode s) i 0 / 2 ^ widthOf s + i) ≡ 1)
+        × (onesBelow s (upperOf s) (getD (decode s) i 0 / 2 ^ widthOf s + i) ≡ i)
     rank-of-element i l =
         let r = accepted-rising in
         let h : i < length (decode s) = omega (arith, accepted-length) in
         let m : place i < bitsOf s = place-within i l in (
           run-agrees (place i) m ∙ upper-set (widthOf s) U (decode s) r i h,
-          count-agree s (upperOf s) (upper (widthOf s) 0 (decode s)) (bitsOf s) run-agrees (place i) (omega arith) ∙ upper-rank (widthOf s) U (decode s) r i h,
+          count-agree s (upperOf s) (upper (widthOf s) 0 (decode s)) (bitsOf s) run-agrees (place i) (omega arith)
+              ∙ upper-rank (widthOf s) U (decode s) r i h,
         )
-
-    -- its low part is its field
-    pub low-of-element : (i : ℕ) → i < n → field s (lowerOf s) (i * widthOf s) (widthOf s) ≡ getD (decode s) i 0 % 2 ^ widthOf s
-    low-of-element i l =
-        let t = rank-of-element i l in
-        omega (arith, element-of-rank (getD (decode s) i 0 / 2 ^ widthOf s) i l (t .1) (t .0), split (getD (decode s) i 0) (widthOf s))
-
-    -- ---- elements before and after zero number h
-
-    module _ (h p : ℕ) (z : After (onesBelow s (upperOf s)) h p) (i : ℕ) (l : i < n) where
-      pub element-before : getD (decode s) i 0 / 2 ^ widthOf s < h → i < onesBelow s (upperOf s) p
-      element-before g =
-          let t = rank-of-element i l in
-          let m : place i < p = after-lt (onesBelow s (upperOf s)) (run-steps s (upperOf s)) h p z (place i) (omega (arith, t .1)) in
-          let e : suc (place i) + (p - suc (place i)) ≡ p = omega arith in
-          omega (arith, rw e at (count-mono (onesBelow s (upperOf s)) (run-steps s (upperOf s)) (suc (place i)) (p - suc (place i))), below-suc s (upperOf s) (place i), t .0, t .1)
-
-      pub element-after : h ≤ getD (decode s) i 0 / 2 ^ widthOf s → onesBelow s (upperOf s) p ≤ i
-      element-after g =
-          let t = rank-of-element i l in
-          let m : p ≤ place i = after-le (onesBelow s (upperOf s)) (run-steps s (upperOf s)) h p z (place i) (omega (arith, t .1)) in
-          let e : p + (place i - p) ≡ place i = omega arith in
-          omega (arith, rw e at (count-mono (onesBelow s (upperOf s)) (run-steps s (upperOf s)) p (place i - p)), t .1)

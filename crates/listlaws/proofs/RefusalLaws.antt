@@ -20,7 +20,8 @@ use Rattle.listlaws.specs.Sound.{Framed}
 module _ (s : List ℕ) where
   -- the tests behind the length and the limit
   abbrev left : Refusal
-  left = cond (ltb (listU s) (listN s) || not (eqb (length s) (size (listU s) (listN s)))) Layout (cond (not (isBlock s (listU s) (decode s))) Runs Accepted)
+  left = cond (ltb (listU s) (listN s) || not (eqb (length s) (size (listU s) (listN s)))) Layout
+      (cond (not (isBlock s (listU s) (decode s))) Runs Accepted)
 
   -- the tests behind the first three
   abbrev tests : Refusal
@@ -43,7 +44,11 @@ module _ (s : List ℕ) where
       module _ (version-is : getD s 4 0 ≡ version) where
         after-version : listRefusal s ≡ tests
         unfolding listRefusal
-        after-version = head-next listHeader s tests (record { header = header; states = length-stated; version-is = version-is })
+        after-version = head-next listHeader s tests (record {
+          header = header;
+          states = length-stated;
+          version-is = version-is;
+        })
 
         pub refuse-limit : limit < listU s → listRefusal s ≡ Limit
         refuse-limit h = after-version ∙ rw (lt-ltb limit (listU s) h)
@@ -56,7 +61,8 @@ module _ (s : List ℕ) where
           refuse-many h = after-limit ∙ rw (lt-ltb (listU s) (listN s) h)
 
           pub refuse-size : listN s ≤ listU s → (length s ≡ size (listU s) (listN s) → ⊥) → listRefusal s ≡ Layout
-          refuse-size b h = after-limit ∙ rw (le-ltb (listU s) (listN s) b, ne-eqb (length s) (size (listU s) (listN s)) h)
+          refuse-size b h =
+              after-limit ∙ rw (le-ltb (listU s) (listN s) b, ne-eqb (length s) (size (listU s) (listN s)) h)
 
 -- ---- what the first five leave
 

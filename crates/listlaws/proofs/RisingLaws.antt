@@ -20,7 +20,8 @@ pub and-assoc : (a b c : Bool) → a && (b && c) ≡ (a && b) && c
 and-assoc true b c = refl
 and-assoc false b c = refl
 
-pub rising-parts : (lo U x : ℕ) (xs : List ℕ) → rising lo U (x ∷ xs) ≡ true → (lo ≤ x) × (x < U) × (rising (x + 1) U xs ≡ true)
+pub rising-parts : (lo U x : ℕ) (xs : List ℕ) → rising lo U (x ∷ xs) ≡ true
+    → (lo ≤ x) × (x < U) × (rising (x + 1) U xs ≡ true)
 unfolding rising
 rising-parts lo U x xs r =
     let a = and-parts (leb lo x) (ltb x U && rising (x + 1) U xs) r in
@@ -34,7 +35,8 @@ rising-length lo U (x ∷ xs) r l =
     omega (arith, t .0, rising-length (x + 1) U xs (t .2) (omega (arith, t .1)))
 
 -- the elements lie in their bounds, and rise by 1 at least
-pub rising-at : (lo U : ℕ) (xs : List ℕ) → rising lo U xs ≡ true → (j : ℕ) → j < length xs → (lo + j ≤ getD xs j 0) × (getD xs j 0 < U)
+pub rising-at : (lo U : ℕ) (xs : List ℕ) → rising lo U xs ≡ true → (j : ℕ) → j < length xs
+    → (lo + j ≤ getD xs j 0) × (getD xs j 0 < U)
 rising-at lo U [] r j h = absurd (omega arith)
 rising-at lo U (x ∷ xs) r zero h =
     let t = rising-parts lo U x xs r in
@@ -44,11 +46,14 @@ rising-at lo U (x ∷ xs) r (suc j) h =
     let ih = rising-at (x + 1) U xs (t .2) j (omega arith) in
     (omega (arith, t .0, ih .0), ih .1)
 
-pub rising-gap : (lo U : ℕ) (xs : List ℕ) → rising lo U xs ≡ true → (i d : ℕ) → i + d < length xs → getD xs i 0 + d ≤ getD xs (i + d) 0
+pub rising-gap : (lo U : ℕ) (xs : List ℕ) → rising lo U xs ≡ true → (i d : ℕ) → i + d < length xs
+    → getD xs i 0 + d ≤ getD xs (i + d) 0
 rising-gap lo U [] r i d h = absurd (omega arith)
 rising-gap lo U (x ∷ xs) r zero zero h = omega arith
-rising-gap lo U (x ∷ xs) r zero (suc d) h = rw zero-add (omega (arith, rising-at (x + 1) U xs (rising-parts lo U x xs r .2) d (omega arith) .0))
-rising-gap lo U (x ∷ xs) r (suc i) d h = rw suc-add (rising-gap (x + 1) U xs (rising-parts lo U x xs r .2) i d (omega arith))
+rising-gap lo U (x ∷ xs) r zero (suc d) h =
+    rw zero-add (omega (arith, rising-at (x + 1) U xs (rising-parts lo U x xs r .2) d (omega arith) .0))
+rising-gap lo U (x ∷ xs) r (suc i) d h =
+    rw suc-add (rising-gap (x + 1) U xs (rising-parts lo U x xs r .2) i d (omega arith))
 
 -- two lists, the second from the least that may follow the first
 pub rising-append : (lo U : ℕ) (xs ys : List ℕ) → rising lo U (xs ++ ys) ≡ rising lo U xs && rising (least lo xs) U ys
@@ -62,7 +67,8 @@ rising-append lo U (x ∷ xs) ys =
 pub climbs-append : (lo : ℕ) (xs ys : List ℕ) → climbs lo (xs ++ ys) ≡ climbs lo xs && climbs (least lo xs) ys
 unfolding climbs least
 climbs-append lo [] ys = refl
-climbs-append lo (x ∷ xs) ys = rw (climbs-append (x + 1) xs ys) (and-assoc (leb lo x) (climbs (x + 1) xs) (climbs (least (x + 1) xs) ys))
+climbs-append lo (x ∷ xs) ys =
+    rw (climbs-append (x + 1) xs ys) (and-assoc (leb lo x) (climbs (x + 1) xs) (climbs (least (x + 1) xs) ys))
 
 pub least-append : (lo : ℕ) (xs ys : List ℕ) → least lo (xs ++ ys) ≡ least (least lo xs) ys
 unfolding least
@@ -86,7 +92,12 @@ unfolding rising climbs least
 rising-climbs lo U [] l = sym (le-leb lo U l)
 rising-climbs lo U (x ∷ xs) l =
     elim (decLt x U) [
-      | yes h ↦ rw (lt-ltb x U h, rising-climbs (x + 1) U xs (omega arith)) (and-assoc (leb lo x) (climbs (x + 1) xs) (leb (least (x + 1) xs) U))
+      | yes h ↦ rw (lt-ltb x U h, rising-climbs (x + 1) U xs (omega arith))
+          (and-assoc (leb lo x) (climbs (x + 1) xs) (leb (least (x + 1) xs) U))
       | no h ↦
-          rw (le-ltb x U (omega arith), ← and-assoc (leb lo x) (climbs (x + 1) xs) (leb (least (x + 1) xs) U), none-below (climbs (x + 1) xs) (least (x + 1) xs) U (λ c. omega (arith, climbs-least (x + 1) xs c)))
+          rw (
+            le-ltb x U (omega arith),
+            ← and-assoc (leb lo x) (climbs (x + 1) xs) (leb (least (x + 1) xs) U),
+            none-below (climbs (x + 1) xs) (least (x + 1) xs) U (λ c. omega (arith, climbs-least (x + 1) xs c)),
+          )
     ]

@@ -1,50 +1,37 @@
--- That framed bytes are the block of what is read of them exactly when they are sound, and so accepted.
-use mathlib.Core.Bool.{Bool, true, false, _&&_}
+-- That framed bytes are the block of what is read of them exactly when they are sound.
+use mathlib.Core.Bool.{true}
 use mathlib.Core.Logic.{_↔_}
 use mathlib.Core.Path.{_≡_, refl, sym, ap, _∙_}
 use mathlib.Core.List.{List, []}
-use Prim.Native.Nat.{ℕ, _+_, _-_, _*_, _/_, _%_, _^_, _≤_, _<_}
+use Prim.Native.Nat.{ℕ, _+_, _*_, _/_, _%_, _^_, _≤_, _<_}
 use native.Mathlib.Nat.{mod-eq-of-lt}
 use native.Mathlib.Omega.{arith}
-use lib.Dec.{leb}
 use lib.ListN.{length, getD}
 use lib.Pow.{shr-le}
-use Rattle.rules.specs.declared.Refusal.the-variants.{Accepted, Runs}
 use Rattle.rules.specs.Bytes.{beAt, same}
 use Rattle.rules.specs.Runs.{bit, runWord, runBit, field, wordsFor}
 use Rattle.rules.specs.Counts.{onesBelow}
 use Rattle.rules.specs.List.{rising, zeros, upper, lower, pointer, lowerAt, upperAt, size, block}
-use Rattle.rules.specs.ReadList.{stated, listU, listN, elements, readList, decode, isBlock, listRefusal}
-use Rattle.laws.proofs.ByteLaws.{Bytes, Alike, alike-append, alike-byte, alike-same, alike-read, alike-reads, beAt-lt}
-use Rattle.laws.proofs.CountLaws.{below-none}
-use Rattle.laws.proofs.RunLaws.{run-agrees, run-spare, ones-whole, words-hold, words-bits, bits-words}
-use Rattle.listlaws.specs.Sound.{widthOf, upperOf, lowerOf, bitsOf, climbs, least, After, Framed, Sound}
-use Rattle.listlaws.proofs.AfterLaws.{run-steps, run-after, after-le, after-unique, count-slope}
-use Rattle.listlaws.proofs.RisingLaws.{and-parts, rising-climbs}
-use Rattle.listlaws.proofs.ElementLaws.{elements-whole, elements-count, upper-number, upper-agrees, lower-number}
-use Rattle.listlaws.proofs.BlockLaws.{block-bytes, block-stated, block-version, block-U, block-n, block-pointer, block-lower, block-upper, block-size, size-is, size-none, same-eq, same-refl}
-use Rattle.listlaws.proofs.RefusalLaws.{framed-accepted, framed-refused}
+use Rattle.rules.specs.ReadList.{stated, listU, listN, elements, readList, decode, isBlock}
+use Rattle.laws.proofs.ByteLaws.{Bytes, Alike, alike-append, alike-byte, alike-same, alike-read, alike-reads}
+use Rattle.laws.proofs.PartLaws.{stated-lt}
+use Rattle.laws.proofs.CountLaws.{below-none, ones-slow, run-steps}
+use Rattle.laws.proofs.RunLaws.{run-agrees, run-spare, ones-whole, words-bits, bits-words}
+use Rattle.listlaws.specs.Sound.{widthOf, upperOf, lowerOf, bitsOf, After, Framed, Sound}
+use Rattle.listlaws.proofs.AfterLaws.{run-after, after-le, after-unique}
+use Rattle.listlaws.proofs.RisingLaws.{and-parts}
+use Rattle.listlaws.proofs.ElementLaws.{elements-count, upper-number, upper-agrees, lower-number}
+use Rattle.listlaws.proofs.BlockLaws.{block-bytes, block-stated, block-version, block-U, block-n, block-pointer}
+use Rattle.listlaws.proofs.BlockLaws.{block-lower, block-upper, block-size, size-is, size-none, same-eq}
+use Rattle.listlaws.proofs.BlockLaws.{same-refl}
 use Rattle.listlaws.proofs.ValidLaws.{read-is, read-none}
-
--- whether the elements rise, read of whole words, the bound U tested once at the end
-pub rises-words : (s : List ℕ) (up lo w U b : ℕ) → ((i : ℕ) → b ≤ i → i < 64 * wordsFor b → runBit s up i ≡ 0)
-    → rising 0 U (elements s up lo w b 0 0) ≡ climbs 0 (elements s up lo w (64 * wordsFor b) 0 0) && leb (least 0 (elements s up lo w (64 * wordsFor b) 0 0)) U
-rises-words s up lo w U b z =
-    let e : b + (64 * wordsFor b - b) ≡ 64 * wordsFor b = omega (arith, words-hold b) in
-    let g = rw e at (elements-whole s up lo w b (64 * wordsFor b - b) (λ p l h. z p l (omega arith))) in
-    rw g (rising-climbs 0 U (elements s up lo w b 0 0) (omega arith))
-
-false-from : (b : Bool) → (b ≡ true → ⊥) → b ≡ false
-false-from true g = absurd (g refl)
-false-from false g = refl
 
 module _ (s : List ℕ) (bs : Bytes s) (f : Framed s) (xs : List ℕ) (len : length xs ≡ listN s) where
   abbrev t : List ℕ
   t = block (listU s) xs
 
   length-lt : length s < 2 ^ 32
-  unfolding stated
-  length-lt = rw (f .length-stated) at (beAt-lt 4 s 0 bs)
+  length-lt = rw (f .length-stated) at (stated-lt s bs)
 
   lengths : length s ≡ length t
   lengths = f .length-is ∙ ap (size (listU s)) (sym len) ∙ sym (block-size (listU s) xs)
@@ -54,10 +41,12 @@ module _ (s : List ℕ) (bs : Bytes s) (f : Framed s) (xs : List ℕ) (len : len
   unfolding stated listU listN
   header-alike =
       let read = alike-read s t bs (block-bytes (listU s) xs) in
-      let e0 : beAt 4 s 0 ≡ beAt 4 t 0 = f .length-stated ∙ sym (mod-eq-of-lt length-lt) ∙ ap (λ (k : ℕ). k % 2 ^ 32) lengths ∙ sym (block-stated (listU s) xs) in
+      let e0 : beAt 4 s 0 ≡ beAt 4 t 0 = f .length-stated ∙ sym (mod-eq-of-lt length-lt)
+      ∙ ap (λ (k : ℕ). k % 2 ^ 32) lengths ∙ sym (block-stated (listU s) xs) in
       let e4 : getD s 4 0 ≡ getD t 4 0 = f .version-is ∙ sym (block-version (listU s) xs) in
       let e5 : beAt 4 s 5 ≡ beAt 4 t 5 = sym (block-U (listU s) xs ∙ mod-eq-of-lt (omega (arith, f .within))) in
-      let e9 : beAt 4 s 9 ≡ beAt 4 t 9 = sym len ∙ sym (block-n (listU s) xs ∙ mod-eq-of-lt (omega (arith, f .within, f .below))) in
+      let e9 : beAt 4 s 9 ≡ beAt 4 t 9 =
+      sym len ∙ sym (block-n (listU s) xs ∙ mod-eq-of-lt (omega (arith, f .within, f .below))) in
       alike-append s t 0 4 13 (read 4 0 e0)
       (alike-append s t 4 5 13 (alike-byte s t 4 e4)
       (alike-append s t 5 9 13 (read 4 5 e5) (read 4 9 e9)))
@@ -96,15 +85,20 @@ module _ (s : List ℕ) (bs : Bytes s) (f : Framed s) where
       low-is : lower (widthOf s) 0 xs ≡ field s (lowerOf s) 0 (n * widthOf s)
       low-is = rw (lower-number s (upperOf s) (lowerOf s) (widthOf s) (bitsOf s), len)
 
-      pointer-after : (q : ℕ) → q ≤ zeros U (widthOf s) / 256 → After (onesBelow s (upperOf s)) (256 * q) (pointer (bitsOf s) num q)
+      pointer-after : (q : ℕ) → q ≤ zeros U (widthOf s) / 256
+          → After (onesBelow s (upperOf s)) (256 * q) (pointer (bitsOf s) num q)
       unfolding pointer
-      pointer-after q h = run-after s (upperOf s) num (bitsOf s) (256 * q) (upper-agrees s (upperOf s) (lowerOf s) (widthOf s) (bitsOf s)) (omega (arith, count-is))
+      pointer-after q h = run-after s (upperOf s) num (bitsOf s) (256 * q)
+          (upper-agrees s (upperOf s) (lowerOf s) (widthOf s) (bitsOf s)) (omega (arith, count-is))
 
-      pointer-reads : (q : ℕ) → 0 < q → q ≤ zeros U (widthOf s) / 256 → beAt 4 (block U xs) (9 + 4 * q) ≡ pointer (bitsOf s) num q
+      pointer-reads : (q : ℕ) → 0 < q → q ≤ zeros U (widthOf s) / 256
+          → beAt 4 (block U xs) (9 + 4 * q) ≡ pointer (bitsOf s) num q
       unfolding zeros
       pointer-reads q g h =
-          let l = after-le (onesBelow s (upperOf s)) (run-steps s (upperOf s)) (256 * q) (pointer (bitsOf s) num q) (pointer-after q h) (bitsOf s) (omega (arith, count-is)) in
-          block-pointer U xs n (widthOf s) len some refl q g h ∙ mod-eq-of-lt (omega (arith, l, f .within, f .below, shr-le U (widthOf s)))
+          let l = after-le (onesBelow s (upperOf s)) (run-steps s (upperOf s)) (256 * q)
+          (pointer (bitsOf s) num q) (pointer-after q h) (bitsOf s) (omega (arith, count-is)) in
+          block-pointer U xs n (widthOf s) len some refl q g h
+          ∙ mod-eq-of-lt (omega (arith, l, f .within, f .below, shr-le U (widthOf s)))
 
       -- ---- sound bytes are the block of what is read
 
@@ -116,21 +110,25 @@ module _ (s : List ℕ) (bs : Bytes s) (f : Framed s) where
         unfolding lowerAt
         pointers-alike = alike-reads s (block U xs) bs bt 4 13 (zeros U (widthOf s) / 256) (λ q h.
             let e : 9 + 4 * (q + 1) ≡ 13 + 4 * q = omega arith in
-            rw e at (after-unique (onesBelow s (upperOf s)) (run-steps s (upperOf s)) (256 * (q + 1)) (beAt 4 s (9 + 4 * (q + 1))) (pointer (bitsOf s) num (q + 1)) (c .pointers-are (q + 1) (omega arith) (omega arith)) (pointer-after (q + 1) (omega arith))
+            rw e at (after-unique (onesBelow s (upperOf s))
+            (run-steps s (upperOf s)) (256 * (q + 1)) (beAt 4 s (9 + 4 * (q + 1))) (pointer (bitsOf s) num (q + 1))
+            (c .pointers-are (q + 1) (omega arith) (omega arith)) (pointer-after (q + 1) (omega arith))
             ∙ sym (pointer-reads (q + 1) (omega arith) (omega arith))))
 
         lower-alike : Alike s (block U xs) (lowerOf s) (upperOf s)
         unfolding upperAt runWord
         lower-alike = alike-reads s (block U xs) bs bt 8 (lowerOf s) (wordsFor (n * widthOf s)) (λ k h.
             bits-words s (lowerOf s) (wordsFor (n * widthOf s)) (lower (widthOf s) 0 xs) bs
-            (λ i h. run-agrees s (lowerOf s) (n * widthOf s) (64 * wordsFor (n * widthOf s)) (c .lower-spare) i h ∙ ap (λ (v : ℕ). bit v i) (sym low-is)) k h
+            (λ i h. run-agrees s (lowerOf s) (n * widthOf s) (64 * wordsFor (n * widthOf s)) (c .lower-spare) i h
+            ∙ ap (λ (v : ℕ). bit v i) (sym low-is)) k h
             ∙ sym (block-lower U xs n (widthOf s) len some refl k h))
 
         upper-alike : Alike s (block U xs) (upperOf s) (upperOf s + 8 * wordsFor (bitsOf s))
         unfolding runWord
         upper-alike = alike-reads s (block U xs) bs bt 8 (upperOf s) (wordsFor (bitsOf s)) (λ k h.
             bits-words s (upperOf s) (wordsFor (bitsOf s)) num bs
-            (λ i h. run-agrees s (upperOf s) (bitsOf s) (64 * wordsFor (bitsOf s)) (c .upper-spare) i h ∙ ap (λ (v : ℕ). bit v i) (sym number-is)) k h
+            (λ i h. run-agrees s (upperOf s) (bitsOf s) (64 * wordsFor (bitsOf s)) (c .upper-spare) i h
+            ∙ ap (λ (v : ℕ). bit v i) (sym number-is)) k h
             ∙ sym (block-upper U xs n (widthOf s) len some refl k h))
 
         sound-same : s ≡ block U xs
@@ -139,21 +137,30 @@ module _ (s : List ℕ) (bs : Bytes s) (f : Framed s) where
             (rw framed-length
             (alike-append s (block U xs) 0 13 (upperOf s + 8 * wordsFor (bitsOf s)) (header-alike s bs f xs len)
             (alike-append s (block U xs) 13 (lowerOf s) (upperOf s + 8 * wordsFor (bitsOf s)) pointers-alike
-            (alike-append s (block U xs) (lowerOf s) (upperOf s) (upperOf s + 8 * wordsFor (bitsOf s)) lower-alike upper-alike))))
+            (alike-append s (block U xs) (lowerOf s) (upperOf s)
+            (upperOf s + 8 * wordsFor (bitsOf s)) lower-alike upper-alike))))
 
       -- ---- and only those
 
       same-sound : rising 0 U xs ≡ true → s ≡ block U xs → Sound s (listU s) (listN s) (widthOf s)
       same-sound r e =
-          let ub : (i : ℕ) → i < 64 * wordsFor (bitsOf s) → runBit s (upperOf s) i ≡ bit num i = words-bits s (upperOf s) (wordsFor (bitsOf s)) num (λ k h. ap (λ (l : List ℕ). runWord l (upperOf s) k) e ∙ block-upper U xs n (widthOf s) len some refl k h) in
-          let lb : (i : ℕ) → i < 64 * wordsFor (n * widthOf s) → runBit s (lowerOf s) i ≡ bit (lower (widthOf s) 0 xs) i = words-bits s (lowerOf s) (wordsFor (n * widthOf s)) (lower (widthOf s) 0 xs) (λ k h. ap (λ (l : List ℕ). runWord l (lowerOf s) k) e ∙ block-lower U xs n (widthOf s) len some refl k h) in
-          let us = run-spare s (upperOf s) (bitsOf s) (64 * wordsFor (bitsOf s)) (λ i h. ub i h ∙ ap (λ (v : ℕ). bit v i) number-is) in
+          let ub : (i : ℕ) → i < 64 * wordsFor (bitsOf s) → runBit s (upperOf s) i ≡ bit num i =
+          words-bits s (upperOf s) (wordsFor (bitsOf s)) num
+          (λ k h. ap (λ (l : List ℕ). runWord l (upperOf s) k) e ∙ block-upper U xs n (widthOf s) len some refl k h) in
+          let lb : (i : ℕ) → i < 64 * wordsFor (n * widthOf s)
+          → runBit s (lowerOf s) i ≡ bit (lower (widthOf s) 0 xs) i =
+          words-bits s (lowerOf s) (wordsFor (n * widthOf s)) (lower (widthOf s) 0 xs)
+          (λ k h. ap (λ (l : List ℕ). runWord l (lowerOf s) k) e ∙ block-lower U xs n (widthOf s) len some refl k h) in
+          let us = run-spare s (upperOf s) (bitsOf s) (64 * wordsFor (bitsOf s))
+          (λ i h. ub i h ∙ ap (λ (v : ℕ). bit v i) number-is) in
           record {
             ones-are = ones-whole s (upperOf s) (bitsOf s) us ∙ sym count-is ∙ len;
             upper-spare = us;
-            lower-spare = run-spare s (lowerOf s) (n * widthOf s) (64 * wordsFor (n * widthOf s)) (λ i h. lb i h ∙ ap (λ (v : ℕ). bit v i) low-is);
+            lower-spare = run-spare s (lowerOf s) (n * widthOf s) (64 * wordsFor (n * widthOf s))
+                (λ i h. lb i h ∙ ap (λ (v : ℕ). bit v i) low-is);
             rises = r;
-            pointers-are = λ q g h. rw (ap (λ (l : List ℕ). beAt 4 l (9 + 4 * q)) e ∙ pointer-reads q g h) (pointer-after q h);
+            pointers-are =
+                λ q g h. rw (ap (λ (l : List ℕ). beAt 4 l (9 + 4 * q)) e ∙ pointer-reads q g h) (pointer-after q h);
           }
 
     sound-block : Sound s (listU s) (listN s) (widthOf s) → isBlock s U (decode s) ≡ true
@@ -168,19 +175,15 @@ module _ (s : List ℕ) (bs : Bytes s) (f : Framed s) where
         let p = and-parts (rising 0 U xs) (same s (block U xs)) (rw reads at a) in
         let e : s ≡ block U xs = same-eq s (block U xs) (p .1) in
         let z : 0 + bitsOf s ≡ bitsOf s = omega arith in
-        let few = rw z at (count-slope (onesBelow s (upperOf s)) (run-steps s (upperOf s)) 0 (bitsOf s)) in
-        let len : length xs ≡ n = sym (mod-eq-of-lt (omega (arith, count-is, few, below-none s (upperOf s), shr-le U (widthOf s), f .within, f .below))) ∙ sym (block-n U xs) ∙ ap listN (sym e) in
+        let few = rw z at (ones-slow s (upperOf s) 0 (bitsOf s)) in
+        let len : length xs ≡ n = sym (mod-eq-of-lt
+        (omega (arith, count-is, few, below-none s (upperOf s), shr-le U (widthOf s), f .within, f .below)))
+        ∙ sym (block-n U xs) ∙ ap listN (sym e) in
         same-sound len (p .0) e
 
     -- refusal 6, part by part
     pub sound-iff : (isBlock s (listU s) (decode s) ≡ true) ↔ Sound s (listU s) (listN s) (widthOf s)
     sound-iff = (block-sound, sound-block)
-
-    pub sound-accepted : Sound s (listU s) (listN s) (widthOf s) → listRefusal s ≡ Accepted
-    sound-accepted c = framed-accepted s f (sound-block c)
-
-    pub unsound-refused : (Sound s (listU s) (listN s) (widthOf s) → ⊥) → listRefusal s ≡ Runs
-    unsound-refused g = framed-refused s f (false-from (isBlock s U (decode s)) (λ a. g (block-sound a)))
 
   reads-none : listN s ≡ 0 → decode s ≡ []
   unfolding decode
@@ -190,8 +193,6 @@ module _ (s : List ℕ) (bs : Bytes s) (f : Framed s) where
   pub none-block : listN s ≡ 0 → isBlock s (listU s) (decode s) ≡ true
   unfolding isBlock rising
   none-block z =
-      let e : s ≡ block U [] = alike-same s (block U []) (lengths s bs f [] (sym z)) (rw (f .length-is ∙ ap (size U) z ∙ size-none U) (header-alike s bs f [] (sym z))) in
+      let e : s ≡ block U [] = alike-same s (block U []) (lengths s bs f [] (sym z))
+      (rw (f .length-is ∙ ap (size U) z ∙ size-none U) (header-alike s bs f [] (sym z))) in
       rw (reads-none z, ← e) (same-refl s)
-
-  pub none-accepted : listN s ≡ 0 → listRefusal s ≡ Accepted
-  none-accepted z = framed-accepted s f (none-block z)

@@ -19,18 +19,21 @@ pub decode-block : (U : ℕ) (xs : List ℕ) → validList U xs ≡ true → dec
 decode-block U xs v = valid-read U xs v
 
 -- A block is that of one valid list alone: its bytes tell U and the elements.
-pub block-tells : (s : List ℕ) (U : ℕ) (xs : List ℕ) → validList U xs ≡ true → s ≡ block U xs → (U ≡ listU s) × (xs ≡ decode s)
+pub block-tells : (s : List ℕ) (U : ℕ) (xs : List ℕ) → validList U xs ≡ true → s ≡ block U xs
+    → (U ≡ listU s) × (xs ≡ decode s)
 block-tells s U xs v e = (sym (ap listU e ∙ valid-U U xs v), sym (ap decode e ∙ decode-block U xs v))
 
 -- Two valid lists with one block are one.
-pub block-unique : (U Y : ℕ) (xs ys : List ℕ) → validList U xs ≡ true → validList Y ys ≡ true → block U xs ≡ block Y ys → (U ≡ Y) × (xs ≡ ys)
+pub block-unique : (U Y : ℕ) (xs ys : List ℕ) → validList U xs ≡ true → validList Y ys ≡ true → block U xs ≡ block Y ys
+    → (U ≡ Y) × (xs ≡ ys)
 block-unique U Y xs ys v y e =
     let a = block-tells (block U xs) U xs v refl in
     let b = block-tells (block U xs) Y ys y e in
     (a .0 ∙ sym (b .0), a .1 ∙ sym (b .1))
 
 -- What is accepted is the block of the valid list that is read of it.
-pub accepted-block : (s : List ℕ) → listRefusal s ≡ Accepted → (validList (listU s) (decode s) ≡ true) × (s ≡ block (listU s) (decode s))
+pub accepted-block : (s : List ℕ) → listRefusal s ≡ Accepted
+    → (validList (listU s) (decode s) ≡ true) × (s ≡ block (listU s) (decode s))
 unfolding isBlock
 accepted-block s a =
     let f = accepted-framed s a in
@@ -41,10 +44,12 @@ accepted-block s a =
 pub block-accepted : (U : ℕ) (xs : List ℕ) → validList U xs ≡ true → listRefusal (block U xs) ≡ Accepted
 unfolding isBlock
 block-accepted U xs v =
-    framed-accepted (block U xs) (valid-framed U xs v) (rw (decode-block U xs v, valid-U U xs v, valid-parts U xs v .1) (same-refl (block U xs)))
+    framed-accepted (block U xs) (valid-framed U xs v)
+    (rw (decode-block U xs v, valid-U U xs v, valid-parts U xs v .1) (same-refl (block U xs)))
 
 -- Accepted are the blocks of valid lists, and nothing else.
-pub accepted-iff : (s : List ℕ) → (listRefusal s ≡ Accepted) ↔ ((U : ℕ) × (xs : List ℕ) × (validList U xs ≡ true) × (s ≡ block U xs))
+pub accepted-iff : (s : List ℕ)
+    → (listRefusal s ≡ Accepted) ↔ ((U : ℕ) × (xs : List ℕ) × (validList U xs ≡ true) × (s ≡ block U xs))
 accepted-iff s = (
   λ a. (listU s, decode s, accepted-block s a .0, accepted-block s a .1),
   λ b. ap listRefusal (b .3) ∙ block-accepted (b .0) (b .1) (b .2),

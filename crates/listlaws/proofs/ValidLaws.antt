@@ -3,7 +3,8 @@ use mathlib.Core.Bool.{true}
 use mathlib.Core.Path.{_≡_, refl, sym, ap, ap₂, _∙_}
 use mathlib.Core.List.{List, [], _∷_}
 use Prim.Native.Nat.{ℕ, zero, suc, _+_, _*_, _/_, _%_, _^_, _≤_, _<_}
-use native.Mathlib.Nat.{add-mul, one-mul, zero-mul, mod-eq-of-lt, le-div-iff-mul-le, div-mul-le-self, le-trans, mul-le-mul-right}
+use native.Mathlib.Nat.{add-mul, one-mul, zero-mul, mod-eq-of-lt, le-div-iff-mul-le}
+use native.Mathlib.Nat.{div-mul-le-self, le-trans, mul-le-mul-right}
 use native.Mathlib.Decide.{decLt, ℕ-discrete}
 use native.Mathlib.Omega.{arith}
 use borrow.Author.Tests.{le-leb, lt-ltb, leb-true}
@@ -22,7 +23,8 @@ use Rattle.listlaws.proofs.RisingLaws.{and-parts, rising-parts, rising-
 use Rattle.listlaws.proofs.ElementLaws.{elements-zero, elements-one}
 use Rattle.listlaws.proofs.UpperLaws.{upper-none, upper-below, upper-here, upper-above}
 use Rattle.listlaws.proofs.LowerLaws.{lower-at}
-use Rattle.listlaws.proofs.BlockLaws.{block-stated, block-version, block-U, block-n, block-body, block-lower, block-upper, block-size, size-is, size-none}
+use Rattle.listlaws.proofs.BlockLaws.{block-stated, block-version, block-U, block-n, block-body}
+use Rattle.listlaws.proofs.BlockLaws.{block-lower, block-upper, block-size, size-is, size-none}
 
 -- ---- reading the runs' numbers
 
@@ -34,16 +36,17 @@ module _ (w : ℕ) (s : List ℕ) (up lo U : ℕ) where
       rw (le-leb x x (omega arith), lt-ltb x U (t .1)) (t .2)
 
   -- the b bits from place h + i on hold the list of which they are the upper run
-  pub elements-are : (b h i k : ℕ) (xs : List ℕ) → rising k U xs ≡ true → h * 2 ^ w ≤ k → h ≤ U / 2 ^ w → b + h ≡ U / 2 ^ w + length xs
-      → ((p : ℕ) → h + i ≤ p → p < h + i + b → runBit s up p ≡ bit (upper w i xs) p)
-      → ((j : ℕ) → j < length xs → field s lo ((i + j) * w) w ≡ getD xs j 0 % 2 ^ w)
-      → elements s up lo w b h i ≡ xs
+  pub elements-are : (b h i k : ℕ) (xs : List ℕ) → rising k U xs ≡ true → h * 2 ^ w ≤ k → h ≤ U / 2 ^ w
+      → b + h ≡ U / 2 ^ w + length xs → ((p : ℕ) → h + i ≤ p → p < h + i + b → runBit s up p ≡ bit (upper w i xs) p)
+      → ((j : ℕ) → j < length xs → field s lo ((i + j) * w) w ≡ getD xs j 0 % 2 ^ w) → elements s up lo w b h i ≡ xs
   unfolding elements rising
   elements-are zero h i k [] r l g e u v = refl
   elements-are zero h i k (x ∷ xs) r l g e u v = absurd (omega arith)
   elements-are (suc b) h i k [] r l g e u v =
       let z : runBit s up (h + i) ≡ 0 = u (h + i) (omega arith) (omega arith) ∙ upper-none w i (h + i) in
-      elements-zero s up lo w b h i z ∙ elements-are b (h + 1) i ((h + 1) * 2 ^ w) [] refl (omega arith) (omega arith) (omega arith) (λ p m n. u p (omega arith) (omega arith)) (λ j m. absurd (omega arith))
+      elements-zero s up lo w b h i z
+      ∙ elements-are b (h + 1) i ((h + 1) * 2 ^ w) [] refl (omega arith) (omega arith) (omega arith)
+      (λ p m n. u p (omega arith) (omega arith)) (λ j m. absurd (omega arith))
   elements-are (suc b) h i k (x ∷ xs) r l g e u v =
       let t = rising-parts k U x xs r in
       let c : ℕ = x / 2 ^ w in
@@ -51,7 +54,8 @@ module _ (w : ℕ) (s : List ℕ) (up lo U : ℕ) where
       let cz : c ≤ U / 2 ^ w = shr-mono w (omega (arith, t .1)) in
       elim (ℕ-discrete h c) [
         | yes q ↦
-            let o : runBit s up (h + i) ≡ 1 = u (h + i) (omega arith) (omega arith) ∙ rw q (upper-here w U k x xs i r) in
+            let o : runBit s up (h + i) ≡ 1 =
+            u (h + i) (omega arith) (omega arith) ∙ rw q (upper-here w U k x xs i r) in
             let z : i + 0 ≡ i = omega arith in
             let y : h * 2 ^ w + field s lo (i * w) w ≡ x = rw (q, rw z at (v 0 (omega arith))) (split x w) in
             elements-one s up lo w b h i o
@@ -63,9 +67,13 @@ module _ (w : ℕ) (s : List ℕ) (up lo U : ℕ) where
             rw a (v (suc j) (omega arith))))
         | no q ↦
             let hc' : suc h ≤ c = omega (arith, q) in
-            let z : runBit s up (h + i) ≡ 0 = u (h + i) (omega arith) (omega arith) ∙ upper-below w U k x xs i r (h + i) (omega arith) in
-            let m : (h + 1) * 2 ^ w ≤ x = le-trans (mul-le-mul-right (2 ^ w) (omega arith)) (div-mul-le-self x (2 ^ w)) in
-            elements-zero s up lo w b h i z ∙ elements-are b (h + 1) i x (x ∷ xs) (rising-from k x xs r) m (omega arith) (omega arith) (λ p a d. u p (omega arith) (omega arith)) v
+            let z : runBit s up (h + i) ≡ 0 =
+            u (h + i) (omega arith) (omega arith) ∙ upper-below w U k x xs i r (h + i) (omega arith) in
+            let m : (h + 1) * 2 ^ w ≤ x =
+            le-trans (mul-le-mul-right (2 ^ w) (omega arith)) (div-mul-le-self x (2 ^ w)) in
+            elements-zero s up lo w b h i z
+            ∙ elements-are b (h + 1) i x (x ∷ xs) (rising-from k x xs r) m (omega arith) (omega arith)
+            (λ p a d. u p (omega arith) (omega arith)) v
       ]
 
 -- ---- a valid list
@@ -86,7 +94,8 @@ field-in n w j h =
     rw (← e) (mul-le-mul-right w (omega arith))
 
 -- the elements that are read, n at least 1
-pub read-is : (s : List ℕ) (U n : ℕ) → 0 < n → readList s U n ≡ elements s (upperAt U n (width U n)) (lowerAt U (width U n)) (width U n) (n + zeros U (width U n)) 0 0
+pub read-is : (s : List ℕ) (U n : ℕ) → 0 < n → readList s U n
+    ≡ elements s (upperAt U n (width U n)) (lowerAt U (width U n)) (width U n) (n + zeros U (width U n)) 0 0
 unfolding readList
 read-is s U zero h = absurd (omega arith)
 read-is s U (suc m) h = refl
@@ -121,8 +130,10 @@ module _ (U : ℕ) (xs : List ℕ) (v : validList U xs ≡ true) where
   valid-n = block-n U xs ∙ mod-eq-of-lt (omega (arith, within, valid-below))
 
   module _ (some : 0 < length xs) where
-    pub upper-bits : (p : ℕ) → p < 64 * wordsFor (n + zeros U w) → runBit (block U xs) (upperAt U n w) p ≡ bit (upper w 0 xs) p
-    upper-bits = words-bits s (upperAt U n w) (wordsFor (n + zeros U w)) (upper w 0 xs) (block-upper U xs n w refl some refl)
+    pub upper-bits : (p : ℕ) → p < 64 * wordsFor (n + zeros U w)
+        → runBit (block U xs) (upperAt U n w) p ≡ bit (upper w 0 xs) p
+    upper-bits =
+        words-bits s (upperAt U n w) (wordsFor (n + zeros U w)) (upper w 0 xs) (block-upper U xs n w refl some refl)
 
     pub lower-bits : (p : ℕ) → p < 64 * wordsFor (n * w) → runBit (block U xs) (lowerAt U w) p ≡ bit (lower w 0 xs) p
     lower-bits = words-bits s (lowerAt U w) (wordsFor (n * w)) (lower w 0 xs) (block-lower U xs n w refl some refl)
@@ -137,7 +148,8 @@ module _ (U : ℕ) (xs : List ℕ) (v : validList U xs ≡ true) where
     read-back : elements s (upperAt U n w) (lowerAt U w) w (n + zeros U w) 0 0 ≡ xs
     unfolding zeros
     read-back =
-        elements-are w s (upperAt U n w) (lowerAt U w) U (n + zeros U w) 0 0 0 xs rises (omega (arith, zero-mul (2 ^ w))) (omega arith) (omega arith)
+        elements-are w s (upperAt U n w) (lowerAt U w) U (n + zeros U w) 0 0 0 xs rises
+        (omega (arith, zero-mul (2 ^ w))) (omega arith) (omega arith)
         (λ p l h. upper-bits p (omega (arith, words-hold (n + zeros U w))))
         (λ j h.
         let z : 0 + j ≡ j = omega arith in
@@ -145,14 +157,25 @@ module _ (U : ℕ) (xs : List ℕ) (v : validList U xs ≡ true) where
 
     small-some : length s < 2 ^ 24
     unfolding upperAt lowerAt zeros wordsFor
-    small-some = omega (arith, block-size U xs, size-is U n some, low-bits U n some valid-below (omega (arith, within)), shr-le U w, within, valid-below)
+    small-some = omega (
+      arith,
+      block-size U xs,
+      size-is U n some,
+      low-bits U n some valid-below (omega (arith, within)),
+      shr-le U w,
+      within,
+      valid-below,
+    )
 
   is-nil : (l : List ℕ) → length l ≡ 0 → l ≡ []
   is-nil [] e = refl
   is-nil (x ∷ l) e = absurd (omega arith)
 
   pub valid-small : length (block U xs) < 2 ^ 24
-  valid-small = elim (decLt 0 n) [ yes a ↦ small-some a | no b ↦ let z : length xs ≡ 0 = omega arith in omega (arith, block-size U xs, ap (size U) z, size-none U) ]
+  valid-small = elim (decLt 0 n) [
+    | yes a ↦ small-some a
+    | no b ↦ let z : length xs ≡ 0 = omega arith in omega (arith, block-size U xs, ap (size U) z, size-none U)
+  ]
 
   pub valid-short : length (block U xs) < 2 ^ 32
   valid-short = omega (arith, valid-small)
@@ -161,7 +184,10 @@ module _ (U : ℕ) (xs : List ℕ) (v : validList U xs ≡ true) where
   unfolding decode
   valid-read =
       ap₂ (λ (a b : ℕ). readList s a b) valid-U valid-n
-      ∙ elim (decLt 0 n) [ yes a ↦ read-is s U n a ∙ read-back a | no b ↦ let z : length xs ≡ 0 = omega arith in ap (readList s U) z ∙ read-none s U ∙ sym (is-nil xs z) ]
+      ∙ elim (decLt 0 n) [
+        | yes a ↦ read-is s U n a ∙ read-back a
+        | no b ↦ let z : length xs ≡ 0 = omega arith in ap (readList s U) z ∙ read-none s U ∙ sym (is-nil xs z)
+      ]
 
   pub valid-framed : Framed (block U xs)
   valid-framed = record {

@@ -1,7 +1,8 @@
 -- What is tested of the bytes of a list, each part by itself.
 --
 --   onesTo u p       how many of the first p bits of the number u are 1
---   After c k q      place q is just after zero number k, counted from 1, of a run with c p ones below each place p; 0 for k = 0
+--   After c k q      place q is just after zero number k, counted from 1,
+--                    of a run with c p ones below each place p; 0 for k = 0
 --   climbs lo xs     xs rises strictly, from lo at the least
 --   least lo xs      the least that may follow xs where it climbs from lo; lo for the empty list
 --   widthOf s, upperOf s, lowerOf s, bitsOf s   w, where the two runs start, and n + Z, of the block s with elements
@@ -61,4 +62,5 @@ pub record Sound (s : List ℕ) (U n w : ℕ) : Type 0 where
   pub upper-spare : (i : ℕ) → n + zeros U w ≤ i → i < 64 * wordsFor (n + zeros U w) → runBit s (upperAt U n w) i ≡ 0
   pub lower-spare : (i : ℕ) → n * w ≤ i → i < 64 * wordsFor (n * w) → runBit s (lowerAt U w) i ≡ 0
   pub rises : rising 0 U (elements s (upperAt U n w) (lowerAt U w) w (n + zeros U w) 0 0) ≡ true
-  pub pointers-are : (q : ℕ) → 0 < q → q ≤ zeros U w / 256 → After (onesBelow s (upperAt U n w)) (256 * q) (beAt 4 s (9 + 4 * q))
+  pub pointers-are : (q : ℕ) → 0 < q → q ≤ zeros U w / 256
+      → After (onesBelow s (upperAt U n w)) (256 * q) (beAt 4 s (9 + 4 * q))

@@ -1,4 +1,3 @@
 pub mod ReplyLaws
 pub mod PrintLaws
 pub mod ToldLaws
-pub mod Unique

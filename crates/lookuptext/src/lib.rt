@@ -6,9 +6,9 @@ ghost use lib.ListN.{length};
 ghost use Rattle.rules.specs.declared.Refusal.the-variants.{Question};
 ghost use Rattle.rules.specs.Refusal.{andThen};
 ghost use Rattle.rules.specs.Index.{indexRefusal};
-ghost use Rattle.rules.specs.Write.{laid};
 ghost use Rattle.rules.specs.Ask.{reply};
-ghost use Rattle.rules.specs.Program.{answerRoom, printedReply, printed};
+ghost use Rattle.rules.specs.Program.{answerRoom, printedReply};
+ghost use Rattle.rules.specs.Promises.{Printed};
 ghost use Rattle.text.specs.Laid.{Put, wordsOf};
 use rules::Refusal;
 
@@ -41,8 +41,7 @@ fn put_reply(card: &[u8], questions: &[u8], text: &mut [u8]) -> usize
 
 // Lays what the program prints at the front of the text, and gives its length; behind it nothing changes.
 pub fn answer_text(card: &[u8], questions: &[u8], text: &mut [u8; 90200]) -> usize
-    ensures { λ r. ⌜ (now (text .exit) ≡ laid (printed (now (card .entry)) (now (questions .entry))) (now (text .entry)))
-        × (r ≡ length (printed (now (card .entry)) (now (questions .entry)))) ⌝ }
+    ensures { λ r. ⌜ Printed (now (card .entry)) (now (questions .entry)) (now (text .entry)) r (now (text .exit)) ⌝ }
 {
     if 32768 < card.len() || 32768 < questions.len() {
         return text::put_refused(text, 0, Refusal::Room);

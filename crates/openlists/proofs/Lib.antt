@@ -1,4 +1,5 @@
 pub mod LeadLaws
 pub mod SourceLaws
 pub mod SlotLaws
+pub mod FewLaws
 pub mod Theorems

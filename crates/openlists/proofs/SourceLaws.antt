@@ -2,16 +2,16 @@
 use mathlib.Core.Path.{_≡_, refl, ap, ap₂, _∙_}
 use mathlib.Core.List.{List, [], _∷_, _++_}
 use Prim.Native.Nat.{ℕ, zero, suc, _+_, _-_, _≤_, _<_}
-use native.Mathlib.Decide.{decLt}
+use native.Mathlib.Decide.{decLt, ℕ-discrete}
 use native.Mathlib.Omega.{arith}
-use borrow.Author.Tests.{ne-eqb, le-leb, lt-leb}
+use borrow.Author.Tests.{eq-eqb, ne-eqb, le-leb, lt-leb, lt-ltb, le-ltb}
 use lib.ListN.{getD, take, drop}
 use lib.Seq.{take-at, drop-at, getD-at}
 use Rattle.rules.specs.Common.{leadOf}
 use Rattle.commonlaws.specs.Readers.{leadPages, otherPages}
 use Rattle.query.specs.Lists.{span}
 use Rattle.query.proofs.SpanLaws.{length-span, span-cons, span-split, span-same}
-use Rattle.openlists.specs.Places.{sourceOf}
+use Rattle.openlists.specs.Places.{sourceOf, slotOf}
 
 -- ---- parts of a span
 
@@ -29,7 +29,7 @@ module _ {A : Type 0} (f : ℕ → A) where
   span-drop : (k m : ℕ) → m ≤ k → drop m (span f 0 k) ≡ span f m (k - m)
   span-drop k m h = rw (span-parts k m h) (drop-at (span f 0 m) (span f m (k - m)) m (length-span f 0 m))
 
-  span-at : (k m : ℕ) (d : A) → m < k → getD (span f 0 k) m d ≡ f m
+  pub span-at : (k m : ℕ) (d : A) → m < k → getD (span f 0 k) m d ≡ f m
   span-at k m d h =
       let l : m ≤ k = omega arith in
       rw (span-parts k m l, span-cons f m k h) (getD-at (span f 0 m) (f m) (span f (m + 1) (k - (m + 1))) d m (length-span f 0 m))
@@ -64,6 +64,50 @@ source-lt lead (suc t) k h l =
       | no g ↦
           let e : suc t ≡ t + 1 = omega arith in
           rw (e, source-before lead t (omega arith)) (omega arith)
+    ]
+
+-- ---- the slots, where the sources stand
+
+slot-lead : (lead : ℕ) → slotOf lead lead ≡ 0
+unfolding slotOf
+slot-lead lead = rw (eq-eqb lead lead refl)
+
+slot-before : (lead i : ℕ) → i < lead → slotOf lead i ≡ i + 1
+unfolding slotOf
+slot-before lead i h = rw (ne-eqb i lead (λ z. omega arith), lt-ltb i lead h)
+
+slot-behind : (lead i : ℕ) → lead < i → slotOf lead i ≡ i
+unfolding slotOf
+slot-behind lead i h = rw (ne-eqb i lead (λ z. omega arith), le-ltb i lead (omega arith))
+
+pub slot-lt : (lead i k : ℕ) → lead < k → i < k → slotOf lead i < k
+slot-lt lead i k h l =
+    elim (ℕ-discrete i lead) [
+      | yes e ↦ rw (e, slot-lead lead) (omega arith)
+      | no e ↦ elim (decLt lead i) [
+        | yes g ↦ rw (slot-behind lead i g) l
+        | no g ↦ rw (slot-before lead i (omega arith)) (omega arith)
+      ]
+    ]
+
+pub source-slot : (lead i : ℕ) → sourceOf lead (slotOf lead i) ≡ i
+source-slot lead i =
+    elim (ℕ-discrete i lead) [
+      | yes e ↦ rw (e, slot-lead lead) (source-lead lead)
+      | no e ↦ elim (decLt lead i) [
+        | yes g ↦ rw (slot-behind lead i g) (source-behind lead i g)
+        | no g ↦ rw (slot-before lead i (omega arith)) (source-before lead i (omega arith))
+      ]
+    ]
+
+pub slot-source : (lead t : ℕ) → slotOf lead (sourceOf lead t) ≡ t
+slot-source lead zero = rw (source-lead lead) (slot-lead lead)
+slot-source lead (suc t) =
+    elim (decLt lead (suc t)) [
+      | yes g ↦ rw (source-behind lead (suc t) g) (slot-behind lead (suc t) g)
+      | no g ↦
+          let e : suc t ≡ t + 1 = omega arith in
+          rw (e, source-before lead t (omega arith)) (slot-before lead t (omega arith))
     ]
 
 -- lists in the order of their sources: the lead, and the others in their order

@@ -6,6 +6,7 @@
 --   numbersOf a z g     the eight numbers of a list of shape g from byte a to byte z
 --   numbersAt s ps i    those of the list at place i
 --   sourceOf lead t     the place whose list stands in slot t, where place number lead comes first
+--   slotOf lead i       the slot in which the list of place i then stands
 --   PlaceOk s ps i      an accepted block is there
 --   Places s ps k       so for each of the first k places; k from 1 to 8
 --   Alike s ps k        the lists there are of one U
@@ -15,7 +16,7 @@ use mathlib.Core.Bool.{cond}
 use mathlib.Core.Path.{_≡_}
 use mathlib.Core.List.{List, [], _∷_}
 use Prim.Native.Nat.{ℕ, _+_, _-_, _*_, _≤_, _<_}
-use lib.Dec.{eqb, leb}
+use lib.Dec.{eqb, leb, ltb}
 use lib.ListN.{length, getD, take, drop}
 use Rattle.rules.specs.declared.Refusal.the-variants.{Accepted}
 use Rattle.rules.specs.ReadList.{listU, listN, decode, listRefusal}
@@ -51,6 +52,9 @@ numbersAt s ps i = numbersOf (fromOf ps i) (toOf ps i) (shapeAt s ps i)
 -- the lead, then those before it, then those behind it
 unfoldable pub sourceOf : ℕ → ℕ → ℕ
 sourceOf lead t = cond (eqb t 0) lead (cond (leb t lead) (t - 1) t)
+
+unfoldable pub slotOf : ℕ → ℕ → ℕ
+slotOf lead i = cond (eqb i lead) 0 (cond (ltb i lead) (i + 1) i)
 
 pub record PlaceOk (s ps : List ℕ) (i : ℕ) : Type 0 where
   pub room : 2 * i + 2 ≤ length ps

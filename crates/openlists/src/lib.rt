@@ -5,7 +5,7 @@ ghost use Prim.Native.Nat.{_*_, _<_};
 ghost use lib.ListN.{length};
 ghost use lib.Seq.{paste};
 ghost use Rattle.rules.specs.Common.{leadOf};
-ghost use Rattle.openlists.specs.Places.{placePart, placePages, placedIn, numbersAt, sourceOf, PlaceOk, Places, Alike, Slots, Opened};
+ghost use Rattle.openlists.specs.Places.{placePart, placePages, placedIn, numbersAt, sourceOf, slotOf, PlaceOk, Places, Alike, Slots, Opened};
 
 // The bytes at place i.
 fn part_of<'a>(card: &'a [u8], places: &[u32], i: usize) -> &'a [u8]
@@ -87,6 +87,19 @@ fn source_of(lead: usize, t: usize) -> usize
     t
 }
 
+// The slot in which the list of place i stands then.
+pub fn slot_of(lead: usize, i: usize) -> usize
+    ensures { λ r. ⌜ r ≡ slotOf lead i ⌝ }
+{
+    if i == lead {
+        return 0;
+    }
+    if i < lead {
+        return i + 1;
+    }
+    i
+}
+
 // Opens the lists at the first k places into the 64 numbers, that at place `lead` first and the others in their order.
 pub fn open_slots(card: &[u8], places: &[u32], k: usize, lead: usize, shapes: &mut [u32])
     requires { ⌜ Places (now card) (now places) k × (lead < k) × (length (now shapes) ≡ 64) ⌝ }
@@ -100,10 +113,12 @@ pub fn open_slots(card: &[u8], places: &[u32], k: usize, lead: usize, shapes: &m
     }
 }
 
-// Opens them with the shortest first.
-pub fn open_lists(card: &[u8], places: &[u32], k: usize, shapes: &mut [u32])
+// Opens them with the shortest first, and returns its place.
+pub fn open_lists(card: &[u8], places: &[u32], k: usize, shapes: &mut [u32]) -> usize
     requires { ⌜ Places (now card) (now places) k × Alike (now card) (now places) k × (length (now shapes) ≡ 64) ⌝ }
-    ensures { λ _. ⌜ Opened (now (card .entry)) (now (places .entry)) k (now (shapes .exit)) ⌝ }
+    ensures { λ r. ⌜ (r ≡ leadOf (placedIn (now (card .entry)) (now (places .entry)) k)) × Opened (now (card .entry)) (now (places .entry)) k (now (shapes .exit)) ⌝ }
 {
-    open_slots(card, places, k, lead_of(card, places, k), shapes);
+    let lead = lead_of(card, places, k);
+    open_slots(card, places, k, lead, shapes);
+    lead
 }

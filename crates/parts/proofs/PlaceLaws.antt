@@ -1,5 +1,5 @@
--- Laws of a block's place: the part that lies there is the block, its length is tested first, and it depends on where the
--- blocks before it end and not on what they hold.
+-- Laws of a block's place: the part that lies there is the block, its length is tested
+-- first, and it depends on where the blocks before it end and not on what they hold.
 use mathlib.Core.Bool.{Bool, true, false, not}
 use mathlib.Core.Path.{_≡_, sym, ap, _∙_}
 use mathlib.Core.List.{List}
@@ -25,7 +25,8 @@ use Rattle.parts.specs.Places.{frontRefusal, Held, Walkable, Placed}
 pub walk-held : (from k : ℕ) (s : List ℕ) (at : ℕ) → Walkable from k s → at ≡ blockAt from k s → Held at s
 walk-held from k s at w e = rw e (w k (omega arith))
 
-pub placed-part : (from k : ℕ) (s : List ℕ) (r : Place) → Placed from k s r → take (r .to - r .from) (drop (r .from) s) ≡ part k (drop from s)
+pub placed-part : (from k : ℕ) (s : List ℕ) (r : Place) → Placed from k s r
+    → take (r .to - r .from) (drop (r .from) s) ≡ part k (drop from s)
 placed-part from k s r p =
     let e : r .to - r .from ≡ beAt 4 s (r .from) = omega (arith, p .ends) in
     rw (e, p .starts) (sym (part-at from s k))
@@ -50,7 +51,8 @@ module _ (h : ℕ) (f : List ℕ → Refusal) (at : ℕ) (s : List ℕ) where
       (omega (arith, i .holds), omega (arith, i .within))
 
 -- what a test b of the answer r of `check_front` tells
-module _ (h at : ℕ) (s : List ℕ) (b : Bool) (r : Refusal) (told : b ≡ accepted r) (is : r ≡ frontRefusal h (drop at s)) where
+module _ (h at : ℕ) (s : List ℕ) (b : Bool) (r : Refusal) (told : b ≡ accepted r)
+    (is : r ≡ frontRefusal h (drop at s)) where
   passed-front : not b ≡ false → frontRefusal h (drop at s) ≡ Accepted
   passed-front = told-passed b r (frontRefusal h (drop at s)) told is
 
@@ -59,13 +61,16 @@ module _ (h at : ℕ) (s : List ℕ) (b : Bool) (r : Refusal) (told : b ≡ acce
 
   module _ (f : List ℕ → Refusal) where
     pub front-refused : not b ≡ true → r ≡ inside h f (drop at s)
-    front-refused e = told-stop b r (frontRefusal h (drop at s)) told is (f (take (beAt 4 s at) (drop at s))) e ∙ sym (front-then h f at s)
+    front-refused e = told-stop b r (frontRefusal h (drop at s)) told is (f (take (beAt 4 s at) (drop at s))) e
+        ∙ sym (front-then h f at s)
 
     -- x is the refusal of the part p
-    pub front-answers : (p : List ℕ) (x : Refusal) → not b ≡ false → p ≡ take (beAt 4 s at) (drop at s) → x ≡ f p → x ≡ inside h f (drop at s)
+    pub front-answers : (p : List ℕ) (x : Refusal) → not b ≡ false → p ≡ take (beAt 4 s at) (drop at s) → x ≡ f p
+        → x ≡ inside h f (drop at s)
     front-answers p x e part-is answer =
         answer ∙ ap f part-is
-        ∙ sym (front-then h f at s ∙ andThen-next (frontRefusal h (drop at s)) (f (take (beAt 4 s at) (drop at s))) (passed-front e))
+        ∙ sym (front-then h f at s
+        ∙ andThen-next (frontRefusal h (drop at s)) (f (take (beAt 4 s at) (drop at s))) (passed-front e))
 
 -- what remains behind it
 pub drop-next : (at : ℕ) (s : List ℕ) → drop (stated (drop at s)) (drop at s) ≡ drop (at + beAt 4 s at) s
@@ -74,7 +79,8 @@ drop-next at s = rw (stated-drop at s) (drop-drop (beAt 4 s at) at s)
 -- ---- what a block depends on
 
 -- bytes that agree from place p on, as far as the block there reaches, have the same block there
-module _ (s t : List ℕ) (p : ℕ) (holds : 4 ≤ beAt 4 s p) (within : p + beAt 4 s p ≤ length s) (room : p + beAt 4 s p ≤ length t) (alike : Alike s t p (p + beAt 4 s p)) where
+module _ (s t : List ℕ) (p : ℕ) (holds : 4 ≤ beAt 4 s p) (within : p + beAt 4 s p ≤ length s)
+    (room : p + beAt 4 s p ≤ length t) (alike : Alike s t p (p + beAt 4 s p)) where
   same-length : beAt 4 s p ≡ beAt 4 t p
   same-length = beAt-same 4 s t p (λ i l u. alike i l (omega arith))
 
@@ -84,13 +90,19 @@ module _ (s t : List ℕ) (p : ℕ) (holds : 4 ≤ beAt 4 s p) (within : p + beA
       let a : length (take n (drop p s)) ≡ n = simp (length-take, length-drop) (omega arith) in
       let b : length (take n (drop p t)) ≡ n = simp (length-take, length-drop) (omega arith) in
       rw (← same-length) (ext-getD 0 (take n (drop p s)) (take n (drop p t)) (a ∙ sym b)
-      (λ i h. rw (getD-take n (drop p s) i 0 (omega arith), getD-take n (drop p t) i 0 (omega arith), getD-drop p s i 0, getD-drop p t i 0)
+      (λ i h. rw (
+        getD-take n (drop p s) i 0 (omega arith),
+        getD-take n (drop p t) i 0 (omega arith),
+        getD-drop p s i 0,
+        getD-drop p t i 0,
+      )
       (alike (p + i) (omega arith) (omega arith))))
 
--- Two stretches of bytes whose blocks before number k end at one place, and that agree from there as far as block number k
--- of the first reaches, have the same block number k.
+-- Two stretches of bytes whose blocks before number k end at one place, and that agree from
+-- there as far as block number k of the first reaches, have the same block number k.
 pub part-depends : (from k : ℕ) (s t : List ℕ) → blockAt from k s ≡ blockAt from k t
-    → 4 ≤ beAt 4 s (blockAt from k s) → blockAt from k s + beAt 4 s (blockAt from k s) ≤ length s → blockAt from k s + beAt 4 s (blockAt from k s) ≤ length t
+    → 4 ≤ beAt 4 s (blockAt from k s) → blockAt from k s + beAt 4 s (blockAt from k s) ≤ length s
+    → blockAt from k s + beAt 4 s (blockAt from k s) ≤ length t
     → Alike s t (blockAt from k s) (blockAt from k s + beAt 4 s (blockAt from k s))
     → part k (drop from s) ≡ part k (drop from t)
 part-depends from k s t e holds within room alike =

@@ -64,13 +64,20 @@ module _ (U : ℕ) (es : List ℕ) (rises : rising 0 U es ≡ true) (within : U 
   first-suc : (i : ℕ) → i < length es → firstAt (getD es i 0 + 1) es ≡ suc i
   first-suc i h =
       firstAt-unique (getD es i 0 + 1) es (suc i) (omega arith)
-      (λ j l. elim (ℕ-discrete j i) [ yes d ↦ rw d (omega arith) | no d ↦ omega (arith, rising-lt 0 U es rises j i (omega arith) h) ])
+      (λ j l. elim (ℕ-discrete j i) [
+        | yes d ↦ rw d (omega arith)
+        | no d ↦ omega (arith, rising-lt 0 U es rises j i (omega arith) h)
+      ])
       (λ l. omega (arith, rising-lt 0 U es rises i (suc i) (omega arith) l))
 
   first-mono : (b d : ℕ) → b ≤ d → firstAt b es ≤ firstAt d es
   first-mono b d l =
       elim (decLt (firstAt d es) (firstAt b es)) [
-        | yes h ↦ absurd (omega (arith, firstAt-before b es (firstAt d es) h, firstAt-at d es (omega (arith, firstAt-le b es))))
+        | yes h ↦ absurd (omega (
+          arith,
+          firstAt-before b es (firstAt d es) h,
+          firstAt-at d es (omega (arith, firstAt-le b es)),
+        ))
         | no h ↦ omega arith
       ]
 
@@ -79,7 +86,11 @@ module _ (U : ℕ) (es : List ℕ) (rises : rising 0 U es ≡ true) (within : U 
   first-from b j l h =
       elim (ℕ-discrete (firstAt b es) j) [
         | yes d ↦ omega (arith, firstAt-at b es (omega arith), ap (λ (i : ℕ). getD es i 0) d)
-        | no d ↦ omega (arith, firstAt-at b es (omega arith), rising-lt 0 U es rises (firstAt b es) j (omega (arith, d)) h)
+        | no d ↦ omega (
+          arith,
+          firstAt-at b es (omega arith),
+          rising-lt 0 U es rises (firstAt b es) j (omega (arith, d)) h,
+        )
       ]
 
   module _ (hi : ℕ) (reach : hi ≤ U) where
@@ -98,9 +109,11 @@ module _ (U : ℕ) (es : List ℕ) (rises : rising 0 U es ≡ true) (within : U 
     pub between-done : (b : ℕ) → hi < markAt es b → between b hi es ≡ []
     unfolding between
     between-done b m =
-        drop-of-length-le (take (firstAt hi es) es) {i = firstAt b es} (rw (length-take-le (firstAt hi es) es (firstAt-le hi es)) (
+        drop-of-length-le (take (firstAt hi es) es) {i = firstAt b es}
+        (rw (length-take-le (firstAt hi es) es (firstAt-le hi es)) (
         elim (decLt (firstAt b es) (firstAt hi es)) [
-          | yes h ↦ absurd (omega (arith, firstAt-before hi es (firstAt b es) h, mark-on b (omega (arith, firstAt-le hi es))))
+          | yes h ↦ absurd
+              (omega (arith, firstAt-before hi es (firstAt b es) h, mark-on b (omega (arith, firstAt-le hi es))))
           | no h ↦ omega arith
         ]))
 
@@ -122,11 +135,15 @@ module _ (U : ℕ) (es : List ℕ) (rises : rising 0 U es ≡ true) (within : U 
 
       page-at : (j : ℕ) → f + j < t → getD ps j 0 ≡ getD es (f + j) 0 - base
       unfolding between
-      page-at j h = getD-less base (slice f t es) j ∙ ap (λ (e : ℕ). e - base) (getD-drop f (take t es) j 0 ∙ getD-take t es (f + j) 0 h)
+      page-at j h = getD-less base (slice f t es) j
+          ∙ ap (λ (e : ℕ). e - base) (getD-drop f (take t es) j 0 ∙ getD-take t es (f + j) 0 h)
 
       -- what is known of an element of the page
       page-element : (j : ℕ) → f + j < t → (base ≤ getD es (f + j) 0) × (getD es (f + j) 0 < hi)
-      page-element j h = (first-from base (f + j) (omega arith) (omega (arith, firstAt-le hi es)), firstAt-before hi es (f + j) h)
+      page-element j h = (
+        first-from base (f + j) (omega arith) (omega (arith, firstAt-le hi es)),
+        firstAt-before hi es (f + j) h,
+      )
 
       lacks : (a : ℕ) → ((j : ℕ) → j < length es → getD es j 0 < hi → getD es j 0 ≡ base + a → ⊥) → member a ps ≡ false
       lacks a g =

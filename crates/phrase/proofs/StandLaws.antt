@@ -15,7 +15,8 @@ use Rattle.span.specs.Spans.{onPage}
 use Rattle.phrase.specs.Starts.{standsIn, markAt}
 use Rattle.phrase.specs.Words.{elementsAt, topAt, spanIn, pageAt, movedOn, reach, Words, Beside, ReadyFor}
 use Rattle.phrase.proofs.PageLaws.{page-past, page-lacks, page-has}
-use Rattle.phrase.proofs.WordLaws.{list-within, list-rises, ready-same, ready-moved, moved-mark, eight-kept, other-kept}
+use Rattle.phrase.proofs.WordLaws.{list-within, list-rises, ready-same, ready-moved}
+use Rattle.phrase.proofs.WordLaws.{moved-mark, eight-kept, other-kept}
 
 -- what the seek of word i makes of the query q
 pub record Turned (s sh xs : List ℕ) (k a i : ℕ) (q r : Query) : Type 0 where
@@ -41,23 +42,26 @@ module _ (s sh xs : List ℕ) (k : ℕ) (w : Words s sh xs k) (a i : ℕ) (h : i
   stands-past l =
       let x = spanIn xs i in
       let e = add-assoc (x .base) a i in
-      let m = page-past (topAt s sh i) es (list-rises s sh i (w .lists i h)) (list-within s sh i (w .lists i h)) (x .end) (w .within i h) (x .base) (a + i) (omega arith) in
+      let m = page-past (topAt s sh i) es (list-rises s sh i (w .lists i h))
+      (list-within s sh i (w .lists i h)) (x .end) (w .within i h) (x .base) (a + i) (omega arith) in
       rw (span-cons (pageAt s sh xs) i k h, m)
 
   pub stands-lacks : (markAt es b ≡ b + 1 → ⊥) → standsIn (span (pageAt s sh xs) i (k - i)) (a + i) ≡ false
   unfolding standsIn pageAt onPage
   stands-lacks g =
       let x = spanIn xs i in
-      let m = page-lacks (topAt s sh i) es (list-rises s sh i (w .lists i h)) (list-within s sh i (w .lists i h)) (x .end) (w .within i h) (x .base) (a + i)
+      let m = page-lacks (topAt s sh i) es (list-rises s sh i (w .lists i h))
+      (list-within s sh i (w .lists i h)) (x .end) (w .within i h) (x .base) (a + i)
       (rw (← add-assoc (x .base) a i) g) in
       rw (span-cons (pageAt s sh xs) i k h, m)
 
-  pub stands-on : b < spanIn xs i .end → markAt es b ≡ b + 1
-      → standsIn (span (pageAt s sh xs) i (k - i)) (a + i) ≡ standsIn (span (pageAt s sh xs) (i + 1) (k - (i + 1))) (a + (i + 1))
+  pub stands-on : b < spanIn xs i .end → markAt es b ≡ b + 1 → standsIn (span (pageAt s sh xs) i (k - i)) (a + i)
+      ≡ standsIn (span (pageAt s sh xs) (i + 1) (k - (i + 1))) (a + (i + 1))
   unfolding standsIn pageAt onPage
   stands-on l g =
       let x = spanIn xs i in
-      let m = page-has (topAt s sh i) es (list-rises s sh i (w .lists i h)) (list-within s sh i (w .lists i h)) (x .end) (w .within i h) (x .base) (a + i)
+      let m = page-has (topAt s sh i) es (list-rises s sh i (w .lists i h))
+      (list-within s sh i (w .lists i h)) (x .end) (w .within i h) (x .base) (a + i)
       (omega arith) (rw (← add-assoc (x .base) a i) g) in
       rw (span-cons (pageAt s sh xs) i k h, m, add-assoc a i 1)
 

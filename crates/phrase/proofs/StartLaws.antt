@@ -1,14 +1,11 @@
--- Laws of starts: those by the words' positions on a page are those of the words, and they are counted one after the other.
-use mathlib.Core.Bool.{Bool, true, false, _&&_}
+-- Laws of starts: those by the words' positions on a page are those of the words.
+use mathlib.Core.Bool.{Bool, _&&_}
 use mathlib.Core.Path.{_≡_, refl, ap}
 use mathlib.Core.List.{List, [], _∷_, map}
 use Prim.Native.Nat.{ℕ, _+_}
-use native.Mathlib.Omega.{arith}
 use Rattle.rules.specs.Term.{Word}
 use Rattle.rules.specs.Questions.{member, positionsOn, stands, startsAmong, starts}
 use Rattle.phrase.specs.Starts.{standsIn, startsOver, startsIn}
-
--- ---- of words
 
 module _ (p : ℕ) where
   stands-in : (ts : List Word) (a : ℕ) → stands ts p a ≡ standsIn (map (positionsOn p) ts) a
@@ -25,14 +22,3 @@ module _ (p : ℕ) where
   unfolding starts startsIn
   starts-in [] = refl
   starts-in (t ∷ ts) = among-over (t ∷ ts) (positionsOn p t)
-
--- ---- one after the other
-
-module _ (pss : List (List ℕ)) (q : ℕ) (qs : List ℕ) where
-  pub over-yes : standsIn pss q ≡ true → startsOver pss (q ∷ qs) ≡ 1 + startsOver pss qs
-  unfolding startsOver
-  over-yes e = rw e
-
-  pub over-no : standsIn pss q ≡ false → startsOver pss (q ∷ qs) ≡ startsOver pss qs
-  unfolding startsOver
-  over-no e = rw e (omega arith)

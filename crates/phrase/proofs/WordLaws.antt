@@ -20,7 +20,7 @@ use Rattle.query.specs.declared.Query.{Query}
 use Rattle.query.specs.Lists.{partAt}
 use Rattle.query.specs.Queries.{cursorIn, withCursor}
 use Rattle.phrase.specs.Starts.{markAt}
-use Rattle.phrase.specs.Words.{elementsAt, topAt, plain, movedOn, BlockAt, Sought, ReadyFor}
+use Rattle.phrase.specs.Words.{elementsAt, topAt, plain, movedOn, BlockAt, ReadyFor}
 
 -- ---- one list
 
@@ -51,16 +51,14 @@ module _ (U : ℕ) (es : List ℕ) (rises : rising 0 U es ≡ true) (within : U 
 
     plain-behind : Behind U es (ruleCursor U es (movedTo U es (plain c) b)) b
     plain-behind =
-        rw (moved-rule U es rises within (plain c) plain-held b, plain-rule) (seek-behind U es rises (ruleCursor U es c) b b placed behind (omega arith))
+        rw (moved-rule U es rises within (plain c) plain-held b, plain-rule)
+        (seek-behind U es rises (ruleCursor U es c) b b placed behind (omega arith))
 
 -- ---- the cursors of a query
 
 module _ (s sh : List ℕ) (q : Query) where
   pub ready-more : (i b d : ℕ) → ReadyFor s sh q i b → b ≤ d → ReadyFor s sh q i d
   ready-more i b d r l = record { held = r .held; behind = λ j h g. omega (arith, r .behind j h g) }
-
-  pub ready-sought : (i b : ℕ) → length (q .cursors) ≡ 8 → ReadyFor s sh q i b → Sought s sh q i
-  ready-sought i b e r = record { eight = e; held = r .held }
 
   pub ready-same : (p : Query) (i b : ℕ) → cursorIn p i ≡ cursorIn q i → ReadyFor s sh q i b → ReadyFor s sh p i b
   ready-same p i b e r = record { held = rw e (r .held); behind = rw e (r .behind) }
@@ -83,9 +81,12 @@ module _ (s sh : List ℕ) (q : Query) where
         let rises = list-rises s sh i l in
         let within = list-within s sh i l in
         record {
-          held = rw now-at (moved-held U es rises within (plain (cursorIn q i)) (plain-held U es rises within (cursorIn q i) (r .held)) b);
+          held = rw now-at (moved-held U es rises within (plain (cursorIn q i))
+              (plain-held U es rises within (cursorIn q i) (r .held)) b);
           behind = rw now-at (plain-behind U es rises within (cursorIn q i) (r .held) b (r .behind));
         }
 
     pub moved-mark : cursorIn (withCursor q i (movedOn s sh q i b)) i .mark ≡ markAt (elementsAt s sh i) b
-    moved-mark = ap (λ (c : Cursor). c .mark) now-at ∙ plain-mark (topAt s sh i) (elementsAt s sh i) (list-rises s sh i l) (list-within s sh i l) (cursorIn q i) (r .held) b (r .behind)
+    moved-mark = ap (λ (c : Cursor). c .mark) now-at
+        ∙ plain-mark (topAt s sh i) (elementsAt s sh i) (list-rises s sh i l) (list-within s sh i l) (cursorIn q i)
+        (r .held) b (r .behind)

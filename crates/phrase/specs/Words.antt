@@ -9,7 +9,8 @@
 --   movedOn s sh q i b  cursor i after a seek for b
 --   reach xs i a        the bound for which word i is sought where a start is tried at a; never behind the page
 --   BlockAt s sh i       list i is an accepted block, and its numbers are its own
---   WordAt s ct sh i    the lists of word i's counts and positions, placed by ct and sh; as many positions as the counts sum to
+--   WordAt s ct sh i    the lists of word i's counts and positions, placed by ct and sh;
+--                       as many positions as the counts sum to
 --   Sought s sh q i     cursor i is one that seeks on its list have made
 --   ReadyFor s sh q i b so it is, and it has passed no element at least b
 --   Words s sh xs k     the lists and spans of k words; k from 1 to 8
@@ -17,7 +18,8 @@
 --   Beside s sh xs k q a    the cursors of the words behind the first are ready for a start at a
 --   Stood s sh xs k q a r   what trying a start at a leaves: 1 if all words behind the first stand there, else 0
 --   Counted s sh xs k r     what a page leaves: its starts, and cursors that are ready for what lies behind it
---   TermAt s sh xs p i t    list i is that of the positions of the accepted term t, which has page p, and span i that page's
+--   TermAt s sh xs p i t    list i is that of the positions of the accepted term t,
+--                           which has page p, and span i that page's
 use mathlib.Core.Bool.{cond}
 use mathlib.Core.Path.{_≡_}
 use mathlib.Core.List.{List}
@@ -80,7 +82,8 @@ pub record Sought (s sh : List ℕ) (q : Query) (i : ℕ) : Type 0 where
 
 pub record ReadyFor (s sh : List ℕ) (q : Query) (i b : ℕ) : Type 0 where
   pub held : Held (topAt s sh i) (elementsAt s sh i) (cursorIn q i)
-  pub behind : Behind (topAt s sh i) (elementsAt s sh i) (ruleCursor (topAt s sh i) (elementsAt s sh i) (cursorIn q i)) b
+  pub behind : Behind (topAt s sh i) (elementsAt s sh i)
+      (ruleCursor (topAt s sh i) (elementsAt s sh i) (cursorIn q i)) b
 
 pub record Words (s sh xs : List ℕ) (k : ℕ) : Type 0 where
   pub some : 0 < k

@@ -25,7 +25,8 @@ fn span_in(spans: &[usize], i: usize) -> Span
 // The span of the page number `rank` of word i, from its lists of counts and of positions in the card.
 pub fn span_at(card: &[u8], counts: &[u32], shapes: &[u32], i: usize, rank: usize) -> Span
     requires { ⌜ WordAt (now card) (now counts) (now shapes) i × (rank < numberOf (now counts) i 7) ⌝ }
-    ensures { λ r. ⌜ r ≡ spanOf (elementsAt (now (card .entry)) (now (counts .entry)) i) (elementsAt (now (card .entry)) (now (shapes .entry)) i) rank ⌝ }
+    ensures { λ r. ⌜ r ≡ spanOf (elementsAt (now (card .entry)) (now (counts .entry)) i)
+        (elementsAt (now (card .entry)) (now (shapes .entry)) i) rank ⌝ }
 {
     let from = query::number(counts, i, 0);
     let to = query::number(counts, i, 1);
@@ -63,7 +64,8 @@ pub struct Starts {
 
 // Whether each word i behind the first stands at a + i: one start, or none.
 fn stand(card: &[u8], shapes: &[u32], spans: &[usize], query: Query, k: usize, a: usize) -> Starts
-    requires { ⌜ Words (now card) (now shapes) (now spans) k × Beside (now card) (now shapes) (now spans) k query a × (a < 2 ^ 32) ⌝ }
+    requires { ⌜ Words (now card) (now shapes) (now spans) k
+        × Beside (now card) (now shapes) (now spans) k query a × (a < 2 ^ 32) ⌝ }
     ensures { λ r. ⌜ Stood (now (card .entry)) (now (shapes .entry)) (now (spans .entry)) k query a r ⌝ }
 {
     let mut q = query;
@@ -86,7 +88,8 @@ fn stand(card: &[u8], shapes: &[u32], spans: &[usize], query: Query, k: usize, a
 
 // The number of starts on the page whose spans these are; the cursors are then ready for any later page.
 pub fn count_starts(card: &[u8], shapes: &[u32], spans: &[usize], query: Query, k: usize) -> Starts
-    requires { ⌜ Words (now card) (now shapes) (now spans) k × Paged (now card) (now shapes) k query (λ i. spanIn (now spans) i .base) ⌝ }
+    requires { ⌜ Words (now card) (now shapes) (now spans) k
+        × Paged (now card) (now shapes) k query (λ i. spanIn (now spans) i .base) ⌝ }
     ensures { λ r. ⌜ Counted (now (card .entry)) (now (shapes .entry)) (now (spans .entry)) k r ⌝ }
 {
     let x = span_in(spans, 0);

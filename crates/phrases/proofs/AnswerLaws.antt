@@ -1,17 +1,16 @@
 -- The answer of kind 4 by what was found, and the words' lists of a good question.
 use mathlib.Core.Bool.{true, false}
-use mathlib.Core.Path.{_≡_, refl, sym, ap, _∙_}
-use mathlib.Core.List.{List, [], _∷_}
-use Prim.Native.Nat.{ℕ, suc, _+_, _≤_, _<_}
+use mathlib.Core.Path.{_≡_, refl}
+use mathlib.Core.List.{List, _∷_}
+use Prim.Native.Nat.{ℕ, _+_, _<_}
 use native.Mathlib.Omega.{arith}
-use borrow.Author.Tests.{ltb-true, ltb-false}
+use borrow.Author.Tests.{ltb-false}
 use lib.Dec.{ltb}
 use lib.ListN.{length, getD, set}
 use Rattle.rules.specs.declared.Refusal.the-variants.{Accepted}
-use Rattle.rules.specs.ReadList.{listU}
-use Rattle.rules.specs.ReadTerm.{pagesOf}
+use Rattle.rules.specs.Common.{leadOf}
 use Rattle.rules.specs.Index.{indexT, indexRefusal}
-use Rattle.rules.specs.Questions.{numbered, wordsIn, byPhrase}
+use Rattle.rules.specs.Questions.{listsIn, numbered, wordsIn, byPhrase}
 use Rattle.rules.specs.Write.{laid}
 use Rattle.cardlaws.proofs.Theorems.{accepted-term}
 use Rattle.questions.specs.Formed.{wordsGood}
@@ -19,24 +18,21 @@ use Rattle.questions.specs.Wrote.{Wrote}
 use Rattle.questions.proofs.GoodLaws.{words-parts}
 use Rattle.questions.proofs.PhraseLaws.{phrase-common}
 use Rattle.questions.proofs.WroteLaws.{wrote-whole, wrote-none}
-use Rattle.wordlists.specs.Lying.{listOf}
+use Rattle.wordlists.specs.Opened.{OpenedPages}
 use Rattle.wordlists.proofs.LyingLaws.{word-below}
 use Rattle.openwords.specs.Slots.{Filled}
 use Rattle.phrases.specs.Asked.{foundIn, Asked}
 
 module _ (s ts : List ℕ) (a : indexRefusal s ≡ Accepted) (g : wordsGood (indexT s) ts ≡ true) where
-  pub good-asked : (pg ct ps : List ℕ) → Filled s ts 0 (length ts) pg → Filled s ts 1 (length ts) ct → Filled s ts 2 (length ts) ps → Asked s ts pg ct ps
-  unfolding listOf pagesOf
-  good-asked pg ct ps x y z =
-      let w = words-parts (indexT s) ts g in record {
-        some = w .0;
-        few = w .1;
-        accepts = λ i h. accepted-term s a (getD ts i 0) (word-below (indexT s) ts g i h) .accepts;
-        bound = λ i h. ap listU (x .slot i h .part-is) ∙ accepted-term s a (getD ts i 0) (word-below (indexT s) ts g i h) .same-N;
-        pages = x;
-        counts = y;
-        positions = z;
-      }
+  pub good-asked : (lead : ℕ) (pg ct ps : List ℕ) → lead ≡ leadOf (listsIn s ts) → OpenedPages s ts pg → Filled s ts 1 (length ts) ct → Filled s ts 2 (length ts) ps
+      → Asked s ts lead pg ct ps
+  good-asked lead pg ct ps l x y z = record {
+    accepts = λ i h. accepted-term s a (getD ts i 0) (word-below (indexT s) ts g i h) .accepts;
+    leads = l;
+    pages = x;
+    counts = y;
+    positions = z;
+  }
 
   answer-is : byPhrase (wordsIn s ts) ≡ length (foundIn s ts) ∷ foundIn s ts
   unfolding foundIn numbered

@@ -1,11 +1,11 @@
 -- What a page gives: its starts by its spans, and cursors that are ready for the pages behind it.
-use mathlib.Core.Bool.{Bool, true, false, cond}
-use mathlib.Core.Path.{_≡_, refl, sym, ap, _∙_}
+use mathlib.Core.Bool.{Bool, true, false}
+use mathlib.Core.Path.{_≡_, refl, _∙_}
 use mathlib.Core.List.{List, [], _∷_}
-use Prim.Native.Nat.{ℕ, zero, suc, _+_, _-_, _^_, _≤_, _<_}
+use Prim.Native.Nat.{ℕ, _+_, _-_, _^_, _≤_, _<_}
 use native.Mathlib.Decide.{ℕ-discrete}
 use native.Mathlib.Omega.{arith}
-use lib.ListN.{length, getD}
+use lib.ListN.{length}
 use lib.Seq.{slice, length-slice}
 use Rattle.rules.specs.Questions.{starts, wordsIn}
 use Rattle.termlaws.proofs.PlaceLaws.{length-less}
@@ -27,18 +27,10 @@ use Rattle.phrase.specs.declared.Starts.{Starts}
 use Rattle.phrase.specs.Starts.{standsIn, startsOver, startsIn}
 use Rattle.phrase.specs.Words.{elementsAt, spanIn, pageAt, pageIn, Words, Paged, Counted}
 use Rattle.phrase.proofs.Theorems.{page-starts, page-words, paged-later}
-use Rattle.rules.specs.Common.{Reader}
+use Rattle.kinds.proofs.RankLaws.{all-on}
 use Rattle.phrases.specs.Asked.{termAt, Asked, OnAll, Spanned, AfterPage}
 
 -- ---- the cursors after a turn
-
-all-at : (p : ℕ) (f : ℕ → Reader) (n i : ℕ) → AllOnPage p (span f i n) → (j : ℕ) → i ≤ j → j < i + n → OnPage p (f j)
-unfolding span
-all-at p f zero i o j l m = absurd (omega arith)
-all-at p f (suc n) i o j l m = elim (ℕ-discrete j i) [
-  | yes e ↦ rw e (o .0)
-  | no e ↦ all-at p f n (i + 1) (o .1) j (omega arith) (omega arith)
-]
 
 pub turned-least : (s pg : List ℕ) (k : ℕ) (q : Query) (b : ℕ) → Apt s pg k q b → (t : Turn) → Turned s pg k q b t → (t .mark ≡ spentMark → ⊥) → b ≤ t .mark - 1
 turned-least s pg k q b a t u h =
@@ -59,7 +51,7 @@ turned-on s ts pg q b a t u h =
       held = u .running (t .mark) h (omega arith) .apt .held;
       on-page = λ i l. rw e (elim (ℕ-discrete i 0) [
         | yes z ↦ rw z first
-        | no z ↦ all-at (p .0) (readerAt s pg (t .q)) (k - 1) 1 rest i (omega arith) (omega arith)
+        | no z ↦ all-on (p .0) (readerAt s pg (t .q)) (k - 1) 1 rest i (omega arith) (omega arith)
       ]);
     }
 
@@ -74,13 +66,13 @@ over-few pss (q ∷ qs) = go (standsIn pss q) refl (over-few pss qs)
     go true e l = rw e (omega arith)
     go false e l = rw e (omega arith)
 
-module _ (s ts pg ct ps : List ℕ) (a : Asked s ts pg ct ps) (p : ℕ) (xs : List ℕ) (f : Spanned s ts ps p (length ts) xs) where
+module _ (s ts : List ℕ) (lead : ℕ) (pg ct ps : List ℕ) (a : Asked s ts lead pg ct ps) (p : ℕ) (xs : List ℕ) (f : Spanned s ts ps p (length ts) xs) where
   first-few : length (pageAt s ps xs 0) ≤ 16777216
   unfolding pageAt onPage between shapeIn
   first-few =
       let es : List ℕ = elementsAt s ps 0 in
       let x = spanIn xs 0 in
-      let o = a .positions .slot 0 (a .some) .block .opened in
+      let o = a .positions .slot 0 (a .pages .lists .some) .block .opened in
       let r = open-reads (partAt s ps 0) (shapeIn ps 0) o in
       rw (length-less (x .base) (slice (firstAt (x .base) es) (firstAt (x .end) es) es))
       (rw (length-slice (firstAt (x .base) es) (firstAt (x .end) es) es (firstAt-le (x .end) es)) (omega (arith, firstAt-le (x .end) es, open-length (partAt s ps 0) (shapeIn ps 0) o, r .within, r .below)))
@@ -89,11 +81,11 @@ module _ (s ts pg ct ps : List ℕ) (a : Asked s ts pg ct ps) (p : ℕ) (xs : Li
   unfolding pageIn startsIn
   starts-few =
       let z : length ts - 0 ≡ length ts = omega arith in
-      let e = rw z at (span-cons (pageAt s ps xs) 0 (length ts) (a .some)) in
+      let e = rw z at (span-cons (pageAt s ps xs) 0 (length ts) (a .pages .lists .some)) in
       rw e (omega (arith, first-few, over-few (pageAt s ps xs 0 ∷ span (pageAt s ps xs) (0 + 1) (length ts - (0 + 1))) (pageAt s ps xs 0)))
 
   pub spanned-words : Words s ps xs (length ts)
-  spanned-words = page-words s ps xs p ts (f .each) (a .some) (a .few) (f .room) (λ i h. a .positions .slot i h .block)
+  spanned-words = page-words s ps xs p ts (f .each) (a .pages .lists .some) (a .pages .lists .few) (f .room) (λ i h. a .positions .slot i h .block)
 
   pub spanned-paged : (q : Query) → AfterPage s ts ps q p → Paged s ps (length ts) q (λ i. spanIn xs i .base)
   spanned-paged q r = r p xs (omega arith) (f .each)

@@ -1,27 +1,17 @@
 -- Pairs found page by page, and how they come to be in the room.
-use mathlib.Core.Bool.{true, cond}
-use mathlib.Core.Path.{_≡_, refl, sym, ap, ap₂, _∙_}
+use mathlib.Core.Bool.{cond}
+use mathlib.Core.Path.{_≡_, refl, sym, ap, _∙_}
 use mathlib.Core.List.{List, [], _∷_, _++_, append-nil, append-assoc}
 use Prim.Native.Nat.{ℕ, zero, suc, _+_, _-_, _*_, _^_, _≤_, _<_}
-use native.Mathlib.Nat.{add-zero, zero-add}
 use native.Mathlib.Omega.{arith}
 use borrow.Author.Tests.{lt-ltb}
 use lib.Dec.{ltb}
-use lib.ListN.{length, getD, set, drop, length-set, length-append, length-drop}
-use Rattle.rules.specs.List.{rising}
-use Rattle.rules.specs.Seek.{fresh}
-use Rattle.rules.specs.Common.{Tally, readersOf, counted, nothing}
-use Rattle.rules.specs.ReadList.{decode}
-use Rattle.rules.specs.ReadTerm.{pagesOf, readWord}
-use Rattle.rules.specs.Index.{wordOf}
+use lib.ListN.{length, set, drop, length-set, length-append, length-drop}
+use Rattle.rules.specs.Common.{Tally, counted}
 use Rattle.rules.specs.Term.{Word}
-use Rattle.rules.specs.Questions.{starts, withStarts, commonPages, pagesIn as pagesOn, listsIn, wordsIn}
+use Rattle.rules.specs.Questions.{starts, withStarts, wordsIn}
 use Rattle.rules.specs.Write.{laid}
-use Rattle.commonlaws.specs.Readers.{Rise, from}
-use Rattle.commonlaws.proofs.SharedLaws.{from-zero}
-use Rattle.commonlaws.proofs.TallyLaws.{rounds-tallied}
-use Rattle.commonlaws.proofs.CommonLaws.{fresh-ready, readers-ready, readers-pages}
-use Rattle.query.specs.Lists.{span, partAt, pagesAt, pagesIn, boundIn}
+use Rattle.query.specs.Lists.{numberOf, boundIn}
 use Rattle.commonlaws.specs.Next.{allRounds}
 use Rattle.seek.specs.Cursors.{spentMark}
 use Rattle.query.specs.declared.Query.{Query}
@@ -32,12 +22,11 @@ use Rattle.query.proofs.TurnLaws.{turned-page}
 use Rattle.query.proofs.ListingLaws.{Partway, partway-start, partway-few, partway-step, partway-end}
 use Rattle.phrase.specs.Words.{spanIn}
 use Rattle.phrase.proofs.Theorems.{paged-new}
-use Rattle.query.specs.Listings.{ruleFrom, wholeFrom}
-use Rattle.query.proofs.ListLaws.{list-rises}
+use Rattle.query.specs.Listings.{wholeFrom}
+use Rattle.openlists.proofs.FewLaws.{whole-few}
+use Rattle.wordlists.proofs.OpenLaws.{opened-listed}
 use Rattle.questions.proofs.WroteLaws.{laid-snoc, laid-first}
-use Rattle.wordlists.specs.Lying.{listOf}
 use Rattle.phrases.specs.Asked.{pairOf, foundIn, Asked, AfterPage, Paired}
-use Rattle.phrases.proofs.RankLaws.{asked-lists}
 
 -- ---- page by page
 
@@ -102,39 +91,16 @@ module _ (a : List ℕ) (p : ℕ) where
 
 -- ---- all common pages
 
-span-rise : (U : ℕ) (f : ℕ → List ℕ) (n i : ℕ) → ((j : ℕ) → i ≤ j → j < i + n → rising 0 U (f j) ≡ true) → Rise U (span f i n)
-unfolding span
-span-rise U f zero i h = tt
-span-rise U f (suc n) i h = (h i (omega arith) (omega arith), span-rise U f n (i + 1) (λ j l m. h j (omega arith) (omega arith)))
-
-rule-listed : (U : ℕ) (ls : List (List ℕ)) → Rise U ls → ruleFrom U ls 0 .listed ≡ commonPages ls
-unfolding ruleFrom commonPages nothing
-rule-listed U [] r = refl
-rule-listed U (l ∷ ls) r =
-    rounds-tallied U (record { pages = l; cursor = fresh }) (readersOf ls) 0 (fresh-ready U 0 l (r .0)) (readers-ready U 0 ls (r .1)) .listed
-    ∙ rw (readers-pages ls, from-zero l)
-
-listed-span : (s : List ℕ) (ts : List ℕ) (f : ℕ → List ℕ) (i : ℕ) → ((j : ℕ) → j < length ts → f (i + j) ≡ pagesOn s (getD ts j 0)) → span f i (length ts) ≡ listsIn s ts
-unfolding span listsIn
-listed-span s [] f i h = refl
-listed-span s (t ∷ ts) f i h =
-    ap₂ _∷_ (ap f (sym (add-zero i)) ∙ h 0 (omega arith))
-    (listed-span s ts f (i + 1) (λ j l.
-    let e : i + 1 + j ≡ i + suc j = omega arith in
-    ap f e ∙ h (suc j) (omega arith)))
-
-module _ (s ts pg ct ps : List ℕ) (a : Asked s ts pg ct ps) where
-  same-pages : (j : ℕ) → j < length ts → pagesAt s pg j ≡ pagesOn s (getD ts j 0)
-  unfolding pagesAt pagesOn wordOf readWord listOf pagesOf
-  same-pages j h = ap decode (a .pages .slot j h .part-is)
-
+module _ (s ts : List ℕ) (lead : ℕ) (pg ct ps : List ℕ) (a : Asked s ts lead pg ct ps) where
   pub whole-found : withStarts (wordsIn s ts) (wholeFrom s pg (length ts) 0 .listed) ≡ foundIn s ts
-  unfolding foundIn pagesIn
-  whole-found =
-      let l = asked-lists s ts pg ct ps a in
-      let rises = span-rise (boundIn pg) (pagesAt s pg) (length ts) 0 (λ j m n. list-rises s pg j (l .each j (omega arith))) in
-      let e = listed-span s ts (pagesAt s pg) 0 (λ j h. rw (zero-add j) (same-pages j h)) in
-      ap (withStarts (wordsIn s ts)) (rule-listed (boundIn pg) (span (pagesAt s pg) 0 (length ts)) rises ∙ ap commonPages e)
+  unfolding foundIn
+  whole-found = ap (withStarts (wordsIn s ts)) (opened-listed s ts pg (a .pages))
+
+  -- two numbers for each page of the lead are enough
+  pub found-few : (length (foundIn s ts) ≤ 2 * numberOf pg 0 7) × (numberOf pg 0 7 ≤ 16777216)
+  found-few =
+      let w = whole-few s pg (length ts) 0 (a .pages .lists) in
+      (rw (← whole-found) (omega (arith, with-few (wordsIn s ts) (wholeFrom s pg (length ts) 0 .listed), w .0)), w .1)
 
 -- ---- the loop over the common pages
 
@@ -144,7 +110,7 @@ unfolding laid
 laid-zero x [] = refl
 laid-zero x (y ∷ first) = refl
 
-module _ (s ts pg ct ps room : List ℕ) (a : Asked s ts pg ct ps) where
+module _ (s ts : List ℕ) (lead : ℕ) (pg ct ps room : List ℕ) (a : Asked s ts lead pg ct ps) where
   abbrev ws : List Word
   ws = wordsIn s ts
 
@@ -163,8 +129,8 @@ module _ (s ts pg ct ps room : List ℕ) (a : Asked s ts pg ct ps) where
   going-start first e h = record {
     number = 0;
     seen = [];
-    partway = partway-start s pg (length ts) 0 (asked-lists s ts pg ct ps a);
-    after = λ d xs l t. paged-new s ps (length ts) (a .few) (λ i m. a .positions .slot i m .block) (λ i. spanIn xs i .base);
+    partway = partway-start s pg (length ts) 0 (a .pages .lists);
+    after = λ d xs l t. paged-new s ps (length ts) (a .pages .lists .few) (λ i m. a .positions .slot i m .block) (λ i. spanIn xs i .base);
     found-is = refl;
     same = refl;
     laid-so = λ l. rw e (laid-first first 0 h ∙ sym (laid-zero [] first));
@@ -179,7 +145,7 @@ module _ (s ts pg ct ps room : List ℕ) (a : Asked s ts pg ct ps) where
       going-end h =
           let r : Listed = record { found = g .number; seeks = seeksOf (t .q); looks = looksOf (t .q) } in
           let e = partway-end s pg (length ts) 0 q b (g .number) (g .seen) (g .partway) t u h r (refl, refl, refl) .0 in
-          let f : withStarts ws (g .seen) ≡ foundIn s ts = ap (withStarts ws) (sym e) ∙ whole-found s ts pg ct ps a in
+          let f : withStarts ws (g .seen) ≡ foundIn s ts = ap (withStarts ws) (sym e) ∙ whole-found s ts lead pg ct ps a in
           (g .found-is ∙ ap length f, λ l. g .laid-so l ∙ ap (λ (x : List ℕ). laid (0 ∷ x) room) f)
 
       module _ (h : t .mark ≡ spentMark → ⊥) (n : ℕ) (at′ : Query) (is : n ≡ starts ws (t .mark - 1)) (after′ : AfterPage s ts ps at′ (t .mark - 1 + 1)) where
@@ -194,7 +160,7 @@ module _ (s ts pg ct ps room : List ℕ) (a : Asked s ts pg ct ps) where
         within =
             let rest : List ℕ = allRounds (boundIn pg) (leadIn s pg (t .q)) (othersIn s pg (length ts) (t .q)) (t .mark) .listed in
             let e : (g .seen ++ (t .mark - 1) ∷ []) ++ rest ≡ wholeFrom s pg (length ts) 0 .listed = ap (λ (x : Tally). x .listed) (next-way .same) in
-            let f = sym (with-more ws (g .seen ++ (t .mark - 1) ∷ []) rest) ∙ ap (withStarts ws) e ∙ whole-found s ts pg ct ps a in
+            let f = sym (with-more ws (g .seen ++ (t .mark - 1) ∷ []) rest) ∙ ap (withStarts ws) e ∙ whole-found s ts lead pg ct ps a in
             let l = length-append (withStarts ws (g .seen ++ (t .mark - 1) ∷ [])) (withStarts ws rest) in
             omega (arith, ap length f, l, ap length more)
 

@@ -1,73 +1,54 @@
 -- The rank of a page by the cursor that is on it, and the spans of a page by the ranks.
-use mathlib.Core.Bool.{true}
-use mathlib.Core.Path.{_≡_, refl, sym, ap, _∙_}
-use mathlib.Core.List.{List, [], _∷_}
-use Prim.Native.Nat.{ℕ, suc, _+_, _-_, _*_, _/_, _^_, _≤_, _<_}
+use mathlib.Core.Path.{_≡_, sym, ap, _∙_}
+use mathlib.Core.List.{List}
+use Prim.Native.Nat.{ℕ, _+_, _*_, _<_}
 use native.Mathlib.Decide.{ℕ-discrete}
 use native.Mathlib.Omega.{arith}
 use lib.ListN.{length, getD, set, length-set}
 use lib.Seq.{getD-set-same, getD-set-other}
-use Rattle.rules.specs.Limits.{limit}
-use Rattle.rules.specs.List.{rising}
-use Rattle.rules.specs.ReadList.{listU, listN, decode}
-use Rattle.rules.specs.ReadTerm.{pagesOf, countsOf, positionsOf}
-use Rattle.rules.specs.Index.{indexN}
-use Rattle.rules.specs.Seek.{Cursor as Placing, on, widthOf, placeOf, cursorBit}
+use Rattle.rules.specs.ReadList.{listN, decode}
+use Rattle.rules.specs.ReadTerm.{pagesOf, countsOf, positionsOf, readWord}
+use Rattle.rules.specs.Index.{wordOf}
+use Rattle.rules.specs.Questions.{pagesIn as pagesOn}
+use Rattle.listlaws.proofs.ReadLaws.{accepted-length}
 use Rattle.termlaws.proofs.PassedLaws.{accepted-passed}
-use Rattle.commonlaws.specs.Readers.{OnPage, AllOnPage}
-use Rattle.readlist.specs.Open.{Open}
-use Rattle.readlist.proofs.ReadLaws.{open-reads}
-use Rattle.seek.specs.declared.Cursor.{Cursor}
-use Rattle.seek.specs.Cursors.{markOf, ruleCursor, Held, spentMark}
-use Rattle.seek.proofs.CursorLaws.{held-rule}
-use Rattle.seek.proofs.OpenLaws.{open-U, open-n, open-length, open-rising, open-ruled}
+use Rattle.termlaws.proofs.Theorems.{accepted-lists}
+use Rattle.seek.proofs.OpenLaws.{open-n}
 use Rattle.query.specs.declared.Query.{Query}
-use Rattle.query.specs.declared.Turn.{Turn}
-use Rattle.query.specs.Lists.{span, numberOf, partAt, shapeIn, pagesAt, boundIn, ListAt, Lists}
-use Rattle.query.specs.Queries.{cursorIn, readerAt, leadIn, othersIn, nextFor, Apt, Turned}
-use Rattle.query.proofs.ListLaws.{list-within, list-rises}
-use Rattle.query.proofs.RunLaws.{came}
-use Rattle.query.proofs.TurnLaws.{turned-page}
+use Rattle.query.specs.Lists.{numberOf, partAt, shapeIn, pagesAt, ListAt}
 use Rattle.span.specs.declared.Span.{Span}
 use Rattle.span.specs.Spans.{spanOf}
-use Rattle.phrase.specs.Words.{elementsAt, spanIn, BlockAt, WordAt, TermAt}
+use Rattle.phrase.specs.Words.{elementsAt, spanIn, WordAt, TermAt}
 use Rattle.phrase.proofs.Theorems.{term-word}
+use Rattle.openlists.specs.Places.{slotOf}
+use Rattle.openlists.proofs.SourceLaws.{slot-lt}
 use Rattle.wordlists.specs.Lying.{listOf}
-use Rattle.openwords.specs.Slots.{Slot}
-use Rattle.phrases.specs.Asked.{rankAt, termAt, Asked, OnAll, Spanned}
-
--- ---- one cursor
-
-module _ (U : ℕ) (xs : List ℕ) (rises : rising 0 U xs ≡ true) (within : U ≤ limit) (c : Cursor) (h : Held U xs c) where
-  held-on : (r : ℕ) (a : Placing) → a ≡ on r → c .mark ≡ markOf xs a → c .bit ≡ cursorBit U xs a → (c .mark ≡ getD xs r 0 + 1) × (c .bit ≡ getD xs r 0 / 2 ^ widthOf U xs + r)
-  unfolding markOf cursorBit placeOf
-  held-on r a e m b = (m ∙ ap (markOf xs) e, b ∙ ap (cursorBit U xs) e)
-
-  pub on-held : (r : ℕ) → ruleCursor U xs c ≡ on r → (c .mark ≡ getD xs r 0 + 1) × (c .bit ≡ getD xs r 0 / 2 ^ widthOf U xs + r)
-  on-held r e = held-on r (h .place) (sym (held-rule U xs rises within c h) ∙ e) (h .mark-is) (h .bit-is)
+use Rattle.wordlists.proofs.OpenLaws.{lead-within, slot-pages}
+use Rattle.kinds.specs.Ranks.{rankBy}
+use Rattle.kinds.proofs.RankLaws.{Ranked, ranked}
+use Rattle.phrases.specs.Asked.{termAt, Asked, OnAll, Spanned}
 
 -- ---- the words' lists
 
-module _ (s ts pg ct ps : List ℕ) (a : Asked s ts pg ct ps) where
+module _ (s ts : List ℕ) (lead : ℕ) (pg ct ps : List ℕ) (a : Asked s ts lead pg ct ps) where
   abbrev k : ℕ
   k = length ts
 
-  pub asked-bound : boundIn pg ≡ indexN s
-  unfolding boundIn shapeIn
-  asked-bound =
-      let b = a .pages .slot 0 (a .some) .block in
-      sym (open-U (partAt s pg 0) (shapeIn pg 0) (b .opened)) ∙ a .bound 0 (a .some)
-
-  pub asked-lists : Lists s pg k
-  asked-lists = record {
-    some = a .some;
-    few = a .few;
-    each = λ i h.
-        let b = a .pages .slot i h .block in
-        record { room = b .room; few = b .few; starts = b .starts; ends = b .ends; opened = b .opened; bound = a .bound i h ∙ sym asked-bound };
-  }
-
   module _ (i : ℕ) (h : i < k) where
+    -- where the pages of word i stand
+    abbrev slot : ℕ
+    slot = slotOf lead i
+
+    slot-within : slot < k
+    slot-within = slot-lt lead i k (lead-within s ts pg (a .pages) lead (a .leads)) h
+
+    pub asked-list : ListAt s pg slot
+    asked-list = a .pages .lists .each slot slot-within
+
+    asked-pages : pagesAt s pg slot ≡ decode (pagesOf (termAt s ts i))
+    unfolding pagesOn wordOf readWord
+    asked-pages = slot-pages s ts pg (a .pages) lead (a .leads) i h
+
     pub asked-word : WordAt s ct ps i
     unfolding listOf countsOf positionsOf
     asked-word =
@@ -75,74 +56,36 @@ module _ (s ts pg ct ps : List ℕ) (a : Asked s ts pg ct ps) where
         let p = a .positions .slot i h in
         term-word s ct ps i (termAt s ts i) (a .accepts i h) (c .block) (p .block) (c .part-is) (p .part-is)
 
+    -- as many counts as pages
+    same-count : length (pagesAt s pg slot) ≡ numberOf ct i 7
+    unfolding listOf countsOf shapeIn
+    same-count =
+        let t = termAt s ts i in
+        let y = a .counts .slot i h in
+        ap length asked-pages ∙ accepted-length (pagesOf t) (accepted-lists t (a .accepts i h) .pages)
+        ∙ sym (accepted-passed t (a .accepts i h) .counts-n)
+        ∙ sym (ap listN (y .part-is)) ∙ open-n (partAt s ct i) (shapeIn ct i) (y .block .opened)
+
     -- ---- a page that all cursors are on
 
     module _ (q : Query) (p : ℕ) (o : OnAll s ts pg q p) where
-      pub record Ranked : Type 0 where
-        pub wide : numberOf pg i 3 < 64
-        pub marked : 0 < cursorIn q i .mark
-        pub behind : (cursorIn q i .mark - 1) / 2 ^ numberOf pg i 3 ≤ cursorIn q i .bit
-        pub inside : rankAt pg q i < length (pagesAt s pg i)
-        pub there : getD (pagesAt s pg i) (rankAt pg q i) 0 ≡ p
-        pub counted : rankAt pg q i < numberOf ct i 7
+      pub asked-rank : Ranked s pg q slot p
+      asked-rank = ranked s pg q slot p asked-list (o .held slot slot-within) (o .on-page slot slot-within)
 
-      on-rank : OnPage p (readerAt s pg q i)
-          → (r : ℕ) × (ruleCursor (boundIn pg) (pagesAt s pg i) (cursorIn q i) ≡ on r) × (r < length (pagesAt s pg i)) × (getD (pagesAt s pg i) r 0 ≡ p)
-      unfolding readerAt
-      on-rank x = (x .rank, x .stands, x .within, x .there)
-
-      -- as many counts as pages
-      same-count : length (pagesAt s pg i) ≡ numberOf ct i 7
-      unfolding listOf pagesOf countsOf shapeIn pagesAt
-      same-count =
-          let x = a .pages .slot i h in
-          let y = a .counts .slot i h in
-          open-length (partAt s pg i) (shapeIn pg i) (x .block .opened) ∙ sym (open-n (partAt s pg i) (shapeIn pg i) (x .block .opened)) ∙ ap listN (x .part-is)
-          ∙ sym (accepted-passed (termAt s ts i) (a .accepts i h) .counts-n)
-          ∙ sym (ap listN (y .part-is)) ∙ open-n (partAt s ct i) (shapeIn ct i) (y .block .opened)
-
-      width-is : 0 < length (pagesAt s pg i) → widthOf (boundIn pg) (pagesAt s pg i) ≡ numberOf pg i 3
-      unfolding shapeIn pagesAt
-      width-is n =
-          let l = asked-lists .each i h in
-          let m = open-length (partAt s pg i) (shapeIn pg i) (l .opened) in
-          rw (← l .bound) (open-ruled (partAt s pg i) (shapeIn pg i) (l .opened) (omega arith) .wide)
-
-      narrow-is : numberOf pg i 3 < 64
-      unfolding shapeIn
-      narrow-is = omega (arith, open-reads (partAt s pg i) (shapeIn pg i) (asked-lists .each i h .opened) .narrow)
-
-      pub ranked : Ranked
-      ranked =
-          let l = asked-lists .each i h in
-          let x = on-rank (o .on-page i h) in
-          let xs : List ℕ = pagesAt s pg i in
-          let c : Cursor = cursorIn q i in
-          let w = width-is (omega (arith, x .2)) in
-          let v = on-held (boundIn pg) xs (list-rises s pg i l) (list-within s pg i l) c (o .held i h) (x .0) (x .1) in
-          let e : c .mark - 1 ≡ getD xs (x .0) 0 = omega (arith, v .0) in
-          let b : c .bit ≡ getD xs (x .0) 0 / 2 ^ numberOf pg i 3 + x .0 = rw (← w) (v .1) in
-          let d : rankAt pg q i ≡ x .0 = rw e (omega (arith, b)) in
-          record {
-            wide = narrow-is;
-            marked = omega (arith, v .0);
-            behind = rw e (omega (arith, b));
-            inside = rw d (x .2);
-            there = rw d (x .3);
-            counted = omega (arith, d, x .2, same-count);
-          }
+      pub rank-counted : rankBy pg q slot < numberOf ct i 7
+      rank-counted = rw (← same-count) (asked-rank .within)
 
   -- ---- one span more
 
   module _ (q : Query) (p : ℕ) (o : OnAll s ts pg q p) (i : ℕ) (h : i < k) (xs : List ℕ) (f : Spanned s ts ps p i xs) (x : Span)
-      (is : x ≡ spanOf (elementsAt s ct i) (elementsAt s ps i) (rankAt pg q i)) where
+      (is : x ≡ spanOf (elementsAt s ct i) (elementsAt s ps i) (rankBy pg q (slotOf lead i))) where
     abbrev after : List ℕ
     after = set (set xs (2 * i) (x .base)) (2 * i + 1) (x .end)
 
     here : spanIn after i ≡ x
     here =
-        let b : getD after (2 * i) 0 ≡ x .base = getD-set-other (set xs (2 * i) (x .base)) (2 * i + 1) (2 * i) (x .end) 0 (λ z. omega arith) ∙ getD-set-same xs (2 * i) (x .base) 0 (omega (arith, f .room, a .few)) in
-        let e : getD after (2 * i + 1) 0 ≡ x .end = getD-set-same (set xs (2 * i) (x .base)) (2 * i + 1) (x .end) 0 (rw length-set (omega (arith, f .room, a .few))) in
+        let b : getD after (2 * i) 0 ≡ x .base = getD-set-other (set xs (2 * i) (x .base)) (2 * i + 1) (2 * i) (x .end) 0 (λ z. omega arith) ∙ getD-set-same xs (2 * i) (x .base) 0 (omega (arith, f .room, a .pages .lists .few)) in
+        let e : getD after (2 * i + 1) 0 ≡ x .end = getD-set-same (set xs (2 * i) (x .base)) (2 * i + 1) (x .end) 0 (rw length-set (omega (arith, f .room, a .pages .lists .few))) in
         rw (b, e)
 
     there : (j : ℕ) → j < i → spanIn after j ≡ spanIn xs j
@@ -152,14 +95,14 @@ module _ (s ts pg ct ps : List ℕ) (a : Asked s ts pg ct ps) where
         rw (b, e)
 
     term-here : TermAt s ps after p i (termAt s ts i)
-    unfolding listOf pagesOf countsOf positionsOf pagesAt
+    unfolding listOf countsOf positionsOf
     term-here =
-        let r = ranked i h q p o in
-        let e = a .pages .slot i h .part-is in
+        let r = asked-rank i h q p o in
+        let e = asked-pages i h in
         record {
           accepts = a .accepts i h;
-          rank = rankAt pg q i;
-          ranked = rw e at (r .inside);
+          rank = rankBy pg q (slotOf lead i);
+          ranked = rw e at (r .within);
           page-is = rw e at (r .there);
           part-is = a .positions .slot i h .part-is;
           span-is = here ∙ is ∙ rw (a .counts .slot i h .part-is, a .positions .slot i h .part-is);

@@ -2,9 +2,9 @@
 --
 --   pairOf p n          page p and its n starts, or nothing where n is 0
 --   foundIn s ts        the pairs of the phrase ts in the card s
---   rankAt pg q i       the rank of the page that cursor i is on, on list i of the numbers pg
---   Asked s ts pg ct ps the lists of pages, counts and positions of the words ts, each in its word's slot
---   OnAll s ts pg q p   the cursor of each word is on page p
+--   Asked s ts lead pg ct ps  the lists of the words ts: the pages with those of word number lead first, counts and positions
+--                       each in its word's slot
+--   OnAll s ts pg q p   the cursor of each list of pages is on page p
 --   Spanned s ts ps p n xs  the numbers xs hold the spans of page p for the first n words
 --   AfterPage s ts ps q b   the cursors q on the positions are ready for any page from b on
 --   Paired a room p n r after  the pair of p and n was put behind the pairs a, if there was room; r numbers are found
@@ -12,21 +12,22 @@
 use mathlib.Core.Bool.{cond}
 use mathlib.Core.Path.{_≡_}
 use mathlib.Core.List.{List, [], _∷_, _++_}
-use Prim.Native.Nat.{ℕ, _+_, _-_, _/_, _^_, _≤_, _<_}
+use Prim.Native.Nat.{ℕ, _+_, _≤_, _<_}
 use lib.Dec.{ltb}
 use lib.ListN.{length, getD}
 use Rattle.rules.specs.declared.Refusal.the-variants.{Accepted}
-use Rattle.rules.specs.ReadList.{listU}
 use Rattle.rules.specs.ReadTerm.{termRefusal}
-use Rattle.rules.specs.Index.{indexN, termPart}
+use Rattle.rules.specs.Index.{termPart}
+use Rattle.rules.specs.Common.{leadOf}
 use Rattle.rules.specs.Questions.{withStarts, commonPages, listsIn, wordsIn}
 use Rattle.rules.specs.Write.{laid}
 use Rattle.commonlaws.specs.Readers.{OnPage}
 use Rattle.query.specs.declared.Query.{Query}
-use Rattle.query.specs.Lists.{numberOf, partAt, pagesAt, boundIn}
+use Rattle.query.specs.Lists.{pagesAt, boundIn}
 use Rattle.query.specs.Queries.{cursorIn, readerAt}
 use Rattle.seek.specs.Cursors.{Held}
 use Rattle.phrase.specs.Words.{spanIn, Paged, TermAt}
+use Rattle.wordlists.specs.Opened.{OpenedPages}
 use Rattle.openwords.specs.Slots.{Filled}
 
 unfoldable pub pairOf : ℕ → ℕ → List ℕ
@@ -35,18 +36,13 @@ pairOf p n = cond (ltb 0 n) (p ∷ (n ∷ [])) []
 unfoldable pub foundIn : List ℕ → List ℕ → List ℕ
 foundIn s ts = withStarts (wordsIn s ts) (commonPages (listsIn s ts))
 
-abbrev pub rankAt : List ℕ → Query → ℕ → ℕ
-rankAt pg q i = cursorIn q i .bit - (cursorIn q i .mark - 1) / 2 ^ numberOf pg i 3
-
 abbrev pub termAt : List ℕ → List ℕ → ℕ → List ℕ
 termAt s ts i = termPart (getD ts i 0) s
 
-pub record Asked (s ts pg ct ps : List ℕ) : Type 0 where
-  pub some : 0 < length ts
-  pub few : length ts ≤ 8
+pub record Asked (s ts : List ℕ) (lead : ℕ) (pg ct ps : List ℕ) : Type 0 where
   pub accepts : (i : ℕ) → i < length ts → termRefusal (termAt s ts i) ≡ Accepted
-  pub bound : (i : ℕ) → i < length ts → listU (partAt s pg i) ≡ indexN s
-  pub pages : Filled s ts 0 (length ts) pg
+  pub leads : lead ≡ leadOf (listsIn s ts)
+  pub pages : OpenedPages s ts pg
   pub counts : Filled s ts 1 (length ts) ct
   pub positions : Filled s ts 2 (length ts) ps
 

@@ -2,7 +2,7 @@
 
 ghost use mathlib.Core.Path.{_≡_};
 ghost use mathlib.Core.Bool.{true};
-ghost use Prim.Native.Nat.{_+_, _-_, _/_, _^_, _≤_, _<_};
+ghost use Prim.Native.Nat.{_+_, _-_, _^_, _<_};
 ghost use lib.Dec.{ltb};
 ghost use lib.ListN.{length};
 ghost use Rattle.rules.specs.declared.Refusal.the-variants.{Accepted};
@@ -12,27 +12,16 @@ ghost use Rattle.rules.specs.Questions.{starts, wordsIn, byPhrase};
 ghost use Rattle.rules.specs.Write.{laid};
 ghost use Rattle.questions.specs.Formed.{wordsGood};
 ghost use Rattle.questions.specs.Wrote.{Wrote};
-ghost use Rattle.query.specs.Lists.{numberOf};
-ghost use Rattle.query.specs.Queries.{cursorIn};
-ghost use Rattle.phrases.specs.Asked.{pairOf, foundIn, rankAt, Asked, OnAll, Spanned, AfterPage, PairedBehind};
+ghost use Rattle.phrases.specs.Asked.{foundIn, Asked, OnAll, Spanned, AfterPage, PairedBehind};
 use phrase::Starts;
 use query::Query;
 use seek::SPENT;
 
-// The rank of the page that the cursor of word i is on.
-fn rank_at(pages: &[u32], q: Query, i: usize) -> usize
-    requires { ⌜ (length (now pages) ≡ 64) × (i < 8) × (length (q .cursors) ≡ 8) × (numberOf (now pages) i 3 < 64) × (0 < cursorIn q i .mark) × ((cursorIn q i .mark - 1) / 2 ^ numberOf (now pages) i 3 ≤ cursorIn q i .bit) ⌝ }
-    ensures { λ r. ⌜ r ≡ rankAt (now (pages .entry)) q i ⌝ }
-{
-    let c = q.cursors[i];
-    let high = (c.mark as usize - 1) >> query::number(pages, i, 3);
-    c.bit as usize - high
-}
-
-// Puts the spans of the page that all cursors are on, two numbers a word.
+// Puts the spans of the page that all cursors are on, two numbers a word; the pages of word `lead` come first.
 fn put_spans(
     card: &[u8],
     terms: &[u32],
+    lead: usize,
     pages: &[u32],
     counts: &[u32],
     positions: &[u32],
@@ -40,12 +29,12 @@ fn put_spans(
     page: usize,
     spans: &mut [usize],
 )
-    requires { ⌜ Asked (now card) (now terms) (now pages) (now counts) (now positions) × OnAll (now card) (now terms) (now pages) q page × (length (now spans) ≡ 16) ⌝ }
+    requires { ⌜ Asked (now card) (now terms) lead (now pages) (now counts) (now positions) × OnAll (now card) (now terms) (now pages) q page × (length (now spans) ≡ 16) ⌝ }
     ensures { λ _. ⌜ Spanned (now (card .entry)) (now (terms .entry)) (now (positions .entry)) page (length (now (terms .entry))) (now (spans .exit)) ⌝ }
 {
     let mut i = 0;
     while i < terms.len() {
-        let rank = rank_at(pages, q, i);
+        let rank = kinds::rank_in(pages, q, openlists::slot_of(lead, i));
         let x = phrase::span_at(card, counts, positions, i, rank);
         spans[2 * i] = x.base;
         spans[2 * i + 1] = x.end;
@@ -57,6 +46,7 @@ fn put_spans(
 fn page_starts(
     card: &[u8],
     terms: &[u32],
+    lead: usize,
     pages: &[u32],
     counts: &[u32],
     positions: &[u32],
@@ -64,11 +54,21 @@ fn page_starts(
     at: Query,
     page: usize,
 ) -> Starts
-    requires { ⌜ Asked (now card) (now terms) (now pages) (now counts) (now positions) × OnAll (now card) (now terms) (now pages) q page × AfterPage (now card) (now terms) (now positions) at page ⌝ }
+    requires { ⌜ Asked (now card) (now terms) lead (now pages) (now counts) (now positions) × OnAll (now card) (now terms) (now pages) q page × AfterPage (now card) (now terms) (now positions) at page ⌝ }
     ensures { λ r. ⌜ (r .count ≡ starts (wordsIn (now (card .entry)) (now (terms .entry))) page) × (r .count < 2 ^ 32) × AfterPage (now (card .entry)) (now (terms .entry)) (now (positions .entry)) (r .q) (page + 1) ⌝ }
 {
     let mut spans = [0usize; 16];
-    put_spans(card, terms, pages, counts, positions, q, page, &mut spans);
+    put_spans(
+        card,
+        terms,
+        lead,
+        pages,
+        counts,
+        positions,
+        q,
+        page,
+        &mut spans,
+    );
     phrase::count_starts(card, positions, &spans, at, terms.len())
 }
 
@@ -92,12 +92,13 @@ fn put_pair(room: &mut [u32], found: usize, page: u32, count: u32) -> usize
 fn list_starts(
     card: &[u8],
     terms: &[u32],
+    lead: usize,
     pages: &[u32],
     counts: &[u32],
     positions: &[u32],
     room: &mut [u32],
 ) -> usize
-    requires { ⌜ Asked (now card) (now terms) (now pages) (now counts) (now positions) × (0 < length (now room)) ⌝ }
+    requires { ⌜ Asked (now card) (now terms) lead (now pages) (now counts) (now positions) × (0 < length (now room)) ⌝ }
     ensures { λ r. ⌜ (r ≡ length (foundIn (now (card .entry)) (now (terms .entry)))) × (r < 2 ^ 32) × (r < length (now (room .entry)) → now (room .exit) ≡ laid (0 ∷ foundIn (now (card .entry)) (now (terms .entry))) (now (room .entry))) ⌝ }
 {
     room[0] = 0;
@@ -113,6 +114,7 @@ fn list_starts(
         let s = page_starts(
             card,
             terms,
+            lead,
             pages,
             counts,
             positions,
@@ -127,20 +129,24 @@ fn list_starts(
     }
 }
 
-// Whether the answer fits so many numbers.
+// Whether the answer fits so many numbers; it is counted only where two numbers for each page of the lead may not fit.
 fn fits(
     card: &[u8],
     terms: &[u32],
+    lead: usize,
     pages: &[u32],
     counts: &[u32],
     positions: &[u32],
     size: usize,
 ) -> bool
-    requires { ⌜ Asked (now card) (now terms) (now pages) (now counts) (now positions) ⌝ }
+    requires { ⌜ Asked (now card) (now terms) lead (now pages) (now counts) (now positions) ⌝ }
     ensures { λ r. ⌜ r ≡ ltb (length (foundIn (now (card .entry)) (now (terms .entry)))) size ⌝ }
 {
+    if 2 * query::number(pages, 0, 7) < size {
+        return true;
+    }
     let mut none = [0u32; 1];
-    list_starts(card, terms, pages, counts, positions, &mut none) < size
+    list_starts(card, terms, lead, pages, counts, positions, &mut none) < size
 }
 
 // Kind 4: the pages with a start of the phrase, each with the number of its starts.
@@ -151,13 +157,13 @@ pub fn by_phrase(card: &[u8], terms: &[u32], room: &mut [u32]) -> usize
     let mut pages = [0u32; 64];
     let mut counts = [0u32; 64];
     let mut positions = [0u32; 64];
-    openwords::open_words(card, terms, 0, &mut pages);
+    let lead = wordlists::open_pages(card, terms, &mut pages);
     openwords::open_words(card, terms, 1, &mut counts);
     openwords::open_words(card, terms, 2, &mut positions);
-    if !fits(card, terms, &pages, &counts, &positions, room.len()) {
+    if !fits(card, terms, lead, &pages, &counts, &positions, room.len()) {
         return 0;
     }
-    let found = list_starts(card, terms, &pages, &counts, &positions, room);
+    let found = list_starts(card, terms, lead, &pages, &counts, &positions, room);
     room[0] = found as u32;
     found + 1
 }

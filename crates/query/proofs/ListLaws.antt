@@ -38,4 +38,8 @@ pub span-words : (U : ℕ) (f : ℕ → List ℕ) → U ≤ limit → (n i : ℕ
     → wordsOf U (span f i n) ≤ n * 2 ^ 20
 unfolding span wordsOf
 span-words U f u zero i h = omega arith
-span-words U f u (suc n) i h = omega (arith, words-few U (f i) u (h i (omega arith) (omega arith)), span-words U f u n (i + 1) (λ j l m. h j (omega arith) (omega arith)))
+span-words U f u (suc n) i h = omega (
+  arith,
+  words-few U (f i) u (h i (omega arith) (omega arith)),
+  span-words U f u n (i + 1) (λ j l m. h j (omega arith) (omega arith)),
+)

@@ -1,4 +1,5 @@
--- Laws of listing common pages one by one: the pages so far, with the counts so far, and the rule from here on are the whole.
+-- Laws of listing common pages one by one:
+-- the pages so far, with the counts so far, and the rule from here on are the whole.
 use mathlib.Core.Path.{_≡_, refl, sym, ap, _∙_}
 use mathlib.Core.List.{List, [], _∷_, _++_, append-assoc, append-nil}
 use Prim.Native.Nat.{ℕ, suc, _+_, _-_, _≤_, _<_}
@@ -28,15 +29,19 @@ use Rattle.query.proofs.NewLaws.{new-seeks, new-looks, new-running, new
 
 -- ---- one number more in the room
 
-pub laid-more : (ps room : List ℕ) (p : ℕ) → length ps < length room → set (laid ps room) (length ps) p ≡ laid (ps ++ p ∷ []) room
+pub laid-more : (ps room : List ℕ) (p : ℕ) → length ps < length room
+    → set (laid ps room) (length ps) p ≡ laid (ps ++ p ∷ []) room
 unfolding laid
 laid-more ps room p h =
     let e : length (ps ++ p ∷ []) ≡ suc (length ps) = length-append ps (p ∷ []) ∙ omega arith in
-    rw (e, drop-cons room (length ps) 0 h) (set-at ps (getD room (length ps) 0) (drop (suc (length ps)) room) p (length ps) refl ∙ sym (append-snoc ps p (drop (suc (length ps)) room)))
+    rw (e, drop-cons room (length ps) 0 h)
+    (set-at ps (getD room (length ps) 0) (drop (suc (length ps)) room) p (length ps) refl
+    ∙ sym (append-snoc ps p (drop (suc (length ps)) room)))
 
 -- ---- tallies
 
-counted-then : (s l s′ l′ : ℕ) (ps ps′ : List ℕ) (t : Tally) → counted s l ps (counted s′ l′ ps′ t) ≡ counted (s + s′) (l + l′) (ps ++ ps′) t
+counted-then : (s l s′ l′ : ℕ) (ps ps′ : List ℕ) (t : Tally)
+    → counted s l ps (counted s′ l′ ps′ t) ≡ counted (s + s′) (l + l′) (ps ++ ps′) t
 unfolding counted
 counted-then s l s′ l′ ps ps′ t = rw (← add-assoc s s′ (t .seeks), ← add-assoc l l′ (t .looks), append-assoc)
 
@@ -49,7 +54,8 @@ module _ (U : ℕ) (n : Next) where
   unfolding onward
   onward-none e = rw (e, onward)
 
-  onward-page : (c j : ℕ) → n .found ≡ page c j → onward U n ≡ counted (n .seeks) (n .looks) (c ∷ []) (allRounds U (n .lead) (n .others) (c + 1))
+  onward-page : (c j : ℕ) → n .found ≡ page c j
+      → onward U n ≡ counted (n .seeks) (n .looks) (c ∷ []) (allRounds U (n .lead) (n .others) (c + 1))
   unfolding onward
   onward-page c j e = rw (e, onward)
 
@@ -84,13 +90,15 @@ module _ (s sh : List ℕ) (k b₀ : ℕ) where
     here = nextFor s sh k q b
 
     rest-next : restOf s sh k q b ≡ onward (boundIn sh) here
-    rest-next = let a = p .running .apt in rounds-next (boundIn sh) (leadIn s sh q) (othersIn s sh k q) b (lead-ready s sh k q b a) (others-ready s sh k q b a)
+    rest-next = let a = p .running .apt in rounds-next (boundIn sh) (leadIn s sh q) (othersIn s sh k q) b
+        (lead-ready s sh k q b a) (others-ready s sh k q b a)
 
     so-far : (r : Tally) → onward (boundIn sh) here ≡ r → wholeFrom s sh k b₀ ≡ counted (seeksOf q) (looksOf q) ps r
     so-far r e = sym (p .same) ∙ ap (counted (seeksOf q) (looksOf q) ps) (rest-next ∙ e)
 
     same-step : (c j : ℕ) → t .mark ≡ c + 1 → here .found ≡ page c j
-        → counted (seeksOf (t .q)) (looksOf (t .q)) (ps ++ (t .mark - 1) ∷ []) (restOf s sh k (t .q) (t .mark)) ≡ wholeFrom s sh k b₀
+        → counted (seeksOf (t .q)) (looksOf (t .q)) (ps ++ (t .mark - 1) ∷ []) (restOf s sh k (t .q) (t .mark))
+        ≡ wholeFrom s sh k b₀
     same-step c j m e =
         let d : t .mark - 1 ≡ c = omega arith in
         let rest : Tally = allRounds (boundIn sh) (here .lead) (here .others) (c + 1) in
@@ -119,7 +127,8 @@ module _ (s sh : List ℕ) (k b₀ : ℕ) where
         let l : wholeFrom s sh k b₀ .listed ≡ ps′ ++ rest = sym (ap (λ (x : Tally). x .listed) (n .same)) in
         omega (arith, ap length l, length-append ps′ rest, n .sized)
 
-    pub partway-end : t .mark ≡ spentMark → (r : Listed) → (r .found ≡ found) × (r .seeks ≡ seeksOf (t .q)) × (r .looks ≡ looksOf (t .q))
+    pub partway-end : t .mark ≡ spentMark → (r : Listed)
+        → (r .found ≡ found) × (r .seeks ≡ seeksOf (t .q)) × (r .looks ≡ looksOf (t .q))
         → (wholeFrom s sh k b₀ .listed ≡ ps) × Tells (wholeFrom s sh k b₀) r
     unfolding counted nothing
     partway-end h r e =

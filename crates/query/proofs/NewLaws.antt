@@ -15,7 +15,8 @@ use Rattle.commonlaws.proofs.CommonLaws.{fresh-ready}
 use Rattle.seek.specs.Cursors.{unused, ruleCursor}
 use Rattle.seek.proofs.MoveLaws.{unused-held}
 use Rattle.query.specs.Lists.{span, pagesAt, pagesIn, boundIn, Lists}
-use Rattle.query.specs.Queries.{cursorIn, newQuery, readerAt, leadIn, othersIn, total, seeksOf, looksOf, Apt, Running}
+use Rattle.query.specs.Queries.{cursorIn, newQuery, readerAt, leadIn, othersIn}
+use Rattle.query.specs.Queries.{total, seeksOf, looksOf, Apt, Running}
 use Rattle.query.specs.Listings.{ruleFrom, wholeFrom}
 use Rattle.query.proofs.SpanLaws.{span-cons, span-same}
 use Rattle.query.proofs.ListLaws.{list-rises, list-length}
@@ -28,7 +29,7 @@ unfolding span readersOf
 span-fresh f zero i = refl
 span-fresh f (suc n) i = ap (λ (l : List Reader). freshOn (f i) ∷ l) (span-fresh f n (i + 1))
 
-new-cursor : (i : ℕ) → i < 8 → cursorIn newQuery i ≡ unused
+pub new-cursor : (i : ℕ) → i < 8 → cursorIn newQuery i ≡ unused
 unfolding newQuery
 new-cursor i h = getD-replicate 8 i unused unused h
 
@@ -51,12 +52,14 @@ module _ (s sh : List ℕ) where
       lists = l;
       eight = unfold newQuery in refl;
       held = λ i h. rw (new-cursor i (omega (arith, l .few))) (unused-held (boundIn sh) (pagesAt s sh i));
-      ready = λ i h. rw (new-reader i (omega (arith, l .few))) (fresh-ready (boundIn sh) b (pagesAt s sh i) (list-rises s sh i (l .each i h)));
+      ready = λ i h. rw (new-reader i (omega (arith, l .few)))
+          (fresh-ready (boundIn sh) b (pagesAt s sh i) (list-rises s sh i (l .each i h)));
     }
 
     pub new-running : Running s sh k newQuery b
     new-running =
-        let few : leftIn b (leadIn s sh newQuery) ≤ limit = rw (new-reader 0 (omega arith)) (omega (arith, from-le b (pagesAt s sh 0), list-length s sh 0 (l .each 0 (l .some)))) in record {
+        let few : leftIn b (leadIn s sh newQuery) ≤ limit = rw (new-reader 0 (omega arith))
+        (omega (arith, from-le b (pagesAt s sh 0), list-length s sh 0 (l .each 0 (l .some)))) in record {
           apt = new-apt;
           seeks = omega (arith, new-seeks, mul-le-mul-left k few, l .few);
           looks = omega (arith, new-looks);
@@ -67,5 +70,6 @@ module _ (s sh : List ℕ) where
     new-whole =
         let z : k - 0 ≡ k = omega arith in
         let e = rw z at (span-cons (pagesAt s sh) 0 k (l .some)) in
-        let o = span-same (readerAt s sh newQuery) (λ j. freshOn (pagesAt s sh j)) (k - 1) 1 (λ j g h. new-reader j (omega (arith, l .few, l .some))) in
+        let o = span-same (readerAt s sh newQuery) (λ j. freshOn (pagesAt s sh j)) (k - 1) 1
+        (λ j g h. new-reader j (omega (arith, l .few, l .some))) in
         rw (new-reader 0 (omega arith), o, span-fresh (pagesAt s sh) (k - 1) 1) (unfold pagesIn ruleFrom in rw e)

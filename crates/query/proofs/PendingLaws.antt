@@ -29,7 +29,8 @@ pending U k f zero b = nextCommon U (f 0) (span f 1 (k - 1)) b
 pending U k f (suc j) b = midway U (f 0) b (rankOf (f 0 .cursor)) (span f 1 j) (span f (suc j) (k - suc j))
 
 -- all are on b
-pub pending-end : (U k b : ℕ) (f : ℕ → Reader) → 0 < k → pending U k f k b ≡ stop (page b (rankOf (f 0 .cursor))) (f 0) (span f 1 (k - 1))
+pub pending-end : (U k b : ℕ) (f : ℕ → Reader) → 0 < k
+    → pending U k f k b ≡ stop (page b (rankOf (f 0 .cursor))) (f 0) (span f 1 (k - 1))
 unfolding pending
 pending-end U zero b f h = absurd (omega arith)
 pending-end U (suc j) b f h =
@@ -106,10 +107,20 @@ module _ (U k b : ℕ) (f g : ℕ → Reader) where
         rw (span-cons f (suc j) k h)
         (elim (decLt b d) [
           | yes l ↦
-              midway-larger U (f 0) b (rankOf (f 0 .cursor)) (span f 1 j) (f (suc j)) (span f (suc j + 1) (k - (suc j + 1))) d r e l
+              midway-larger U (f 0) b (rankOf (f 0 .cursor)) (span f 1 j) (f (suc j))
+              (span f (suc j + 1) (k - (suc j + 1))) d r e l
               ∙ rw (lt-ltb 0 (suc j) (omega arith), lt-ltb b d l, others-parts j h m, lead-same j h m)
           | no l ↦
               let s : d ≡ b = omega (arith, sought-least U b (f (suc j)) (ready (suc j) h) d r e) in
-              midway-same U (f 0) b (rankOf (f 0 .cursor)) (span f 1 j) (f (suc j)) (span f (suc j + 1) (k - (suc j + 1))) d r e (omega arith)
-              ∙ rw (lt-ltb 0 (suc j) (omega arith), le-ltb b d (omega arith), more-parts j h m, behind-same j h m, s, add-one (suc j), lead-same j h m)
+              midway-same U (f 0) b (rankOf (f 0 .cursor)) (span f 1 j) (f (suc j))
+              (span f (suc j + 1) (k - (suc j + 1))) d r e (omega arith)
+              ∙ rw (
+                lt-ltb 0 (suc j) (omega arith),
+                le-ltb b d (omega arith),
+                more-parts j h m,
+                behind-same j h m,
+                s,
+                add-one (suc j),
+                lead-same j h m,
+              )
         ])

@@ -21,7 +21,8 @@ use Rattle.seek.proofs.CursorLaws.{held-rule}
 use Rattle.seek.proofs.MoveLaws.{moved-held, moved-rule, moved-seeks, moved-looks, moved-found}
 use Rattle.query.specs.declared.Query.{Query}
 use Rattle.query.specs.Lists.{pagesAt, boundIn, ListAt}
-use Rattle.query.specs.Queries.{cursorIn, withCursor, readerAt, leadIn, othersIn, movedIn, total, seeksOf, looksOf, listAfter, Apt}
+use Rattle.query.specs.Queries.{cursorIn, withCursor, readerAt, leadIn, othersIn}
+use Rattle.query.specs.Queries.{movedIn, total, seeksOf, looksOf, listAfter, Apt}
 use Rattle.query.proofs.PendingLaws.{pending, Moves, pending-none, pending-page}
 use Rattle.query.proofs.ListLaws.{list-within, list-rises}
 
@@ -35,7 +36,8 @@ module _ (f : Cursor → ℕ) where
   total-set (x ∷ cs) zero c h = omega arith
   total-set (x ∷ cs) (suc i) c h = omega (arith, total-set cs i c (omega arith))
 
-  pub total-drop : (cs : List Cursor) (i : ℕ) → i < length cs → total f (drop i cs) ≡ f (getD cs i unused) + total f (drop (i + 1) cs)
+  pub total-drop : (cs : List Cursor) (i : ℕ) → i < length cs
+      → total f (drop i cs) ≡ f (getD cs i unused) + total f (drop (i + 1) cs)
   total-drop cs i h = rw (drop-cons cs i unused h, add-one i) (unfold total in refl)
 
   pub total-none : (cs : List Cursor) (i : ℕ) → length cs ≤ i → total f (drop i cs) ≡ 0
@@ -57,7 +59,10 @@ module _ (f : Cursor → ℕ) where
 
 at-some : (xs : List ℕ) (i : ℕ) → 0 < markOf xs (cursorAt xs i)
 unfolding markOf cursorAt
-at-some xs i = elim (ℕ-discrete i (length xs)) [ yes e ↦ rw (eq-eqb i (length xs) e) (omega arith) | no e ↦ rw (ne-eqb i (length xs) e) (omega arith) ]
+at-some xs i = elim (ℕ-discrete i (length xs)) [
+  | yes e ↦ rw (eq-eqb i (length xs) e) (omega arith)
+  | no e ↦ rw (ne-eqb i (length xs) e) (omega arith)
+]
 
 -- what is left of the next common page, with the seeks and looks so far in front
 abbrev pub left : List ℕ → List ℕ → ℕ → Query → ℕ → ℕ → Next
@@ -80,12 +85,17 @@ module _ (s sh : List ℕ) (k : ℕ) (q : Query) (b : ℕ) (a : Apt s sh k q b) 
   this = seek (boundIn sh) (readerAt s sh q i .pages) (readerAt s sh q i .cursor) b
 
   next-held : Held (boundIn sh) (pagesAt s sh i) next
-  next-held = moved-held (boundIn sh) (pagesAt s sh i) (list-rises s sh i list) (list-within s sh i list) (cursorIn q i) (a .held i h) b
+  next-held = moved-held (boundIn sh) (pagesAt s sh i) (list-rises s sh i list)
+      (list-within s sh i list) (cursorIn q i) (a .held i h) b
 
   pub seek-moves : Moves (boundIn sh) b i (readerAt s sh q) (readerAt s sh after)
   unfolding readerAt moved
   seek-moves = record {
-    here = rw (getD-set-same (q .cursors) i next unused inside, moved-rule (boundIn sh) (pagesAt s sh i) (list-rises s sh i list) (list-within s sh i list) (cursorIn q i) (a .held i h) b);
+    here = rw (
+      getD-set-same (q .cursors) i next unused inside,
+      moved-rule (boundIn sh) (pagesAt s sh i) (list-rises s sh i list)
+          (list-within s sh i list) (cursorIn q i) (a .held i h) b,
+    );
     there = λ j n. rw (getD-set-other (q .cursors) i j next unused n);
   }
 
@@ -105,21 +115,33 @@ module _ (s sh : List ℕ) (k : ℕ) (q : Query) (b : ℕ) (a : Apt s sh k q b) 
 
   pub seek-seeks : seeksOf after ≡ seeksOf q + 1
   unfolding seeksOf
-  seek-seeks = omega (arith, total-set (λ c. c .seeks) (q .cursors) i next inside, moved-seeks (boundIn sh) (pagesAt s sh i) (list-rises s sh i list) (list-within s sh i list) (cursorIn q i) (a .held i h) b)
+  seek-seeks = omega (
+    arith,
+    total-set (λ c. c .seeks) (q .cursors) i next inside,
+    moved-seeks (boundIn sh) (pagesAt s sh i) (list-rises s sh i list)
+        (list-within s sh i list) (cursorIn q i) (a .held i h) b,
+  )
 
   pub seek-looks : looksOf after ≡ looksOf q + this .looks
   unfolding looksOf readerAt
-  seek-looks = omega (arith, total-set (λ c. c .looks) (q .cursors) i next inside, moved-looks (boundIn sh) (pagesAt s sh i) (list-rises s sh i list) (list-within s sh i list) (cursorIn q i) (a .held i h) b)
+  seek-looks = omega (
+    arith,
+    total-set (λ c. c .looks) (q .cursors) i next inside,
+    moved-looks (boundIn sh) (pagesAt s sh i) (list-rises s sh i list)
+        (list-within s sh i list) (cursorIn q i) (a .held i h) b,
+  )
 
   -- what the mark of the cursor says of the rule's seek
   found : this .found ≡ foundBy (boundIn sh) (pagesAt s sh i) next
   unfolding readerAt
-  found = sym (moved-found (boundIn sh) (pagesAt s sh i) (list-rises s sh i list) (list-within s sh i list) (cursorIn q i) (a .held i h) b)
+  found = sym (moved-found (boundIn sh) (pagesAt s sh i) (list-rises s sh i list)
+      (list-within s sh i list) (cursorIn q i) (a .held i h) b)
 
   found-none : next .mark ≡ spentMark → this .found ≡ none
   found-none e = found ∙ (unfold foundBy in rw (eq-eqb (next .mark) spentMark e))
 
-  found-page : (next .mark ≡ spentMark → ⊥) → this .found ≡ page (next .mark - 1) (rankIn (boundIn sh) (pagesAt s sh i) next)
+  found-page : (next .mark ≡ spentMark → ⊥)
+      → this .found ≡ page (next .mark - 1) (rankIn (boundIn sh) (pagesAt s sh i) next)
   found-page e = found ∙ (unfold foundBy in rw (ne-eqb (next .mark) spentMark e))
 
   -- after a seek the cursor is not fresh
@@ -129,22 +151,30 @@ module _ (s sh : List ℕ) (k : ℕ) (q : Query) (b : ℕ) (a : Apt s sh k q b) 
       let p = a .held i h in
       let rises = list-rises s sh i list in
       let e = held-rule (boundIn sh) (pagesAt s sh i) rises (list-within s sh i list) (cursorIn q i) p in
-      rw (seek-answered (boundIn sh) (pagesAt s sh i) rises (ruleCursor (boundIn sh) (pagesAt s sh i) (cursorIn q i)) b (rw e (p .placed)) .cursor)
-      (at-some (pagesAt s sh i) (firstAt (max (floor (boundIn sh) (pagesAt s sh i) (ruleCursor (boundIn sh) (pagesAt s sh i) (cursorIn q i))) b) (pagesAt s sh i)))
+      rw (seek-answered (boundIn sh) (pagesAt s sh i) rises
+      (ruleCursor (boundIn sh) (pagesAt s sh i) (cursorIn q i)) b (rw e (p .placed)) .cursor)
+      (at-some (pagesAt s sh i)
+      (firstAt (max (floor (boundIn sh) (pagesAt s sh i) (ruleCursor (boundIn sh) (pagesAt s sh i) (cursorIn q i))) b)
+      (pagesAt s sh i)))
 
   -- what is left after it
   counted : (n : Next) → plus (seeksOf q) (looksOf q) (plus 1 (this .looks) n) ≡ plus (seeksOf after) (looksOf after) n
   counted n = plus-plus (seeksOf q) (looksOf q) 1 (this .looks) n ∙ rw (seek-seeks, seek-looks)
 
-  pub left-none : next .mark ≡ spentMark → left s sh k q i b ≡ plus (seeksOf after) (looksOf after) (stop none (leadIn s sh after) (othersIn s sh k after))
+  pub left-none : next .mark ≡ spentMark
+      → left s sh k q i b ≡ plus (seeksOf after) (looksOf after) (stop none (leadIn s sh after) (othersIn s sh k after))
   left-none e =
-      ap (plus (seeksOf q) (looksOf q)) (pending-none (boundIn sh) k b (readerAt s sh q) (readerAt s sh after) (a .ready) i h seek-moves (found-none e))
+      ap (plus (seeksOf q) (looksOf q))
+      (pending-none (boundIn sh) k b (readerAt s sh q) (readerAt s sh after) (a .ready) i h seek-moves (found-none e))
       ∙ counted (stop none (leadIn s sh after) (othersIn s sh k after))
 
-  pub left-page : (next .mark ≡ spentMark → ⊥) → left s sh k q i b ≡ left s sh k after (listAfter i b (next .mark - 1)) (next .mark - 1)
+  pub left-page : (next .mark ≡ spentMark → ⊥)
+      → left s sh k q i b ≡ left s sh k after (listAfter i b (next .mark - 1)) (next .mark - 1)
   left-page e =
-      ap (plus (seeksOf q) (looksOf q)) (pending-page (boundIn sh) k b (readerAt s sh q) (readerAt s sh after) (a .ready) i h seek-moves (next .mark - 1) (rankIn (boundIn sh) (pagesAt s sh i) next) (found-page e))
+      ap (plus (seeksOf q) (looksOf q)) (pending-page (boundIn sh) k b (readerAt s sh q) (readerAt s sh after)
+      (a .ready) i h seek-moves (next .mark - 1) (rankIn (boundIn sh) (pagesAt s sh i) next) (found-page e))
       ∙ counted (pending (boundIn sh) k (readerAt s sh after) (listAfter i b (next .mark - 1)) (next .mark - 1))
 
   pub page-least : (next .mark ≡ spentMark → ⊥) → b ≤ next .mark - 1
-  page-least e = sought-least (boundIn sh) b (readerAt s sh q i) (a .ready i h) (next .mark - 1) (rankIn (boundIn sh) (pagesAt s sh i) next) (found-page e)
+  page-least e = sought-least (boundIn sh) b (readerAt s sh q i) (a .ready i h) (next .mark - 1)
+      (rankIn (boundIn sh) (pagesAt s sh i) next) (found-page e)

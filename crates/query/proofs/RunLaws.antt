@@ -1,4 +1,5 @@
--- Laws of a run of seeks: the counts stay narrow, and the loop that finds the next common page comes to what the rule has.
+-- Laws of a run of seeks:
+-- the counts stay narrow, and the loop that finds the next common page comes to what the rule has.
 use mathlib.Core.Bool.{Bool, true, false, cond, _&&_}
 use mathlib.Core.Path.{_≡_, refl, sym, ap, _∙_}
 use mathlib.Core.List.{List, _∷_}
@@ -19,7 +20,8 @@ use Rattle.seek.specs.Cursors.{spentMark}
 use Rattle.query.specs.declared.Query.{Query}
 use Rattle.query.specs.declared.Turn.{Turn}
 use Rattle.query.specs.Lists.{pagesAt, boundIn}
-use Rattle.query.specs.Queries.{withCursor, readerAt, leadIn, othersIn, movedIn, seeksOf, looksOf, markFound, nextFor, listAfter, Seekable, Apt, Running, Turned}
+use Rattle.query.specs.Queries.{withCursor, readerAt, leadIn, othersIn, movedIn, seeksOf, looksOf}
+use Rattle.query.specs.Queries.{markFound, nextFor, listAfter, Seekable, Apt, Running, Turned}
 use Rattle.query.proofs.SpanLaws.{length-span, span-cons, span-ready, span-pages}
 use Rattle.query.proofs.PendingLaws.{rankOf, pending, pending-end}
 use Rattle.query.proofs.ListLaws.{list-within, list-length, span-words}
@@ -56,7 +58,8 @@ module _ (s sh : List ℕ) (k : ℕ) (q : Query) (b : ℕ) (a : Apt s sh k q b) 
   words-bound =
       let z : k - 0 ≡ k = omega arith in
       let e = rw z at (span-cons (pagesAt s sh) 0 k some) in
-      let w = span-words (boundIn sh) (pagesAt s sh) (list-within s sh 0 (a .lists .each 0 some)) k 0 (λ j l m. list-length s sh j (a .lists .each j (omega arith))) in
+      let w = span-words (boundIn sh) (pagesAt s sh) (list-within s sh 0 (a .lists .each 0 some)) k 0
+      (λ j l m. list-length s sh j (a .lists .each j (omega arith))) in
       rw (span-pages (readerAt s sh q) (k - 1) 1) (omega (arith, rw e at w, a .lists .few))
 
 listAfter-le : (i b d k : ℕ) → i < k → listAfter i b d ≤ k
@@ -82,7 +85,14 @@ module _ (s sh : List ℕ) (k : ℕ) (q : Query) (b : ℕ) (r : Running s sh k q
       let c = came s sh k q b (r .apt) in
       let n = ends-few (nextFor s sh k q b .found) (c .ends) in record {
         seeks-few = omega (arith, r .seeks);
-        looks-few = omega (arith, r .seeks, r .looks, c .carried .paid, c .carried .reach, words-bound s sh k q b (r .apt));
+        looks-few = omega (
+          arith,
+          r .seeks,
+          r .looks,
+          c .carried .paid,
+          c .carried .reach,
+          words-bound s sh k q b (r .apt),
+        );
       }
 
 -- ---- the loop of the next common page
@@ -97,64 +107,72 @@ module _ (s sh : List ℕ) (k : ℕ) (q₀ : Query) (b₀ : ℕ) where
     pub same : left s sh k q i b ≡ left s sh k q₀ 0 b₀
 
   pub midst-start : Running s sh k q₀ b₀ → Midst q₀ b₀ 0
-  midst-start r = record { running = r; apt = r .apt; within = omega arith; paged = λ h. absurd (omega arith); same = refl }
+  midst-start r = record {
+    running = r;
+    apt = r .apt;
+    within = omega arith;
+    paged = λ h. absurd (omega arith);
+    same = refl;
+  }
 
   -- where it ends with the answer f
   module _ (f : Found) (t : Turn) (b : ℕ) (r : Running s sh k q₀ b₀) (a : Apt s sh k (t .q) b)
-      (same : plus (seeksOf (t .q)) (looksOf (t .q)) (stop f (leadIn s sh (t .q)) (othersIn s sh k (t .q))) ≡ left s sh k q₀ 0 b₀) where
-    found-is : f ≡ nextFor s sh k q₀ b₀ .found
-    unfolding plus stop pending
-    found-is = ap (λ (n : Next). n .found) same
+      (same : plus (seeksOf (t .q)) (looksOf (t .q)) (stop f (leadIn s sh (t .q)) (othersIn s sh k (t .q)))
+      ≡ left s sh k q₀ 0 b₀)
+    where
+      found-is : f ≡ nextFor s sh k q₀ b₀ .found
+      unfolding plus stop pending
+      found-is = ap (λ (n : Next). n .found) same
 
-    seeks-are : seeksOf (t .q) ≡ seeksOf q₀ + nextFor s sh k q₀ b₀ .seeks
-    unfolding plus stop pending
-    seeks-are = omega (arith, ap (λ (n : Next). n .seeks) same)
+      seeks-are : seeksOf (t .q) ≡ seeksOf q₀ + nextFor s sh k q₀ b₀ .seeks
+      unfolding plus stop pending
+      seeks-are = omega (arith, ap (λ (n : Next). n .seeks) same)
 
-    looks-are : looksOf (t .q) ≡ looksOf q₀ + nextFor s sh k q₀ b₀ .looks
-    unfolding plus stop pending
-    looks-are = omega (arith, ap (λ (n : Next). n .looks) same)
+      looks-are : looksOf (t .q) ≡ looksOf q₀ + nextFor s sh k q₀ b₀ .looks
+      unfolding plus stop pending
+      looks-are = omega (arith, ap (λ (n : Next). n .looks) same)
 
-    lead-is : leadIn s sh (t .q) ≡ nextFor s sh k q₀ b₀ .lead
-    unfolding plus stop pending
-    lead-is = ap (λ (n : Next). n .lead) same
+      lead-is : leadIn s sh (t .q) ≡ nextFor s sh k q₀ b₀ .lead
+      unfolding plus stop pending
+      lead-is = ap (λ (n : Next). n .lead) same
 
-    others-are : othersIn s sh k (t .q) ≡ nextFor s sh k q₀ b₀ .others
-    unfolding plus stop pending
-    others-are = ap (λ (n : Next). n .others) same
+      others-are : othersIn s sh k (t .q) ≡ nextFor s sh k q₀ b₀ .others
+      unfolding plus stop pending
+      others-are = ap (λ (n : Next). n .others) same
 
-    same-pages : leadIn s sh (t .q) .pages ≡ leadIn s sh q₀ .pages
-    unfolding readerAt
-    same-pages = refl
+      same-pages : leadIn s sh (t .q) .pages ≡ leadIn s sh q₀ .pages
+      unfolding readerAt
+      same-pages = refl
 
-    running-from : (c j d : ℕ) → f ≡ page c j → b ≤ d → c < d → Running s sh k (t .q) d
-    running-from c j d e l g =
-        let n = came s sh k q₀ b₀ (r .apt) in
-        let hit = rw (sym found-is ∙ e) at (n .ends) in
-        let few = rw (others-count s sh k q₀ b₀ (r .apt)) at (hit .few) in
-        let fewer = mul-le-mul-left k (from-mono (c + 1) d (leadIn s sh q₀ .pages) (omega arith)) in record {
-          apt = apt-more s sh k (t .q) b d a l;
-          seeks = rw same-pages (omega (arith, seeks-are, few, fewer, r .seeks));
-          looks = rw (lead-is, others-are) (omega (arith, seeks-are, looks-are, n .carried .paid, r .looks));
-        }
+      running-from : (c j d : ℕ) → f ≡ page c j → b ≤ d → c < d → Running s sh k (t .q) d
+      running-from c j d e l g =
+          let n = came s sh k q₀ b₀ (r .apt) in
+          let hit = rw (sym found-is ∙ e) at (n .ends) in
+          let few = rw (others-count s sh k q₀ b₀ (r .apt)) at (hit .few) in
+          let fewer = mul-le-mul-left k (from-mono (c + 1) d (leadIn s sh q₀ .pages) (omega arith)) in record {
+            apt = apt-more s sh k (t .q) b d a l;
+            seeks = rw same-pages (omega (arith, seeks-are, few, fewer, r .seeks));
+            looks = rw (lead-is, others-are) (omega (arith, seeks-are, looks-are, n .carried .paid, r .looks));
+          }
 
-    pub turned-from : t .mark ≡ markFound f → ((c j : ℕ) → f ≡ page c j → b ≤ c) → Turned s sh k q₀ b₀ t
-    turned-from e h =
-        let n = next-narrow s sh k q₀ b₀ r in record {
-          eight = a .eight;
-          mark = e ∙ ap markFound found-is;
-          lead = lead-is;
-          others = others-are;
-          seeks = seeks-are;
-          looks = looks-are;
-          narrow = (rw seeks-are (n .seeks-few), rw looks-are (n .looks-few));
-          running = go f refl;
-        }
-      where
-        go : (g : Found) → g ≡ f → (d : ℕ) → (t .mark ≡ spentMark → ⊥) → t .mark ≤ d → Running s sh k (t .q) d
-        go none g d u l = absurd (u (e ∙ ap markFound (sym g) ∙ (unfold markFound in refl)))
-        go (page c j) g d u l =
-            let m : t .mark ≡ c + 1 = e ∙ ap markFound (sym g) ∙ (unfold markFound in refl) in
-            running-from c j d (sym g) (omega (arith, h c j (sym g))) (omega arith)
+      pub turned-from : t .mark ≡ markFound f → ((c j : ℕ) → f ≡ page c j → b ≤ c) → Turned s sh k q₀ b₀ t
+      turned-from e h =
+          let n = next-narrow s sh k q₀ b₀ r in record {
+            eight = a .eight;
+            mark = e ∙ ap markFound found-is;
+            lead = lead-is;
+            others = others-are;
+            seeks = seeks-are;
+            looks = looks-are;
+            narrow = (rw seeks-are (n .seeks-few), rw looks-are (n .looks-few));
+            running = go f refl;
+          }
+        where
+          go : (g : Found) → g ≡ f → (d : ℕ) → (t .mark ≡ spentMark → ⊥) → t .mark ≤ d → Running s sh k (t .q) d
+          go none g d u l = absurd (u (e ∙ ap markFound (sym g) ∙ (unfold markFound in refl)))
+          go (page c j) g d u l =
+              let m : t .mark ≡ c + 1 = e ∙ ap markFound (sym g) ∙ (unfold markFound in refl) in
+              running-from c j d (sym g) (omega (arith, h c j (sym g))) (omega arith)
 
   -- the seeks that are left
   abbrev pub seeksLeft : Query → ℕ
@@ -163,7 +181,10 @@ module _ (s sh : List ℕ) (k : ℕ) (q₀ : Query) (b₀ : ℕ) where
   so-far : (q : Query) (b i : ℕ) → Midst q b i
       → (seeksOf q ≤ seeksOf q₀ + nextFor s sh k q₀ b₀ .seeks) × (looksOf q ≤ looksOf q₀ + nextFor s sh k q₀ b₀ .looks)
   unfolding plus pending
-  so-far q b i m = (omega (arith, ap (λ (n : Next). n .seeks) (m .same)), omega (arith, ap (λ (n : Next). n .looks) (m .same)))
+  so-far q b i m = (
+    omega (arith, ap (λ (n : Next). n .seeks) (m .same)),
+    omega (arith, ap (λ (n : Next). n .looks) (m .same)),
+  )
 
   module _ (q : Query) (b i : ℕ) (m : Midst q b i) where
     pub midst-seekable : i < k → Seekable s sh q i
@@ -181,7 +202,8 @@ module _ (s sh : List ℕ) (k : ℕ) (q₀ : Query) (b₀ : ℕ) where
         }
 
     module _ (h : i < k) (c : Cursor) (w : c ≡ movedIn s sh q i b) where
-      pub midst-step : (c .mark ≡ spentMark → ⊥) → c .mark < 2 ^ 32 → Midst (withCursor q i c) (c .mark - 1) (listAfter i b (c .mark - 1))
+      pub midst-step : (c .mark ≡ spentMark → ⊥) → c .mark < 2 ^ 32
+          → Midst (withCursor q i c) (c .mark - 1) (listAfter i b (c .mark - 1))
       midst-step = rw w (λ e f. record {
         running = m .running;
         apt = seek-apt s sh k q b (m .apt) i h (movedIn s sh q i b .mark - 1) (page-least s sh k q b (m .apt) i h e);
@@ -206,6 +228,7 @@ module _ (s sh : List ℕ) (k : ℕ) (q₀ : Query) (b₀ : ℕ) where
     pub midst-end : k ≤ i → Turned s sh k q₀ b₀ (record { q = q; mark = b + 1 })
     midst-end h =
         let e : i ≡ k = omega (arith, m .within) in
-        let end = ap (plus (seeksOf q) (looksOf q)) (pending-end (boundIn sh) k b (readerAt s sh q) (m .apt .lists .some)) in
+        let end =
+        ap (plus (seeksOf q) (looksOf q)) (pending-end (boundIn sh) k b (readerAt s sh q) (m .apt .lists .some)) in
         turned-from (page b (rankOf (leadIn s sh q .cursor))) (record { q = q; mark = b + 1 }) b (m .running) (m .apt)
         (sym end ∙ rw e at (m .same)) (unfold markFound in refl) (λ c j z. let x : b ≡ c = cc in omega arith)

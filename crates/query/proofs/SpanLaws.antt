@@ -42,13 +42,17 @@ module _ {A : Type 0} (f : ℕ → A) where
   pub span-same : (g : ℕ → A) (n i : ℕ) → ((j : ℕ) → i ≤ j → j < i + n → f j ≡ g j) → span f i n ≡ span g i n
   unfolding span
   span-same g zero i h = refl
-  span-same g (suc n) i h = ap₂ _∷_ (h i (omega arith) (omega arith)) (span-same g n (i + 1) (λ j l m. h j (omega arith) (omega arith)))
+  span-same g (suc n) i h =
+      ap₂ _∷_ (h i (omega arith) (omega arith)) (span-same g n (i + 1) (λ j l m. h j (omega arith) (omega arith)))
 
 module _ (f : ℕ → Reader) where
   pub span-ready : (U b n i : ℕ) → ((j : ℕ) → i ≤ j → j < i + n → Ready U b (f j)) → AllReady U b (span f i n)
   unfolding span
   span-ready U b zero i h = tt
-  span-ready U b (suc n) i h = (h i (omega arith) (omega arith), span-ready U b n (i + 1) (λ j l m. h j (omega arith) (omega arith)))
+  span-ready U b (suc n) i h = (
+    h i (omega arith) (omega arith),
+    span-ready U b n (i + 1) (λ j l m. h j (omega arith) (omega arith)),
+  )
 
   pub span-pages : (n i : ℕ) → pagesOf (span f i n) ≡ span (λ j. f j .pages) i n
   unfolding span pagesOf

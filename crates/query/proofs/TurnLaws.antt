@@ -1,4 +1,5 @@
--- What the mark of a next common page says: none, or the page of the rule's answer; and that fewer of the lead are left.
+-- What the mark of a next common page says:
+-- none, or the page of the rule's answer; and that fewer of the lead are left.
 use mathlib.Core.Bool.{true}
 use mathlib.Core.Path.{_≡_, refl, ap, _∙_}
 use mathlib.Core.List.{List}
@@ -22,7 +23,8 @@ module _ (s sh : List ℕ) (k : ℕ) (q : Query) (b : ℕ) (a : Apt s sh k q b) 
   found-below c j e =
       let n = came s sh k q b a in
       let on = rw e at (n .ends) .on-page .0 in
-      let rises : rising 0 (boundIn sh) (nextFor s sh k q b .lead .pages) ≡ true = rw (n .carried .lead-pages) (a .ready 0 (a .lists .some) .rises) in
+      let rises : rising 0 (boundIn sh) (nextFor s sh k q b .lead .pages) ≡ true =
+      rw (n .carried .lead-pages) (a .ready 0 (a .lists .some) .rises) in
       rw (on .there) at (rising-below 0 (boundIn sh) (nextFor s sh k q b .lead .pages) rises (on .rank) (on .within))
 
   module _ (t : Turn) (u : Turned s sh k q b t) where
@@ -36,10 +38,12 @@ module _ (s sh : List ℕ) (k : ℕ) (q : Query) (b : ℕ) (a : Apt s sh k q b) 
             absurd (omega (arith, found-below c j e, list-within s sh 0 (a .lists .each 0 (a .lists .some))))
 
     -- else it is page + 1
-    pub turned-page : (t .mark ≡ spentMark → ⊥) → (c : ℕ) × (j : ℕ) × (t .mark ≡ c + 1) × (nextFor s sh k q b .found ≡ page c j)
+    pub turned-page : (t .mark ≡ spentMark → ⊥)
+        → (c : ℕ) × (j : ℕ) × (t .mark ≡ c + 1) × (nextFor s sh k q b .found ≡ page c j)
     turned-page h = go (nextFor s sh k q b .found) refl
       where
-        go : (f : Found) → nextFor s sh k q b .found ≡ f → (c : ℕ) × (j : ℕ) × (t .mark ≡ c + 1) × (nextFor s sh k q b .found ≡ page c j)
+        go : (f : Found) → nextFor s sh k q b .found ≡ f
+            → (c : ℕ) × (j : ℕ) × (t .mark ≡ c + 1) × (nextFor s sh k q b .found ≡ page c j)
         go none e = absurd (h (u .mark ∙ ap markFound e ∙ (unfold markFound in refl)))
         go (page c j) e = (c, j, u .mark ∙ ap markFound e ∙ (unfold markFound in refl), e)
 

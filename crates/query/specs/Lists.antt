@@ -1,7 +1,8 @@
 -- Lists of a card side by side, and the eight numbers that say of each where it is and what shape it has.
 --
 --   span f i n      f i, f (i + 1) and so on, n of them
---   numberOf sh i j number j of list i: 0 and 1 where it starts and ends in the card, 2 to 7 U, w, bits, lower, upper and n
+--   numberOf sh i j number j of list i: 0 and 1 where it starts and ends in the card,
+--                   2 to 7 U, w, bits, lower, upper and n
 --   partAt s sh i   the bytes of list i
 --   shapeIn sh i    its shape, by its numbers
 --   pagesAt s sh i  its pages

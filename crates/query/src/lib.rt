@@ -171,8 +171,11 @@ pub fn count_common(card: &[u8], shapes: &[u32], k: usize, bound: usize) -> List
 
 // Lists them at the front of the room, which holds as many as there are; the first list has no fewer.
 pub fn list_common(card: &[u8], shapes: &[u32], k: usize, bound: usize, room: &mut [u32]) -> Listed
-    requires { ⌜ Lists (now card) (now shapes) k × (length (wholeFrom (now card) (now shapes) k bound .listed) ≤ length (now room)) ⌝ }
-    ensures { λ r. ⌜ Tells (wholeFrom (now (card .entry)) (now (shapes .entry)) k bound) r × (now (room .exit) ≡ laid (wholeFrom (now (card .entry)) (now (shapes .entry)) k bound .listed) (now (room .entry))) ⌝ }
+    requires { ⌜ Lists (now card) (now shapes) k
+        × (length (wholeFrom (now card) (now shapes) k bound .listed) ≤ length (now room)) ⌝ }
+    ensures { λ r. ⌜ Tells (wholeFrom (now (card .entry)) (now (shapes .entry)) k bound) r
+        × (now (room .exit)
+        ≡ laid (wholeFrom (now (card .entry)) (now (shapes .entry)) k bound .listed) (now (room .entry))) ⌝ }
 {
     let mut q = Query::new();
     let mut b = bound;

@@ -20,7 +20,8 @@ pub record Split (run : List ℕ) (i rank start inner : ℕ) : Type 0 where
   pub before : start - 256 * i - inner ≡ onesBelow run 0 (64 * (start / 64))
   pub least : start - 256 * i - inner ≤ rank
 
-module _ (s : List ℕ) (g : Shape) (o : Open s g) (run : List ℕ) (part : run ≡ take (g .end - g .upper) (drop (g .upper) s)) where
+module _ (s : List ℕ) (g : Shape) (o : Open s g) (run : List ℕ)
+    (part : run ≡ take (g .end - g .upper) (drop (g .upper) s)) where
   opened : Reading s g
   opened = open-reads s g o
 
@@ -53,13 +54,15 @@ module _ (s : List ℕ) (g : Shape) (o : Open s g) (run : List ℕ) (part : run 
     start-ones = at .after .counted
 
     pub start-lt : start < g .bits
-    start-lt = count-lt s (g .upper) start (g .bits) (omega (arith, start-ones, at .defined, last .before, opened .counted))
+    start-lt =
+        count-lt s (g .upper) start (g .bits) (omega (arith, start-ones, at .defined, last .before, opened .counted))
 
     pub start-word : start / 64 < wordsFor (g .bits)
     start-word = omega (arith, words-hold (g .bits), start-lt)
 
     -- of the ones below the start, `inner` lie in its word x
-    pub start-splits : (x inner : ℕ) → x ≡ runWord run 0 (start / 64) → inner ≡ ones (x % 2 ^ (start % 64)) → Split run i rank start inner
+    pub start-splits : (x inner : ℕ) → x ≡ runWord run 0 (start / 64) → inner ≡ ones (x % 2 ^ (start % 64))
+        → Split run i rank start inner
     start-splits x inner e f =
         let d : 64 * (start / 64) + start % 64 ≡ start = omega arith in
         let c = rw (← e, ← f, d) at (word-ones run 0 (start / 64) (start % 64) (omega arith)) in

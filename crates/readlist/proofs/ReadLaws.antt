@@ -1,4 +1,5 @@
--- What an accepted block's shape tells of its bytes, for a block without elements too: layout, bounds, counts, pointers, elements.
+-- What an accepted block's shape tells of its bytes, for a block without elements too:
+-- layout, bounds, counts, pointers, elements.
 use mathlib.Core.Path.{_≡_, refl, sym, ap, _∙_}
 use mathlib.Core.List.{List}
 use Prim.Native.Nat.{ℕ, suc, _+_, _-_, _*_, _/_, _%_, _^_, _≤_, _<_}
@@ -14,13 +15,13 @@ use Rattle.rules.specs.Runs.{bit, runBit, field, wordsFor}
 use Rattle.rules.specs.Counts.{onesBelow}
 use Rattle.rules.specs.List.{width, zeros, upper, afterZero, pointer, lowerAt, upperAt, size}
 use Rattle.rules.specs.ReadList.{listU, listN, decode, listRefusal}
-use Rattle.laws.proofs.CountLaws.{below-none, below-suc, ones-slow, ones-below-le}
+use Rattle.laws.proofs.CountLaws.{below-none, below-suc, ones-slow, ones-below-le, run-steps}
 use Rattle.laws.proofs.RunLaws.{run-beyond, field-lt, ones-mono}
 use Rattle.shape.specs.declared.Shape.{Shape}
 use Rattle.shape.specs.Shape.{shapeOf}
 use Rattle.shape.proofs.ShapeLaws.{shape-none, shape-some, bounded}
 use Rattle.listlaws.specs.Sound.{After, Framed}
-use Rattle.listlaws.proofs.AfterLaws.{run-steps, run-after, after-le, after-unique}
+use Rattle.listlaws.proofs.AfterLaws.{run-after, after-le, after-unique}
 use Rattle.listlaws.proofs.BlockLaws.{size-is, size-none}
 use Rattle.listlaws.proofs.ElementLaws.{upper-agrees}
 use Rattle.listlaws.proofs.RefusalLaws.{accepted-framed}
@@ -48,7 +49,8 @@ pub record Reading (s : List ℕ) (g : Shape) : Type 0 where
   pub counted : onesBelow s (g .upper) (g .bits) ≡ g .n
   pub spare : (p : ℕ) → g .bits ≤ p → runBit s (g .upper) p ≡ 0
   pub agrees : (p : ℕ) → p < g .bits → runBit s (g .upper) p ≡ bit (upper (g .w) 0 (decode s)) p
-  pub pointed : (q : ℕ) → 0 < q → q ≤ (g .bits - g .n) / 256 → After (onesBelow s (g .upper)) (256 * q) (beAt 4 s (9 + 4 * q))
+  pub pointed : (q : ℕ) → 0 < q → q ≤ (g .bits - g .n) / 256
+      → After (onesBelow s (g .upper)) (256 * q) (beAt 4 s (9 + 4 * q))
   pub valued : (h i : ℕ) → i < g .n → onesBelow s (g .upper) (h + i) ≡ i → runBit s (g .upper) (h + i) ≡ 1
       → getD (decode s) i 0 ≡ h * 2 ^ g .w + field s (g .lower) (i * g .w) (g .w)
 
@@ -157,10 +159,14 @@ module _ (s : List ℕ) (g : Shape) (o : Open s g) where
   -- ---- pointers
 
   after-first : (r : ℕ) → r ≡ 0 → After (onesBelow s (g .upper)) 0 r
-  after-first r e = rw e (record { counted = ap (λ (k : ℕ). 0 + k) (below-none s (g .upper)); zero-last = λ j h. absurd (omega arith) })
+  after-first r e = rw e (record {
+    counted = ap (λ (k : ℕ). 0 + k) (below-none s (g .upper));
+    zero-last = λ j h. absurd (omega arith);
+  })
 
   -- what is stored as pointer number i is that pointer, and number 0 is the run's start
-  pub pointer-reads : (i r : ℕ) → i ≤ pointersIn g → (i ≡ 0 → r ≡ 0) → (0 < i → r ≡ beAt 4 s (9 + 4 * i)) → PointerAt s g i r
+  pub pointer-reads : (i r : ℕ) → i ≤ pointersIn g → (i ≡ 0 → r ≡ 0) → (0 < i → r ≡ beAt 4 s (9 + 4 * i))
+      → PointerAt s g i r
   unfolding pointer
   pointer-reads i r l first next =
       let u : ℕ = upper (g .w) 0 (decode s) in
@@ -177,7 +183,8 @@ module _ (s : List ℕ) (g : Shape) (o : Open s g) where
         stored = next;
         after = a;
         inside = after-le below (run-steps s (g .upper)) (256 * i) r a (g .bits) room;
-        defined = after-unique below (run-steps s (g .upper)) (256 * i) r q a (run-after s (g .upper) u (g .bits) (256 * i) (read .agrees) room);
+        defined = after-unique below (run-steps s (g .upper)) (256 * i) r q a
+            (run-after s (g .upper) u (g .bits) (256 * i) (read .agrees) room);
       }
 
   -- ---- the low part of element number i
@@ -193,7 +200,10 @@ module _ (s : List ℕ) (g : Shape) (o : Open s g) where
 
   module _ (place rank : ℕ) (one : OneAt s (g .upper) rank place) where
     place-lt-bits : place < g .bits
-    place-lt-bits = elim (decLt place (g .bits)) [ yes h ↦ h | no h ↦ absurd (omega (arith, one .set, read .spare place (omega arith))) ]
+    place-lt-bits = elim (decLt place (g .bits)) [
+      | yes h ↦ h
+      | no h ↦ absurd (omega (arith, one .set, read .spare place (omega arith)))
+    ]
 
     rank-le : rank ≤ place
     rank-le = omega (arith, one .below, ones-below-le s (g .upper) place)
@@ -201,13 +211,28 @@ module _ (s : List ℕ) (g : Shape) (o : Open s g) where
     rank-lt : rank < g .n
     rank-lt =
         let e : suc place + (g .bits - suc place) ≡ g .bits = omega (arith, place-lt-bits) in
-        omega (arith, rw e at (ones-mono s (g .upper) (suc place) (g .bits - suc place)), below-suc s (g .upper) place, one .set, one .below, read .counted)
+        omega (
+          arith,
+          rw e at (ones-mono s (g .upper) (suc place) (g .bits - suc place)),
+          below-suc s (g .upper) place,
+          one .set,
+          one .below,
+          read .counted,
+        )
 
     -- its zeros are among those of the run
     zeros-le : place - rank ≤ g .bits - g .n
     zeros-le =
         let e : place + (g .bits - place) ≡ g .bits = omega (arith, place-lt-bits) in
-        omega (arith, rw e at (ones-slow s (g .upper) place (g .bits - place)), one .below, read .counted, rank-le, place-lt-bits, read .few)
+        omega (
+          arith,
+          rw e at (ones-slow s (g .upper) place (g .bits - place)),
+          one .below,
+          read .counted,
+          rank-le,
+          place-lt-bits,
+          read .few,
+        )
 
     high-le : (place - rank) * 2 ^ g .w ≤ g .u
     high-le = le-trans (mul-le-mul-right (2 ^ g .w) zeros-le) (read .high)

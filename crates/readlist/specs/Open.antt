@@ -6,7 +6,8 @@
 --   PointerAt s g i r  r is that pointer, as stored and as a place of the run; i from 0 to pointersIn g
 --   LastBefore s g rank i  pointer number i is the last with at most `rank` ones before it
 --   OneAt s at rank p  the one number `rank`, from 0, of the run at byte `at` stands at place p
---   OneAhead run k before rank  the one number `rank` lies in word k of the run or after it; `before` ones lie below that word
+--   OneAhead run k before rank  the one number `rank` lies in word k of the run or after it;
+--                               `before` ones lie below that word
 use mathlib.Core.Path.{_≡_}
 use mathlib.Core.List.{List}
 use Prim.Native.Nat.{ℕ, _+_, _-_, _*_, _/_, _^_, _≤_, _<_}

@@ -2,9 +2,12 @@
 --
 --   Replied             the refusal, and the answers given before it
 --   fitting left given   the answers that fit whole, in turn, into so much room
+--   fitted size given   the reply that gives those, and 9 where not all of them fit
 --   reply s qs size     the run of the questions qs on the card s, with room of that size
+--   joined given        answers one after the other
 --   Asked               the result: refusal, number answered, room used, and the room after it
 --   asked r room        the same, of what the function answers and the room after it
+--   put r room          the same, of a reply whose answers are laid into the room
 --   ask s qs room       the call
 use mathlib.Core.Bool.{true, false, cond, not}
 use mathlib.Core.List.{List, [], _∷_, _++_}

@@ -1,4 +1,4 @@
--- Counts of ones in a run [01 How a seek moves: "count of ones"].
+-- Counts of ones in a run [01 The form each place takes: "count of ones"].
 --
 --   onesBelow s p i  how many of the first i bits of the run at byte p of s are 1
 use mathlib.Core.List.{List}

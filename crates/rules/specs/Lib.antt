@@ -15,4 +15,5 @@ pub mod Common
 pub mod Questions
 pub mod Ask
 pub mod Program
+pub mod Promises
 pub mod Samples

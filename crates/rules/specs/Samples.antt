@@ -1,25 +1,26 @@
 -- Document 01's samples S1 to S12 and further rows, as one table [01 Sample cards].
 --
---   Row       a sample of one of five kinds
+--   Row       a sample of one of nine kinds
 --   holds r   whether the definitions give what the row says
 --   samples   the table; every holds of it is the theorem of proofs/SamplesHold.antt
 use mathlib.Core.Bool.{Bool, true, false, _&&_}
 use mathlib.Core.List.{List, [], _∷_, _++_}
 use Prim.Native.Nat.{ℕ, zero, suc, _+_}
 use lib.Dec.{eqb}
-use lib.ListN.{set, take, replicate}
-use Rattle.rules.specs.declared.Refusal.the-variants.{Accepted, Short, Length, Version, Limit, Layout, Runs, Question}
+use lib.ListN.{length, set, take, replicate}
+use Rattle.rules.specs.declared.Refusal.the-variants.{Accepted, Short, Length, Version, Limit, Layout, Runs, Parts, Question, Room, Lists}
 use Rattle.rules.specs.declared.Refusal.{Refusal}
 use Rattle.rules.specs.Refusal.{number}
 use Rattle.rules.specs.Bytes.{be, same}
 use Rattle.rules.specs.List.{validList, block}
 use Rattle.rules.specs.ReadList.{listU, decode, listRefusal}
+use Rattle.rules.specs.Write.{writeList}
 use Rattle.rules.specs.Term.{Word}
 use Rattle.rules.specs.Index.{validCard, card, indexRefusal}
 use Rattle.rules.specs.Seek.{Cursor, fresh, Found, none, page, Sought, seek}
 use Rattle.rules.specs.Common.{common}
 use Rattle.rules.specs.Questions.{commonPages}
-use Rattle.rules.specs.Ask.{ask}
+use Rattle.rules.specs.Ask.{Asked, ask}
 use Rattle.rules.specs.Program.{printed}
 
 -- one seek of a sequence on one cursor: the bound, what is found, and the looks
@@ -40,8 +41,10 @@ pub data Row : Type 0 where
   tallied : ℕ → List (List ℕ) → ℕ → ℕ → List ℕ → Row
   -- the card of N and words
   indexed : List ℕ → ℕ → List Word → Row
-  -- a card, questions, the refusal and all answers
-  asked : List ℕ → List ℕ → Refusal → List ℕ → Row
+  -- a list below U written into so much room, and the refusal
+  written : ℕ → List ℕ → ℕ → Refusal → Row
+  -- a card, questions, the size of the room, the refusal, the number answered and all answers
+  asked : List ℕ → List ℕ → ℕ → Refusal → ℕ → List ℕ → Row
   -- a card file, a question file and the program's text
   shown : List ℕ → List ℕ → List ℕ → Row
 
@@ -72,9 +75,11 @@ holds (tallied U ls seeks looks pages) =
     eqb (common U ls .seeks) seeks
     && (eqb (common U ls .looks) looks && (same (common U ls .listed) pages && same (commonPages ls) pages))
 holds (indexed s N ts) = validCard N ts && (sameRefusal (indexRefusal s) Accepted && same (card N ts) s)
-holds (asked s qs r answers) =
-    sameRefusal (ask s qs (replicate 40 0) .refusal) r
-    && same (take (ask s qs (replicate 40 0) .used) (ask s qs (replicate 40 0) .room)) answers
+holds (written U xs size r) = sameRefusal (writeList U xs (replicate size 0) .refusal) r
+holds (asked s qs size r k answers) =
+    let a : Asked = ask s qs (replicate size 0) in
+    sameRefusal (a .refusal) r
+    && (eqb (a .answered) k && (eqb (a .used) (length answers) && same (take (a .used) (a .room)) answers))
 holds (shown s qs text) = same (printed s qs) text
 
 unfoldable pub every : List Row → Bool
@@ -142,11 +147,11 @@ samples =
     ∷ (sought 300 (stepped 300 0 1) (finds 255 255 255 8 ∷ [])
     -- S9 to S11
     ∷ (indexed s9 3 (s9Word ∷ [])
-    ∷ (asked s9 (3 ∷ (1 ∷ (0 ∷ []))) Accepted (3 ∷ (2 ∷ (2 ∷ (1 ∷ []))))
-    ∷ (asked s9 (4 ∷ (2 ∷ (0 ∷ (0 ∷ [])))) Accepted (0 ∷ [])
-    ∷ (asked s9 (4 ∷ (1 ∷ (0 ∷ []))) Accepted (2 ∷ (1 ∷ (2 ∷ [])))
+    ∷ (asked s9 (3 ∷ (1 ∷ (0 ∷ []))) 40 Accepted 1 (3 ∷ (2 ∷ (2 ∷ (1 ∷ []))))
+    ∷ (asked s9 (4 ∷ (2 ∷ (0 ∷ (0 ∷ [])))) 40 Accepted 1 (0 ∷ [])
+    ∷ (asked s9 (4 ∷ (1 ∷ (0 ∷ []))) 40 Accepted 1 (2 ∷ (1 ∷ (2 ∷ [])))
     -- S12
-    ∷ (asked s12 (3 ∷ (2 ∷ (0 ∷ (1 ∷ [])))) Accepted (4 ∷ (5 ∷ (5 ∷ (4 ∷ (15 ∷ [])))))
+    ∷ (asked s12 (3 ∷ (2 ∷ (0 ∷ (1 ∷ [])))) 40 Accepted 1 (4 ∷ (5 ∷ (5 ∷ (4 ∷ (15 ∷ [])))))
     -- the program on S9
     ∷ (shown s9 (be 28 0x00000003_00000001_00000000_00000004_00000002_00000000_00000000) (51 ∷ (32 ∷ (50 ∷ (32 ∷ (50 ∷ (32 ∷ (49 ∷ (10 ∷ (48 ∷ (10 ∷ []))))))))))
     -- w = 1 where U - 1 would give 0; a last pointer at the run's end; both ends of U
@@ -169,10 +174,19 @@ samples =
     ∷ (notList (set s1 26 0x0A) Runs
     ∷ (notList (set s1 13 0x80) Runs
     ∷ (notList (set (set s8 15 1) 16 0xFF) Runs
-    ∷ (asked s9 (3 ∷ (9 ∷ replicate 9 0)) Question []
-    ∷ (asked s9 (3 ∷ (1 ∷ (1 ∷ []))) Question []
+    ∷ (asked s9 (3 ∷ (9 ∷ replicate 9 0)) 40 Question 0 []
+    ∷ (asked s9 (3 ∷ (1 ∷ (1 ∷ []))) 40 Question 0 []
+    -- kinds 1 and 2 on S12, both ends; room one short at the second question; parts that disagree; the writer's refusals
+    ∷ (asked s12 (1 ∷ (2 ∷ (0 ∷ (7 ∷ (1 ∷ (2 ∷ (0 ∷ (8 ∷ [])))))))) 40 Accepted 2 (1 ∷ (43 ∷ (0 ∷ [])))
+    ∷ (asked s12 (2 ∷ (2 ∷ (0 ∷ (16 ∷ (2 ∷ (2 ∷ (0 ∷ (44 ∷ [])))))))) 40 Accepted 2 (2 ∷ (21 ∷ (6 ∷ (0 ∷ []))))
+    ∷ (asked s9 (1 ∷ (2 ∷ (0 ∷ (0 ∷ (3 ∷ (1 ∷ (0 ∷ []))))))) 5 Room 1 (1 ∷ (1 ∷ []))
+    ∷ (notIndex (set s9 8 4) Parts
+    ∷ (written 44 s1List 29 Accepted
+    ∷ (written 44 s1List 28 Room
+    ∷ (written 44 (4 ∷ (4 ∷ [])) 40 Lists
+    ∷ (written 16777217 [] 40 Limit
     -- the pointer by b div 2^w; no jump back behind the cursor; back to the lead after a larger page
     ∷ (sought 1024 (stepped 300 0 3) (finds 600 600 200 2 ∷ (finds 897 897 299 5 ∷ (misses 898 2 ∷ [])))
     ∷ (sought 300 (stepped 300 0 1) (finds 290 290 290 2 ∷ (finds 295 295 295 1 ∷ []))
     ∷ (tallied 20 ((1 ∷ (9 ∷ [])) ∷ ((2 ∷ (9 ∷ (10 ∷ []))) ∷ ((1 ∷ (9 ∷ (12 ∷ []))) ∷ []))) 6 6 (9 ∷ [])
-    ∷ []))))))))))))))))))))))))))))))))))))))
+    ∷ []))))))))))))))))))))))))))))))))))))))))))))))

@@ -28,9 +28,13 @@ mark-from xs b i h = rw (le-leb b (getD xs i 0) h)
 
 -- what a mark tells of its element
 pub mark-none : (xs : List ℕ) (b i m : ℕ) → m ≡ markFrom xs b i → m ≡ 0 → getD xs i 0 < b
-mark-none xs b i m e z = elim (decLt (getD xs i 0) b) [ yes l ↦ l | no l ↦ absurd (omega (arith, e, mark-from xs b i (omega arith))) ]
+mark-none xs b i m e z = elim (decLt (getD xs i 0) b) [
+  | yes l ↦ l
+  | no l ↦ absurd (omega (arith, e, mark-from xs b i (omega arith)))
+]
 
-pub mark-some : (xs : List ℕ) (b i m : ℕ) → m ≡ markFrom xs b i → (m ≡ 0 → ⊥) → (b ≤ getD xs i 0) × (m ≡ getD xs i 0 + 1)
+pub mark-some : (xs : List ℕ) (b i m : ℕ) → m ≡ markFrom xs b i → (m ≡ 0 → ⊥)
+    → (b ≤ getD xs i 0) × (m ≡ getD xs i 0 + 1)
 mark-some xs b i m e z =
     elim (decLt (getD xs i 0) b) [
       | yes l ↦ absurd (z (e ∙ mark-below xs b i l))
@@ -41,7 +45,10 @@ mark-some xs b i m e z =
 
 -- an element of a lower bucket is lower
 pub lower-high : (x b w : ℕ) → x / 2 ^ w < b / 2 ^ w → x < b
-lower-high x b w h = elim (decLt x b) [ yes l ↦ l | no l ↦ absurd (omega (arith, shr-mono {a = b} {b = x} w (omega arith))) ]
+lower-high x b w h = elim (decLt x b) [
+  | yes l ↦ l
+  | no l ↦ absurd (omega (arith, shr-mono {a = b} {b = x} w (omega arith)))
+]
 
 -- ---- the rule's cursor that a struct holds
 

@@ -30,7 +30,9 @@ pub last-none : (U : ℕ) (xs : List ℕ) (i : ℕ) → i ≡ length xs → last
 unfolding lastWord
 last-none U xs i e = rw (eq-eqb i (length xs) e)
 
-module _ (s : List ℕ) (g : Shape) (o : Open s g) (b : ℕ) (from x : Walk) (a : Walking s g x) (passed : Before s b (x .rank)) (paid : x .looks + from .k ≡ from .looks + x .k) (r : Landing) (looks : r .looks ≡ x .looks) where
+module _ (s : List ℕ) (g : Shape) (o : Open s g) (b : ℕ) (from x : Walk) (a : Walking s g x)
+    (passed : Before s b (x .rank)) (paid : x .looks + from .k ≡ from .looks + x .k) (r : Landing)
+    (looks : r .looks ≡ x .looks) where
   abbrev xs : List ℕ
   xs = decode s
 
@@ -44,11 +46,13 @@ module _ (s : List ℕ) (g : Shape) (o : Open s g) (b : ℕ) (from x : Walk) (a 
       let l : x .rank < g .n = one-ranks s g o bit (x .rank) (record { set = one; below = count }) .number in
       let n : x .rank < length xs = rw (open-length s g o) l in
       let first : firstAt b xs ≡ x .rank = firstAt-unique b xs (x .rank) (omega arith) passed (λ _. h) in
-      let place : placeOf (listU s) xs (x .rank) ≡ bit = open-ruled s g o (omega arith) .place-is (x .rank) ∙ placed-at s g o bit (x .rank) one count in
+      let place : placeOf (listU s) xs (x .rank) ≡ bit =
+      open-ruled s g o (omega arith) .place-is (x .rank) ∙ placed-at s g o bit (x .rank) one count in
       record {
         mark-is = rw (first, cursorAt-on xs (x .rank) n) m;
         bit-is = rw (first, cursorAt-on xs (x .rank) n) (p ∙ sym place);
-        counted = rw (first, last-on (listU s) xs (x .rank) n, place) (omega (arith, paid, looks, one-lt s g o x a some));
+        counted =
+            rw (first, last-on (listU s) xs (x .rank) n, place) (omega (arith, paid, looks, one-lt s g o x a some));
       }
 
   pub landed-none : x .left ≡ 0 → x .k + 1 ≡ wordsFor (g .bits) → r .mark ≡ spentMark → r .bit ≡ 0 → Landed s b from r

@@ -17,7 +17,8 @@ use Rattle.seek.specs.declared.Cursor.{Cursor}
 use Rattle.seek.specs.Cursors.{spentMark, unused, markOf, held, rankIn, ruleCursor, Held, movedTo, foundBy}
 use Rattle.seek.proofs.CursorLaws.{held-rule}
 
-pub held-made : (U : ℕ) (xs : List ℕ) (a : Placing) (seeks looks : ℕ) → Placed xs a → Held U xs (held U xs a seeks looks)
+pub held-made : (U : ℕ) (xs : List ℕ) (a : Placing) (seeks looks : ℕ) → Placed xs a
+    → Held U xs (held U xs a seeks looks)
 unfolding held
 held-made U xs a seeks looks p = record { place = a; placed = p; mark-is = refl; bit-is = refl }
 
@@ -50,7 +51,8 @@ module _ (U : ℕ) (xs : List ℕ) (rises : rising 0 U xs ≡ true) (within : U 
     -- it is again a cursor that seeks on the list have made
     pub moved-held : Held U xs (movedTo U xs c b)
     unfolding movedTo
-    moved-held = held-made U xs (seek U xs (ruleCursor U xs c) b .cursor) (c .seeks + 1) (c .looks + seek U xs (ruleCursor U xs c) b .looks) (seek-placed U xs rises (ruleCursor U xs c) b placed)
+    moved-held = held-made U xs (seek U xs (ruleCursor U xs c) b .cursor) (c .seeks + 1)
+        (c .looks + seek U xs (ruleCursor U xs c) b .looks) (seek-placed U xs rises (ruleCursor U xs c) b placed)
 
     pub moved-rule : ruleCursor U xs (movedTo U xs c b) ≡ seek U xs (ruleCursor U xs c) b .cursor
     unfolding moved-held held-made

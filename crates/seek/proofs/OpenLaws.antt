@@ -1,4 +1,5 @@
--- An open block by the step rule's names: its list, the widths and places of its elements, and what stands before a place.
+-- An open block by the step rule's names:
+-- its list, the widths and places of its elements, and what stands before a place.
 use mathlib.Core.Bool.{true}
 use mathlib.Core.Path.{_≡_, sym, ap, _∙_}
 use mathlib.Core.List.{List}
@@ -16,11 +17,12 @@ use Rattle.rules.specs.ReadList.{listU, listN, decode, listRefusal}
 use Rattle.rules.specs.Seek.{placeOf, bitsOf, upperWords}
 use Rattle.laws.proofs.ByteLaws.{beAt-lt}
 use Rattle.laws.proofs.RunLaws.{ones-mono, ones-flat, field-lt}
+use Rattle.laws.proofs.CountLaws.{run-steps}
 use Rattle.shape.specs.declared.Shape.{Shape}
 use Rattle.shape.specs.Shape.{shapeOf}
 use Rattle.shape.proofs.ShapeLaws.{shape-none, shape-some}
 use Rattle.listlaws.specs.Sound.{After}
-use Rattle.listlaws.proofs.AfterLaws.{run-steps, after-le}
+use Rattle.listlaws.proofs.AfterLaws.{after-le}
 use Rattle.listlaws.proofs.ReadLaws.{accepted-rising, accepted-length, rank-of-element}
 use Rattle.listlaws.proofs.Theorems.{accepted-bytes}
 use Rattle.readlist.specs.Open.{Open}
@@ -151,7 +153,8 @@ module _ (s : List ℕ) (g : Shape) (o : Open s g) where
               let n : j < g .n = omega (arith, ones-few q) in
               let m : q ≤ placeIn s g j = a j n (omega arith) in
               let e : q + (placeIn s g j - q) ≡ placeIn s g j = omega arith in
-              absurd (omega (arith, rw e at (ones-mono s (g .upper) q (placeIn s g j - q)), open-ruled some .ranked j n))
+              absurd
+              (omega (arith, rw e at (ones-mono s (g .upper) q (placeIn s g j - q)), open-ruled some .ranked j n))
         ]
 
     pub before-place : (p : ℕ) → Ahead (listU s) (decode s) b p → Before s b (onesBelow s (g .upper) p)

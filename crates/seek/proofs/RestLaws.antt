@@ -9,9 +9,10 @@ use lib.Bits.{bitAnd, and-le-l}
 use lib.Count.{ones, ones-step, trailingZeros}
 use Rattle.laws.proofs.CountLaws.{ones-parts}
 use Rattle.bits.specs.Words.{placeOfOne}
-use Rattle.bits.proofs.WordLaws.{digit, place-trailing, place-shl, place-none, place-some, place-high}
+use Rattle.bits.proofs.WordLaws.{place-trailing, place-shl, place-none, place-some, place-high}
 use Rattle.bits.proofs.SelectLaws.{place-drop}
 use Rattle.seek.specs.Walks.{Rest}
+use Rattle.laws.proofs.BitLaws.{digit}
 
 -- a number with bits has a one
 ones-pos : (k y : ℕ) → 0 < y → y < 2 ^ k → 0 < ones y
@@ -30,14 +31,18 @@ places-some : (x j : ℕ) → x < 2 ^ 64 → j < ones x → placeOfOne 64 x j < 
 places-some x j l h = place-some 64 x j (rw (mod-eq-of-lt l) h)
 
 places-none : (x j : ℕ) → x < 2 ^ 64 → placeOfOne 64 x j ≡ 64 → ones x ≤ j
-places-none x j l e = elim (decLt j (ones x)) [ yes h ↦ absurd (omega (arith, places-some x j l h)) | no h ↦ omega arith ]
+places-none x j l e = elim (decLt j (ones x)) [
+  | yes h ↦ absurd (omega (arith, places-some x j l h))
+  | no h ↦ omega arith
+]
 
 module _ (x y i : ℕ) (r : Rest x y i) where
   pub rest-count : ones y + i ≡ ones x
   rest-count =
       let d : ℕ = ones x - i in
       let e : i + d ≡ ones x = omega (arith, r .within) in
-      let a : ones x ≤ i + ones y = places-none x (i + ones y) (r .whole) (sym (r .places (ones y)) ∙ places-end y (ones y) (r .fits) (omega arith)) in
+      let a : ones x ≤ i + ones y = places-none x (i + ones y) (r .whole)
+      (sym (r .places (ones y)) ∙ places-end y (ones y) (r .fits) (omega arith)) in
       let b : ones y ≤ d = places-none y d (r .fits) (r .places d ∙ places-end x (i + d) (r .whole) (omega arith)) in
       omega arith
 

@@ -10,7 +10,8 @@ use lib.ListN.{length}
 use Rattle.rules.specs.Limits.{limit}
 use Rattle.rules.specs.Runs.{wordsFor}
 use Rattle.rules.specs.List.{rising}
-use Rattle.rules.specs.Seek.{Cursor as Placing, fresh, on, spent, Sought, placeOf, bitsOf, upperWords, cursorBit, startOf, looksTo, gone, arrived, seek}
+use Rattle.rules.specs.Seek.{Cursor as Placing, fresh, on, spent, Sought, placeOf, bitsOf}
+use Rattle.rules.specs.Seek.{upperWords, cursorBit, startOf, looksTo, gone, arrived, seek}
 use Rattle.seeklaws.specs.Cursors.{firstAt, cursorAt, Moves}
 use Rattle.seeklaws.proofs.FirstLaws.{firstAt-le, firstAt-at}
 use Rattle.seeklaws.proofs.JumpLaws.{start-ahead}
@@ -25,7 +26,8 @@ use Rattle.seek.proofs.LandLaws.{last-on, last-none}
 
 landing-ext : (r t : Landing) → r .mark ≡ t .mark → r .bit ≡ t .bit → r .looks ≡ t .looks → r ≡ t
 landing-ext r t m b l =
-    let e : _≡_ {A = Landing} (record { mark = r .mark; bit = r .bit; looks = r .looks }) (record { mark = t .mark; bit = t .bit; looks = t .looks }) = rw (m, b, l) in
+    let made : ℕ → ℕ → ℕ → Landing = λ i j k. record { mark = i; bit = j; looks = k } in
+    let e : made (r .mark) (r .bit) (r .looks) ≡ made (t .mark) (t .bit) (t .looks) = rw (m, b, l) in
     e
 
 -- a cursor behind b moves, or is spent
@@ -49,10 +51,10 @@ seek-nothing U xs a b l h =
 
 -- ---- where a search ends
 
-module _ (U : ℕ) (xs : List ℕ) (rises : rising 0 U xs ≡ true) (within : U ≤ limit) (c : Cursor) (h : Held U xs c) (b : ℕ) where
+module _ (U : ℕ) (xs : List ℕ)
+    (rises : rising 0 U xs ≡ true) (within : U ≤ limit) (c : Cursor) (h : Held U xs c) (b : ℕ) where
   landing-is : (a : Sought) → seek U xs (h .place) b ≡ a → (r : Landing) → r .mark ≡ markOf xs (a .cursor)
-      → r .bit ≡ cursorBit U xs (a .cursor) → r .looks ≡ c .looks + a .looks
-      → r ≡ landing U xs c b
+      → r .bit ≡ cursorBit U xs (a .cursor) → r .looks ≡ c .looks + a .looks → r ≡ landing U xs c b
   unfolding landing
   landing-is a e r m p l =
       let d : seek U xs (ruleCursor U xs c) b ≡ a = rw (held-rule U xs rises within c h) e in
@@ -74,7 +76,8 @@ module _ (U : ℕ) (xs : List ℕ) (rises : rising 0 U xs ≡ true) (within : U 
       → r ≡ landing U xs c b
   landing-stays r g m p l =
       let s = stays-at (h .place) (rw (h .mark-is) at g) in
-      landing-is (seek U xs (h .place) b) refl r (rw (s .0) (m ∙ h .mark-is)) (rw (s .0) (p ∙ h .bit-is)) (rw (s .1) (omega arith))
+      landing-is (seek U xs (h .place) b) refl r (rw (s .0) (m ∙ h .mark-is)) (rw (s .0) (p ∙ h .bit-is))
+      (rw (s .1) (omega arith))
 
   module _ (ahead : c .mark ≤ b) where
     behind : markOf xs (h .place) ≤ b
@@ -108,13 +111,18 @@ module _ (U : ℕ) (xs : List ℕ) (rises : rising 0 U xs ≡ true) (within : U 
       landing-walked r l m p n =
           let i : ℕ = firstAt b xs in
           let inside : start < bitsOf U xs = rw start-is at l in
-          let ahead-of = start-ahead U xs rises (h .place) b (h .placed) (held-floor U xs rises within c h b ahead below) in
+          let ahead-of =
+          start-ahead U xs rises (h .place) b (h .placed) (held-floor U xs rises within c h b ahead below) in
           elim (ℕ-discrete i (length xs)) [
             | yes e ↦
-                landing-is (gone (looksTo start (bitsOf U xs - 1))) (seek-none U xs (h .place) b goes some below rises (h .placed) inside e) r
-                (rw (cursorAt-spent xs i e) at m) (rw (cursorAt-spent xs i e) at p) (omega (arith, rw (start-is, last-none U xs i e) at n))
+                landing-is (gone (looksTo start (bitsOf U xs - 1)))
+                (seek-none U xs (h .place) b goes some below rises (h .placed) inside e) r
+                (rw (cursorAt-spent xs i e) at m) (rw (cursorAt-spent xs i e) at p)
+                (omega (arith, rw (start-is, last-none U xs i e) at n))
             | no e ↦
                 let f : i < length xs = omega (arith, firstAt-le b xs, e) in
-                landing-is (arrived xs i (looksTo start (placeOf U xs i))) (seek-finds U xs (h .place) b goes some below rises (h .placed) inside i refl f) r
-                (rw (cursorAt-on xs i f) at m) (rw (cursorAt-on xs i f) at p) (omega (arith, rw (start-is, last-on U xs i f) at n, ahead-of i f (firstAt-at b xs f)))
+                landing-is (arrived xs i (looksTo start (placeOf U xs i)))
+                (seek-finds U xs (h .place) b goes some below rises (h .placed) inside i refl f) r
+                (rw (cursorAt-on xs i f) at m) (rw (cursorAt-on xs i f) at p)
+                (omega (arith, rw (start-is, last-on U xs i f) at n, ahead-of i f (firstAt-at b xs f)))
           ]

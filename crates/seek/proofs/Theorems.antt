@@ -1,4 +1,5 @@
--- Of all accepted lists and all sequences of bounds: what seeks answer, what they cost, and that jumps change no answer.
+-- Of all accepted lists and all sequences of bounds:
+-- what seeks answer, what they cost, and that jumps change no answer.
 use mathlib.Core.Bool.{true}
 use mathlib.Core.Path.{_≡_, refl, ap, ap₂, _∙_}
 use mathlib.Core.List.{List, [], _∷_}
@@ -18,7 +19,8 @@ use Rattle.seeklaws.proofs.LookLaws.{looks-all}
 use Rattle.seek.specs.declared.Cursor.{Cursor}
 use Rattle.seek.specs.Cursors.{unused, ruleCursor, Held, movedTo, foundBy, after, founds}
 use Rattle.seek.proofs.CursorLaws.{held-rule}
-use Rattle.seek.proofs.MoveLaws.{unused-held, unused-rule, moved-held, moved-rule, moved-seeks, moved-looks, moved-found}
+use Rattle.seek.proofs.MoveLaws.{unused-held, unused-rule, moved-held, moved-rule}
+use Rattle.seek.proofs.MoveLaws.{moved-seeks, moved-looks, moved-found}
 
 module _ (U : ℕ) (xs : List ℕ) (rises : rising 0 U xs ≡ true) (within : U ≤ limit) where
   founds-rule : (c : Cursor) → Held U xs c → (bs : List ℕ) → founds U xs c bs ≡ answers U xs (ruleCursor U xs c) bs
@@ -26,10 +28,11 @@ module _ (U : ℕ) (xs : List ℕ) (rises : rising 0 U xs ≡ true) (within : U 
   founds-rule c h [] = refl
   founds-rule c h (b ∷ bs) =
       let rest = founds-rule (movedTo U xs c b) (moved-held U xs rises within c h b) bs in
-      ap₂ _∷_ (moved-found U xs rises within c h b) (rest ∙ ap (λ (a : Placing). answers U xs a bs) (moved-rule U xs rises within c h b))
+      ap₂ _∷_ (moved-found U xs rises within c h b)
+      (rest ∙ ap (λ (a : Placing). answers U xs a bs) (moved-rule U xs rises within c h b))
 
-  after-counts : (c : Cursor) → Held U xs c → (bs : List ℕ)
-      → (after U xs c bs .seeks ≡ c .seeks + length bs) × (after U xs c bs .looks ≡ c .looks + looksOver U xs (ruleCursor U xs c) bs)
+  after-counts : (c : Cursor) → Held U xs c → (bs : List ℕ) → (after U xs c bs .seeks ≡ c .seeks + length bs)
+      × (after U xs c bs .looks ≡ c .looks + looksOver U xs (ruleCursor U xs c) bs)
   unfolding after looksOver
   after-counts c h [] = (omega arith, omega arith)
   after-counts c h (b ∷ bs) =
@@ -40,35 +43,40 @@ module _ (U : ℕ) (xs : List ℕ) (rises : rising 0 U xs ≡ true) (within : U 
       )
 
 module _ (s : List ℕ) (accepted : listRefusal s ≡ Accepted) where
-  within : listU s ≤ limit
+  abbrev U : ℕ
+  U = listU s
+
+  abbrev xs : List ℕ
+  xs = decode s
+
+  within : U ≤ limit
   within = accepted-framed s accepted .0 .within
 
   -- for bounds that never go down each answer is the first page at or after the bound, by plain reading
-  pub seeks-find : (bs : List ℕ) → neverDown 0 bs ≡ true → founds (listU s) (decode s) unused bs ≡ firsts (decode s) bs
+  pub seeks-find : (bs : List ℕ) → neverDown 0 bs ≡ true → founds U xs unused bs ≡ firsts xs bs
   seeks-find bs n =
       let r = accepted-rising s accepted in
-      founds-rule (listU s) (decode s) r within unused (unused-held (listU s) (decode s)) bs
-      ∙ rw (unused-rule (listU s) (decode s) r within) (answers-first (listU s) (decode s) r bs n)
+      founds-rule U xs r within unused (unused-held U xs) bs
+      ∙ rw (unused-rule U xs r within) (answers-first U xs r bs n)
 
   -- over any seeks on one cursor the looks are at most the seeks and the words of the upper run
-  pub seeks-cost : (bs : List ℕ)
-      → (after (listU s) (decode s) unused bs .seeks ≡ length bs)
-      × (after (listU s) (decode s) unused bs .looks ≤ after (listU s) (decode s) unused bs .seeks + upperWords (listU s) (decode s))
+  pub seeks-cost : (bs : List ℕ) → (after U xs unused bs .seeks ≡ length bs)
+      × (after U xs unused bs .looks ≤ after U xs unused bs .seeks + upperWords U xs)
   unfolding unused
   seeks-cost bs =
       let r = accepted-rising s accepted in
-      let n = after-counts (listU s) (decode s) r within unused (unused-held (listU s) (decode s)) bs in
-      let e = ap (λ (a : Placing). looksOver (listU s) (decode s) a bs) (unused-rule (listU s) (decode s) r within) in
-      (omega (arith, n .0), omega (arith, n .0, n .1, e, looks-all (listU s) (decode s) r bs))
+      let n = after-counts U xs r within unused (unused-held U xs) bs in
+      let e = ap (λ (a : Placing). looksOver U xs a bs) (unused-rule U xs r within) in
+      (omega (arith, n .0), omega (arith, n .0, n .1, e, looks-all U xs r bs))
 
   -- jumps cannot change an answer: it is that of the seek with every pointer read as 0
-  pub jumps-change-none : (c : Cursor) (h : Held (listU s) (decode s) c) (b : ℕ)
-      → (foundBy (listU s) (decode s) (movedTo (listU s) (decode s) c b) ≡ seekBy (λ i. 0) (listU s) (decode s) (h .place) b .found)
-      × (ruleCursor (listU s) (decode s) (movedTo (listU s) (decode s) c b) ≡ seekBy (λ i. 0) (listU s) (decode s) (h .place) b .cursor)
+  pub jumps-change-none : (c : Cursor) (h : Held U xs c) (b : ℕ)
+      → (foundBy U xs (movedTo U xs c b) ≡ seekBy (λ i. 0) U xs (h .place) b .found)
+      × (ruleCursor U xs (movedTo U xs c b) ≡ seekBy (λ i. 0) U xs (h .place) b .cursor)
   jumps-change-none c h b =
       let r = accepted-rising s accepted in
-      let e = held-rule (listU s) (decode s) r within c h in
-      let j = jumps-answer (listU s) (decode s) r (h .place) b (h .placed) in (
-        moved-found (listU s) (decode s) r within c h b ∙ rw e (j .0),
-        moved-rule (listU s) (decode s) r within c h b ∙ rw e (j .1),
+      let e = held-rule U xs r within c h in
+      let j = jumps-answer U xs r (h .place) b (h .placed) in (
+        moved-found U xs r within c h b ∙ rw e (j .0),
+        moved-rule U xs r within c h b ∙ rw e (j .1),
       )

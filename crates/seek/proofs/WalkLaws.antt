@@ -47,7 +47,13 @@ module _ (s : List ℕ) (g : Shape) (o : Open s g) where
         word-is = w;
         gone = ones ((2 ^ 64 - 1 - x .word) % 2 ^ f);
         left-are = rw e (rest-from (2 ^ 64 - 1 - x .word) f (omega arith) l);
-        counted = omega (arith, c, word-ones s (g .upper) (x .k) f (omega arith), complement-ones 64 (x .word) f fits (omega arith), same);
+        counted = omega (
+          arith,
+          c,
+          word-ones s (g .upper) (x .k) f (omega arith),
+          complement-ones 64 (x .word) f fits (omega arith),
+          same,
+        );
         short = b;
         room = r;
       }
@@ -60,8 +66,16 @@ module _ (s : List ℕ) (g : Shape) (o : Open s g) where
     through : below (64 * (x .k + 1)) + (x .before + ones (x .left)) ≡ 64 * (x .k + 1)
     through =
         let other : 2 ^ 64 - 1 - x .word < 2 ^ 64 = omega arith in
-        let all : ones (2 ^ 64 - 1 - x .word) + ones (x .word) ≡ 64 = rw (mod-eq-of-lt fits, mod-eq-of-lt other) at (complement-ones 64 (x .word) 64 fits (omega arith)) in
-        omega (arith, all, word-below (x .k), ap ones (z .word-is), rest-count (2 ^ 64 - 1 - x .word) (x .left) (z .gone) (z .left-are), z .counted)
+        let all : ones (2 ^ 64 - 1 - x .word) + ones (x .word) ≡ 64 =
+        rw (mod-eq-of-lt fits, mod-eq-of-lt other) at (complement-ones 64 (x .word) 64 fits (omega arith)) in
+        omega (
+          arith,
+          all,
+          word-below (x .k),
+          ap ones (z .word-is),
+          rest-count (2 ^ 64 - 1 - x .word) (x .left) (z .gone) (z .left-are),
+          z .counted,
+        )
 
     module _ (enough : h + g .n ≤ g .bits) where
       pub skipping-inside : x .before + ones (x .left) < h → x .k + 1 < wordsFor (g .bits)
@@ -89,12 +103,14 @@ module _ (s : List ℕ) (g : Shape) (o : Open s g) where
 
       zero-place : (placeOfZero 64 (x .word) number < 64) × (place ≡ placeOfZero 64 (x .word) number)
       unfolding placeOfZero
-      zero-place = rest-place (2 ^ 64 - 1 - x .word) (x .left) (z .gone) (z .left-are) (h - x .before - 1) (omega (arith, z .short))
+      zero-place = rest-place (2 ^ 64 - 1 - x .word) (x .left) (z .gone) (z .left-are) (h - x .before - 1)
+          (omega (arith, z .short))
 
       pub zero-lt : place < 64
       zero-lt = omega (arith, zero-place)
 
-      zero-at : (runBit s (g .upper) (64 * x .k + place) ≡ 0) × (below (64 * x .k + place) + number ≡ below (64 * x .k) + place)
+      zero-at : (runBit s (g .upper) (64 * x .k + place) ≡ 0)
+          × (below (64 * x .k + place) + number ≡ below (64 * x .k) + place)
       zero-at = rw (zero-place .1) (run-zero s (g .upper) (x .k) number (x .word) (z .word-is) fits (zero-place .0))
 
       pub zero-rank : below (64 * x .k + place) + h ≡ 64 * x .k + place + 1
@@ -118,7 +134,12 @@ module _ (s : List ℕ) (g : Shape) (o : Open s g) where
 
   module _ (x : Walk) (a : Walking s g x) where
     none-left : x .left ≡ 0 → x .rank ≡ below (64 * (x .k + 1))
-    none-left e = omega (arith, a .counted, word-below (x .k), rest-none (word (x .k)) (x .left) (a .gone) (a .left-are) e)
+    none-left e = omega (
+      arith,
+      a .counted,
+      word-below (x .k),
+      rest-none (word (x .k)) (x .left) (a .gone) (a .left-are) e,
+    )
 
     pub walking-next : (y : Walk) → x .left ≡ 0 → y .k ≡ x .k + 1 → x .k + 1 < wordsFor (g .bits)
         → y .left ≡ word (x .k + 1) → y .rank ≡ x .rank → y .looks ≡ x .looks + 1 → Walking s g y
@@ -142,7 +163,8 @@ module _ (s : List ℕ) (g : Shape) (o : Open s g) where
       abbrev bit : ℕ
       bit = 64 * x .k + trailingZeros 64 (x .left)
 
-      first : (placeOfOne 64 (word (x .k)) (a .gone) < 64) × (trailingZeros 64 (x .left) ≡ placeOfOne 64 (word (x .k)) (a .gone))
+      first : (placeOfOne 64 (word (x .k)) (a .gone) < 64)
+          × (trailingZeros 64 (x .left) ≡ placeOfOne 64 (word (x .k)) (a .gone))
       first = rest-first (word (x .k)) (x .left) (a .gone) (a .left-are) some
 
       pub one-lt : trailingZeros 64 (x .left) < 64

@@ -22,7 +22,8 @@ use Prim.Native.Nat.{ℕ, _+_, _-_, _/_, _^_, _≤_, _<_}
 use lib.Dec.{leb, eqb}
 use lib.ListN.{getD}
 use Rattle.rules.specs.ReadList.{listU, listN, decode}
-use Rattle.rules.specs.Seek.{Cursor as Placing, fresh, on, spent, Found, none, page, Sought, widthOf, cursorBit, startOf, seek}
+use Rattle.rules.specs.Seek.{Cursor as Placing, fresh, on, spent, Found, none}
+use Rattle.rules.specs.Seek.{page, Sought, widthOf, cursorBit, startOf, seek}
 use Rattle.seeklaws.specs.Cursors.{Placed}
 use Rattle.seek.specs.declared.Cursor.{Cursor}
 use Rattle.seek.specs.declared.Landing.{Landing}

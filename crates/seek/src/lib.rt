@@ -292,7 +292,8 @@ fn find(s: &[u8], g: Shape, c: Cursor, b: usize) -> Landing
 
 // One seek for b: the cursor moves as the step rule says, and this function alone adds one seek.
 pub fn seek(s: &[u8], g: Shape, c: Cursor, b: usize) -> Cursor
-    requires { ⌜ Open (now s) g × Held (listU (now s)) (decode (now s)) c × (c .seeks < 2 ^ 31) × (c .looks < 2 ^ 31) ⌝ }
+    requires { ⌜ Open (now s) g × Held (listU (now s)) (decode (now s)) c
+        × (c .seeks < 2 ^ 31) × (c .looks < 2 ^ 31) ⌝ }
     ensures { λ r. ⌜ r ≡ movedTo (listU (now (s .entry))) (decode (now (s .entry))) c b ⌝ }
 {
     let to = find(s, g, c, b);

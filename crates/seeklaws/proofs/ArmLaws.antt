@@ -1,4 +1,5 @@
--- The seek arm by arm, one law for each way that it can go: stays, spent, nothing to look at, the run's end, none, found.
+-- The seek arm by arm, one law for each way that it can go:
+-- stays, spent, nothing to look at, the run's end, none, found.
 use mathlib.Core.Bool.{true}
 use mathlib.Core.Path.{_≡_, refl, _∙_}
 use mathlib.Core.List.{List}
@@ -7,7 +8,8 @@ use native.Mathlib.Omega.{arith}
 use borrow.Author.Tests.{le-leb, lt-leb, eq-eqb, ne-eqb}
 use lib.ListN.{length, getD}
 use Rattle.rules.specs.List.{rising}
-use Rattle.rules.specs.Seek.{Cursor, fresh, on, spent, bitsOf, placeOf, startOf, looksTo, gone, arrived, walked, walkFrom, move, seek}
+use Rattle.rules.specs.Seek.{Cursor, fresh, on, spent, bitsOf, placeOf, startOf}
+use Rattle.rules.specs.Seek.{looksTo, gone, arrived, walked, walkFrom, move, seek}
 use Rattle.seeklaws.specs.Cursors.{firstAt, floor, Placed, Moves}
 use Rattle.seeklaws.proofs.JumpLaws.{walk-ahead, start-ahead}
 
@@ -56,7 +58,10 @@ module _ (U : ℕ) (xs : List ℕ) where
 
         seek-walked : seek U xs c b ≡ walked U xs (startOf U xs c b) (firstAt b xs)
         unfolding walkFrom
-        seek-walked = seek-walks ∙ rw (ne-eqb (startOf U xs c b) (bitsOf U xs) (λ e. omega arith), walk-ahead U xs (startOf U xs c b) b (start-ahead U xs r c b p (floor-le c m)))
+        seek-walked = seek-walks ∙ rw (
+          ne-eqb (startOf U xs c b) (bitsOf U xs) (λ e. omega arith),
+          walk-ahead U xs (startOf U xs c b) b (start-ahead U xs r c b p (floor-le c m)),
+        )
 
         pub seek-none : firstAt b xs ≡ length xs → seek U xs c b ≡ gone (looksTo (startOf U xs c b) (bitsOf U xs - 1))
         unfolding walked

@@ -1,5 +1,5 @@
 -- Laws of order in a rising list, and of its first element at least b, read plainly or by a walk.
-use mathlib.Core.Bool.{Bool, true, false, cond, _&&_}
+use mathlib.Core.Bool.{true, cond, and-false}
 use mathlib.Core.Path.{_≡_, refl, sym, ap, _∙_}
 use mathlib.Core.List.{List, [], _∷_}
 use Prim.Native.Nat.{ℕ, zero, suc, _+_, _-_, _/_, _^_, _≤_, _<_}
@@ -12,16 +12,13 @@ use lib.ListN.{length, getD}
 use Rattle.rules.specs.List.{rising}
 use Rattle.rules.specs.Seek.{none, page, walk}
 use Rattle.rules.specs.Questions.{firstFrom}
-use Rattle.listlaws.proofs.RisingLaws.{rising-parts, rising-at, rising-gap}
+use Rattle.listlaws.proofs.RisingLaws.{rising-at, rising-gap}
 use Rattle.seeklaws.specs.Cursors.{firstAt, foundAt}
 
 -- ---- order
 
-pub and-false : (b : Bool) → b && false ≡ false
-and-false true = refl
-and-false false = refl
-
-pub rising-lt : (lo U : ℕ) (xs : List ℕ) → rising lo U xs ≡ true → (i j : ℕ) → i < j → j < length xs → getD xs i 0 < getD xs j 0
+pub rising-lt : (lo U : ℕ) (xs : List ℕ) → rising lo U xs ≡ true → (i j : ℕ) → i < j → j < length xs
+    → getD xs i 0 < getD xs j 0
 rising-lt lo U xs r i j l h =
     let e : i + (j - i) ≡ j = omega arith in
     omega (arith, rw e at (rising-gap lo U xs r i (j - i) (rw e h)))
@@ -45,7 +42,8 @@ pub firstAt-unique : (b : ℕ) (xs : List ℕ) (i : ℕ) → i ≤ length xs →
 unfolding firstAt
 firstAt-unique b [] i l p q = omega arith
 firstAt-unique b (x ∷ xs) zero l p q = firstAt-here b x xs (q (omega arith))
-firstAt-unique b (x ∷ xs) (suc i) l p q = firstAt-past b x xs (p 0 (omega arith)) ∙ ap suc (firstAt-unique b xs i (omega arith) (λ j h. p (suc j) (omega arith)) (λ h. q (omega arith)))
+firstAt-unique b (x ∷ xs) (suc i) l p q = firstAt-past b x xs (p 0 (omega arith))
+    ∙ ap suc (firstAt-unique b xs i (omega arith) (λ j h. p (suc j) (omega arith)) (λ h. q (omega arith)))
 
 pub firstAt-le : (b : ℕ) (xs : List ℕ) → firstAt b xs ≤ length xs
 unfolding firstAt
@@ -59,7 +57,10 @@ firstAt-le b (x ∷ xs) =
 pub firstAt-before : (b : ℕ) (xs : List ℕ) (j : ℕ) → j < firstAt b xs → getD xs j 0 < b
 unfolding firstAt
 firstAt-before b [] j h = absurd (omega arith)
-firstAt-before b (x ∷ xs) zero h = elim (decLe b x) [ yes l ↦ absurd (omega (arith, firstAt-here b x xs l)) | no l ↦ omega arith ]
+firstAt-before b (x ∷ xs) zero h = elim (decLe b x) [
+  | yes l ↦ absurd (omega (arith, firstAt-here b x xs l))
+  | no l ↦ omega arith
+]
 firstAt-before b (x ∷ xs) (suc j) h =
     elim (decLe b x) [
       | yes l ↦ absurd (omega (arith, firstAt-here b x xs l))
@@ -80,14 +81,17 @@ pub firstAt-none : (b : ℕ) (xs : List ℕ) → ((j : ℕ) → j < length xs �
 firstAt-none b xs p = firstAt-unique b xs (length xs) (omega arith) p (λ h. absurd (omega arith))
 
 -- an element is the first at least itself
-pub firstAt-self : (lo U : ℕ) (xs : List ℕ) → rising lo U xs ≡ true → (i : ℕ) → i < length xs → firstAt (getD xs i 0) xs ≡ i
-firstAt-self lo U xs r i h = firstAt-unique (getD xs i 0) xs i (omega arith) (λ j l. rising-lt lo U xs r j i l h) (λ l. omega arith)
+pub firstAt-self : (lo U : ℕ) (xs : List ℕ) → rising lo U xs ≡ true → (i : ℕ) → i < length xs
+    → firstAt (getD xs i 0) xs ≡ i
+firstAt-self lo U xs r i h =
+    firstAt-unique (getD xs i 0) xs i (omega arith) (λ j l. rising-lt lo U xs r j i l h) (λ l. omega arith)
 
 -- ---- by a walk
 
 -- a walk that starts behind no element at least b ends at the first of them
 pub walk-first : (w start b i : ℕ) (xs : List ℕ)
-    → ((j : ℕ) → j < length xs → b ≤ getD xs j 0 → start ≤ getD xs j 0 / 2 ^ w + (i + j)) → walk w start b i xs ≡ i + firstAt b xs
+    → ((j : ℕ) → j < length xs → b ≤ getD xs j 0 → start ≤ getD xs j 0 / 2 ^ w + (i + j))
+    → walk w start b i xs ≡ i + firstAt b xs
 unfolding walk firstAt
 walk-first w start b i [] a = sym (add-zero i)
 walk-first w start b i (x ∷ xs) a =
@@ -97,7 +101,12 @@ walk-first w start b i (x ∷ xs) a =
           rw (firstAt-here b x xs h, le-leb start (x / 2 ^ w + i) l, le-leb b x h, walk) (sym (add-zero i))
       | no h ↦
           let ih = walk-first w start b (i + 1) xs (λ j l g. omega (arith, a (suc j) (omega arith) g)) in
-          rw (firstAt-past b x xs (omega arith), lt-leb b x (omega arith), and-false (leb start (x / 2 ^ w + i)), walk) (ih ∙ omega arith)
+          rw (
+            firstAt-past b x xs (omega arith),
+            lt-leb b x (omega arith),
+            and-false (leb start (x / 2 ^ w + i)),
+            walk,
+          ) (ih ∙ omega arith)
     ]
 
 -- ---- by plain reading

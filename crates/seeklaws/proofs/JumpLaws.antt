@@ -40,9 +40,11 @@ unfolding pointer
 pointer-le b u i = omega (arith, afterZero-le b u (256 * i) 0)
 
 -- a walk that starts behind no element at least b ends at the first of them
-pub walk-ahead : (U : ℕ) (xs : List ℕ) (start b : ℕ) → Ahead U xs b start → walk (widthOf U xs) start b 0 xs ≡ firstAt b xs
+pub walk-ahead : (U : ℕ) (xs : List ℕ) (start b : ℕ) → Ahead U xs b start
+    → walk (widthOf U xs) start b 0 xs ≡ firstAt b xs
 unfolding placeOf
-walk-ahead U xs start b a = walk-first (widthOf U xs) start b 0 xs (λ j h l. rw (zero-add j) (a j h l)) ∙ zero-add (firstAt b xs)
+walk-ahead U xs start b a =
+    walk-first (widthOf U xs) start b 0 xs (λ j h l. rw (zero-add j) (a j h l)) ∙ zero-add (firstAt b xs)
 
 module _ (U : ℕ) (xs : List ℕ) (r : rising 0 U xs ≡ true) where
   -- below an element's place are as many ones as elements before it
@@ -82,11 +84,14 @@ module _ (U : ℕ) (xs : List ℕ) (r : rising 0 U xs ≡ true) where
       let z : 0 + b ≡ b = omega arith in
       let all : onesTo u b ≡ length xs = upper-ones w U 0 0 xs r b (omega (arith, e)) .1 in
       let below : onesTo u (placeOf U xs j) ≡ j = place-ones j h in
-      let a = afterZero-is u b (suc k) 0 0 (omega (arith, ones-none u)) (omega arith) (rw z (omega (arith, all, ones-none u, e, high-le j h))) in
-      after-le (onesTo u) (ones-steps u) (0 + suc k) (afterZero b u (suc k) 0) a (placeOf U xs j) (omega (arith, below, place-is j))
+      let a = afterZero-is u b (suc k) 0 0 (omega (arith, ones-none u)) (omega arith)
+      (rw z (omega (arith, all, ones-none u, e, high-le j h))) in
+      after-le (onesTo u) (ones-steps u) (0 + suc k) (afterZero b u (suc k) 0) a (placeOf U xs j)
+      (omega (arith, below, place-is j))
 
   -- no pointer that a seek for b reads passes an element at least b
-  pub pointer-ahead : (b : ℕ) → Ahead U xs b (pointer (bitsOf U xs) (upper (widthOf U xs) 0 xs) (b / 2 ^ widthOf U xs / 256))
+  pub pointer-ahead : (b : ℕ)
+      → Ahead U xs b (pointer (bitsOf U xs) (upper (widthOf U xs) 0 xs) (b / 2 ^ widthOf U xs / 256))
   unfolding pointer
   pointer-ahead b j h l =
       let g = shr-mono {a = b} {b = getD xs j 0} (widthOf U xs) l in
@@ -118,7 +123,3 @@ module _ (U : ℕ) (xs : List ℕ) (r : rising 0 U xs ≡ true) where
   cursor-lt fresh p h = omega (arith, bits-are U xs h)
   cursor-lt spent p h = omega (arith, bits-are U xs h)
   cursor-lt (on i) p h = place-lt i p
-
-  pub start-le : (c : Cursor) (b : ℕ) → Placed xs c → 0 < length xs → startOf U xs c b ≤ bitsOf U xs
-  unfolding startOf
-  start-le c b p h = omega (arith, cursor-lt c p h, pointer-le (bitsOf U xs) (upper (widthOf U xs) 0 xs) (b / 2 ^ widthOf U xs / 256))

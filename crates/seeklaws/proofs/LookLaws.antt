@@ -9,7 +9,8 @@ use borrow.Author.Tests.{le-leb, lt-leb, eq-eqb, ne-eqb}
 use lib.ListN.{length, getD}
 use Rattle.rules.specs.Runs.{wordsFor}
 use Rattle.rules.specs.List.{rising}
-use Rattle.rules.specs.Seek.{Cursor, fresh, on, spent, Sought, bitsOf, placeOf, upperWords, cursorBit, startOf, looksTo, gone, arrived, walked, walkFrom, move, seek}
+use Rattle.rules.specs.Seek.{Cursor, fresh, on, spent, Sought, bitsOf, placeOf, upperWords, cursorBit}
+use Rattle.rules.specs.Seek.{startOf, looksTo, gone, arrived, walked, walkFrom, move, seek}
 use Rattle.seeklaws.specs.Cursors.{firstAt, floor, Placed, Ahead, reached, looksOver}
 use Rattle.seeklaws.proofs.FirstLaws.{firstAt-le, firstAt-at}
 use Rattle.seeklaws.proofs.JumpLaws.{walk-ahead, place-lt, start-ahead}
@@ -34,8 +35,8 @@ module _ (U : ℕ) (xs : List ℕ) (r : rising 0 U xs ≡ true) where
   unfolding gone reached
   gone-paid q h = omega arith
 
-  walked-paid : (q start i : ℕ) → q ≤ start / 64 → q ≤ upperWords U xs → (i < length xs → start ≤ placeOf U xs i) → i ≤ length xs
-      → Paid q (walked U xs start i)
+  walked-paid : (q start i : ℕ) → q ≤ start / 64 → q ≤ upperWords U xs → (i < length xs → start ≤ placeOf U xs i)
+      → i ≤ length xs → Paid q (walked U xs start i)
   unfolding walked gone arrived looksTo reached
   walked-paid q start i h l a e =
       elim (ℕ-discrete i (length xs)) [
@@ -43,7 +44,8 @@ module _ (U : ℕ) (xs : List ℕ) (r : rising 0 U xs ≡ true) where
         | no d ↦ rw (ne-eqb i (length xs) d) (omega (arith, a (omega (arith, d))))
       ]
 
-  walkFrom-paid : (q start b : ℕ) → q ≤ start / 64 → q ≤ upperWords U xs → Ahead U xs b start → Paid q (walkFrom U xs start b)
+  walkFrom-paid : (q start b : ℕ) → q ≤ start / 64 → q ≤ upperWords U xs → Ahead U xs b start
+      → Paid q (walkFrom U xs start b)
   unfolding walkFrom
   walkFrom-paid q start b h l a =
       elim (ℕ-discrete start (bitsOf U xs)) [
@@ -71,7 +73,8 @@ module _ (U : ℕ) (xs : List ℕ) (r : rising 0 U xs ≡ true) where
       start-word : (c : Cursor) (b q : ℕ) → q ≤ cursorBit U xs c / 64 → q ≤ startOf U xs c b / 64
       start-word c b q h = unfold startOf in omega arith
 
-  pub looks-step : (c : Cursor) (b : ℕ) → Placed xs c → seek U xs c b .looks + reached U xs c ≤ reached U xs (seek U xs c b .cursor) + 1
+  pub looks-step : (c : Cursor) (b : ℕ) → Placed xs c
+      → seek U xs c b .looks + reached U xs c ≤ reached U xs (seek U xs c b .cursor) + 1
   unfolding seek reached
   looks-step fresh b p = move-paid fresh b 0 p (unfold floor in omega arith) (omega arith) (omega arith)
   looks-step (on i) b p =
@@ -79,14 +82,17 @@ module _ (U : ℕ) (xs : List ℕ) (r : rising 0 U xs ≡ true) where
         | yes l ↦ rw (le-leb b (getD xs i 0) l) (unfold arrived in omega arith)
         | no l ↦
             rw (lt-leb b (getD xs i 0) (omega arith))
-            (move-paid (on i) b (placeOf U xs i / 64) p (unfold floor in omega arith) (unfold cursorBit in omega arith) (unfold reached in reached-le (on i) p))
+            (move-paid (on i) b (placeOf U xs i / 64) p (unfold floor in omega arith) (unfold cursorBit in omega arith)
+            (unfold reached in reached-le (on i) p))
       ]
   looks-step spent b p = gone-paid (upperWords U xs) (omega arith)
 
-  looks-from : (c : Cursor) (bs : List ℕ) → Placed xs c → looksOver U xs c bs + reached U xs c ≤ length bs + upperWords U xs
+  looks-from : (c : Cursor) (bs : List ℕ) → Placed xs c
+      → looksOver U xs c bs + reached U xs c ≤ length bs + upperWords U xs
   unfolding looksOver
   looks-from c [] p = omega (arith, reached-le c p)
-  looks-from c (b ∷ bs) p = omega (arith, looks-step c b p, looks-from (seek U xs c b .cursor) bs (seek-placed U xs r c b p))
+  looks-from c (b ∷ bs) p =
+      omega (arith, looks-step c b p, looks-from (seek U xs c b .cursor) bs (seek-placed U xs r c b p))
 
   -- over any seeks on a cursor that begins fresh, at most one look for each seek and one for each word
   pub looks-all : (bs : List ℕ) → looksOver U xs fresh bs ≤ length bs + upperWords U xs

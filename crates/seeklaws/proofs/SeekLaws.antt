@@ -10,11 +10,14 @@ use borrow.Author.Tests.{le-leb, lt-leb, leb-true, eq-eqb, ne-eqb}
 use lib.Dec.{leb}
 use lib.ListN.{length, getD}
 use Rattle.rules.specs.List.{rising, upper, pointer}
-use Rattle.rules.specs.Seek.{Cursor, fresh, on, spent, Found, Sought, widthOf, bitsOf, placeOf, cursorBit, startOf, walk, gone, arrived, walked, walkFrom, move, seek}
-use Rattle.rules.specs.Questions.{firstFrom}
+use Rattle.rules.specs.Seek.{Cursor, fresh, on, spent, widthOf, bitsOf, cursorBit}
+use Rattle.rules.specs.Seek.{startOf, walk, gone, arrived, walked, walkFrom, move, seek}
 use Rattle.listlaws.proofs.RisingLaws.{and-parts}
-use Rattle.seeklaws.specs.Cursors.{firstAt, cursorAt, floor, Placed, Behind, Ahead, Answered, moveBy, seekBy, answers, firsts, neverDown}
-use Rattle.seeklaws.proofs.FirstLaws.{rising-lt, rising-below, firstAt-unique, firstAt-self, firstAt-le, firstAt-before, firstAt-at, firstAt-none, first-found, foundAt-none, foundAt-page}
+use Rattle.seeklaws.specs.Cursors.{firstAt, cursorAt, floor, Placed, Behind, Ahead}
+use Rattle.seeklaws.specs.Cursors.{Answered, moveBy, seekBy, answers, firsts, neverDown}
+use Rattle.seeklaws.proofs.FirstLaws.{rising-lt, rising-below, firstAt-unique, firstAt-self, firstAt-le}
+use Rattle.seeklaws.proofs.FirstLaws.{firstAt-before, firstAt-at, firstAt-none, first-found, foundAt-none}
+use Rattle.seeklaws.proofs.FirstLaws.{foundAt-page}
 use Rattle.seeklaws.proofs.JumpLaws.{walk-ahead, place-lt, pointer-ahead, cursor-ahead}
 
 pub cursorAt-spent : (xs : List ℕ) (i : ℕ) → i ≡ length xs → cursorAt xs i ≡ spent
@@ -61,9 +64,13 @@ module _ (U : ℕ) (xs : List ℕ) (r : rising 0 U xs ≡ true) where
         | yes e ↦
             rw (eq-eqb start (bitsOf U xs) e)
             (gone-answered xs b 0 (firstAt-none b xs (λ j h.
-            elim (decLt (getD xs j 0) b) [ yes l ↦ l | no l ↦ absurd (omega (arith, a j h (omega arith), place-lt U xs r j h)) ])))
+            elim (decLt (getD xs j 0) b) [
+              | yes l ↦ l
+              | no l ↦ absurd (omega (arith, a j h (omega arith), place-lt U xs r j h))
+            ])))
         | no e ↦
-            rw (ne-eqb start (bitsOf U xs) e) (walked-answered U xs b start (walk (widthOf U xs) start b 0 xs) (sym (walk-ahead U xs start b a)))
+            rw (ne-eqb start (bitsOf U xs) e)
+            (walked-answered U xs b start (walk (widthOf U xs) start b 0 xs) (sym (walk-ahead U xs start b a)))
       ]
 
   module _ (jump : ℕ → ℕ) (safe : (b : ℕ) → Ahead U xs b (jump (b / 2 ^ widthOf U xs / 256))) where
@@ -77,7 +84,8 @@ module _ (U : ℕ) (xs : List ℕ) (r : rising 0 U xs ≡ true) where
                 | yes l ↦ rw (ne-eqb (length xs) 0 e, le-leb U b l) (gone-answered xs b 0 (none-from b l))
                 | no l ↦
                     rw (ne-eqb (length xs) 0 e, lt-leb U b (omega arith))
-                    (walkFrom-answered (max (cursorBit U xs c) (jump (b / 2 ^ widthOf U xs / 256))) b (λ j h g. omega (arith, a j h g, safe b j h g)))
+                    (walkFrom-answered (max (cursorBit U xs c) (jump (b / 2 ^ widthOf U xs / 256))) b
+                    (λ j h g. omega (arith, a j h g, safe b j h g)))
               ]
         ]
 
@@ -95,7 +103,8 @@ module _ (U : ℕ) (xs : List ℕ) (r : rising 0 U xs ≡ true) where
               (arrived-answered xs (getD xs i 0) i 0 (firstAt-self 0 U xs r i p) p)
           | no l ↦
               let m : max (getD xs i 0) b ≡ b = omega arith in
-              rw (m, lt-leb b (getD xs i 0) (omega arith)) (moveBy-answered (on i) b (cursor-ahead U xs r (on i) b p (unfold floor in omega arith)))
+              rw (m, lt-leb b (getD xs i 0) (omega arith))
+              (moveBy-answered (on i) b (cursor-ahead U xs r (on i) b p (unfold floor in omega arith)))
         ]
 
   seek-by : (c : Cursor) (b : ℕ) → seek U xs c b ≡ seekBy (pointer (bitsOf U xs) (upper (widthOf U xs) 0 xs)) U xs c b
@@ -106,11 +115,12 @@ module _ (U : ℕ) (xs : List ℕ) (r : rising 0 U xs ≡ true) where
 
   -- the answer for every cursor and bound: the first element at least the bound and the cursor's own
   pub seek-answered : (c : Cursor) (b : ℕ) → Placed xs c → Answered xs (max (floor U xs c) b) (seek U xs c b)
-  seek-answered c b p = rw (seek-by c b) (seekBy-answered (pointer (bitsOf U xs) (upper (widthOf U xs) 0 xs)) (pointer-ahead U xs r) c b p)
+  seek-answered c b p = rw (seek-by c b)
+      (seekBy-answered (pointer (bitsOf U xs) (upper (widthOf U xs) 0 xs)) (pointer-ahead U xs r) c b p)
 
   -- jumps cannot change an answer: every pointer may be read as 0
-  pub jumps-answer : (c : Cursor) (b : ℕ) → Placed xs c
-      → (seek U xs c b .found ≡ seekBy (λ i. 0) U xs c b .found) × (seek U xs c b .cursor ≡ seekBy (λ i. 0) U xs c b .cursor)
+  pub jumps-answer : (c : Cursor) (b : ℕ) → Placed xs c → (seek U xs c b .found ≡ seekBy (λ i. 0) U xs c b .found)
+      × (seek U xs c b .cursor ≡ seekBy (λ i. 0) U xs c b .cursor)
   jumps-answer c b p =
       let s = seek-answered c b p in
       let t = seekBy-answered (λ i. 0) (λ d j h l. omega arith) c b p in
@@ -161,7 +171,8 @@ module _ (U : ℕ) (xs : List ℕ) (r : rising 0 U xs ≡ true) where
 
   firstAt-behind : (c : Cursor) (b : ℕ) → Behind U xs c b → firstAt (max (floor U xs c) b) xs ≡ firstAt b xs
   firstAt-behind c b h =
-      firstAt-unique (max (floor U xs c) b) xs (firstAt b xs) (firstAt-le b xs) (λ j l. omega (arith, firstAt-before b xs j l)) (λ l.
+      firstAt-unique (max (floor U xs c) b) xs (firstAt b xs) (firstAt-le b xs)
+      (λ j l. omega (arith, firstAt-before b xs j l)) (λ l.
       elim (decLt (getD xs (firstAt b xs) 0) (floor U xs c)) [
         | yes g ↦ absurd (omega (arith, h (firstAt b xs) l g, firstAt-at b xs l))
         | no g ↦ omega (arith, firstAt-at b xs l)
@@ -177,11 +188,10 @@ module _ (U : ℕ) (xs : List ℕ) (r : rising 0 U xs ≡ true) where
         cursor = s .cursor ∙ ap (cursorAt xs) e;
       }
 
-  pub seek-fresh : (b : ℕ) → Answered xs b (seek U xs fresh b)
-  seek-fresh b = seek-first fresh b tt (behind-fresh b)
-
-  pub seek-behind : (c : Cursor) (b d : ℕ) → Placed xs c → Behind U xs c b → b ≤ d → Behind U xs (seek U xs c b .cursor) d
-  seek-behind c b d p h l = rw (seek-first c b p h .cursor) (behind-more (cursorAt xs (firstAt b xs)) b d (cursorAt-behind b) l)
+  pub seek-behind : (c : Cursor) (b d : ℕ) → Placed xs c → Behind U xs c b → b ≤ d
+      → Behind U xs (seek U xs c b .cursor) d
+  seek-behind c b d p h l =
+      rw (seek-first c b p h .cursor) (behind-more (cursorAt xs (firstAt b xs)) b d (cursorAt-behind b) l)
 
   answers-from : (c : Cursor) (b : ℕ) (bs : List ℕ) → Placed xs c → Behind U xs c b → neverDown b bs ≡ true
       → answers U xs c bs ≡ firsts xs bs
@@ -190,7 +200,8 @@ module _ (U : ℕ) (xs : List ℕ) (r : rising 0 U xs ≡ true) where
   answers-from c b (d ∷ bs) p h n =
       let t = and-parts (leb b d) (neverDown d bs) n in
       let g = behind-more c b d h (leb-true b d (t .0)) in
-      ap₂ _∷_ (seek-first c d p g .found) (answers-from (seek U xs c d .cursor) d bs (seek-placed c d p) (seek-behind c d d p g (omega arith)) (t .1))
+      ap₂ _∷_ (seek-first c d p g .found)
+      (answers-from (seek U xs c d .cursor) d bs (seek-placed c d p) (seek-behind c d d p g (omega arith)) (t .1))
 
   pub answers-first : (bs : List ℕ) → neverDown 0 bs ≡ true → answers U xs fresh bs ≡ firsts xs bs
   answers-first bs n = answers-from fresh 0 bs tt (behind-fresh 0) n

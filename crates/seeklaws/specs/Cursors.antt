@@ -21,7 +21,8 @@ use mathlib.Core.List.{List, [], _∷_}
 use Prim.Native.Nat.{ℕ, suc, _+_, _/_, _^_, _≤_, _<_, max}
 use lib.Dec.{leb, eqb}
 use lib.ListN.{length, getD}
-use Rattle.rules.specs.Seek.{Cursor, fresh, on, spent, Found, none, page, Sought, widthOf, placeOf, upperWords, cursorBit, gone, arrived, walkFrom, seek}
+use Rattle.rules.specs.Seek.{Cursor, fresh, on, spent, Found, none, page, Sought, widthOf}
+use Rattle.rules.specs.Seek.{placeOf, upperWords, cursorBit, gone, arrived, walkFrom, seek}
 use Rattle.rules.specs.Questions.{firstFrom}
 
 unfoldable pub firstAt : ℕ → List ℕ → ℕ

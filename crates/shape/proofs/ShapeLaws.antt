@@ -8,29 +8,27 @@ use Rattle.rules.specs.List.{width, zeros, lowerAt, upperAt, size}
 use Rattle.laws.proofs.WidthLaws.{width-le, low-bits}
 use Rattle.shape.specs.Shape.{shapeOf}
 
-pub shape-none : (U n : ℕ) → n ≡ 0
-    → shapeOf U n ≡ record {
-      u = U;
-      n = n;
-      w = 0;
-      bits = 0;
-      lower = listHeader;
-      upper = listHeader;
-      end = listHeader;
-    }
+pub shape-none : (U n : ℕ) → n ≡ 0 → shapeOf U n ≡ record {
+  u = U;
+  n = n;
+  w = 0;
+  bits = 0;
+  lower = listHeader;
+  upper = listHeader;
+  end = listHeader;
+}
 unfolding shapeOf
 shape-none U n e = rw e
 
-pub shape-some : (U n : ℕ) → 0 < n
-    → shapeOf U n ≡ record {
-      u = U;
-      n = n;
-      w = width U n;
-      bits = n + zeros U (width U n);
-      lower = lowerAt U (width U n);
-      upper = upperAt U n (width U n);
-      end = size U n;
-    }
+pub shape-some : (U n : ℕ) → 0 < n → shapeOf U n ≡ record {
+  u = U;
+  n = n;
+  w = width U n;
+  bits = n + zeros U (width U n);
+  lower = lowerAt U (width U n);
+  upper = upperAt U n (width U n);
+  end = size U n;
+}
 unfolding shapeOf
 shape-some U zero h = absurd (omega arith)
 shape-some U (suc m) h = refl

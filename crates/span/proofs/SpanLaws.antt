@@ -51,38 +51,58 @@ past-some xs (suc i) p h =
 
 pub past-le : (U : ℕ) (xs : List ℕ) → rising 0 U xs ≡ true → (i : ℕ) → i ≤ length xs → past xs i ≤ U
 past-le U xs r zero h = rw (past-none xs) (omega arith)
-past-le U xs r (suc i) h = omega (arith, past-some xs (suc i) (omega arith) h, rising-below 0 U xs r (suc i - 1) (omega arith))
+past-le U xs r (suc i) h =
+    omega (arith, past-some xs (suc i) (omega arith) h, rising-below 0 U xs r (suc i - 1) (omega arith))
 
 pub past-lt : (U : ℕ) (xs : List ℕ) → rising 0 U xs ≡ true → (i j : ℕ) → i < j → j ≤ length xs → past xs i < past xs j
 past-lt U xs r zero j l h = omega (arith, past-none xs, past-some xs j l h)
 past-lt U xs r (suc i) j l h =
-    omega (arith, past-some xs (suc i) (omega arith) (omega arith), past-some xs j (omega arith) h, rising-lt 0 U xs r (suc i - 1) (j - 1) (omega arith) (omega arith))
+    omega (
+      arith,
+      past-some xs (suc i) (omega arith) (omega arith),
+      past-some xs j (omega arith) h,
+      rising-lt 0 U xs r (suc i - 1) (j - 1) (omega arith) (omega arith),
+    )
 
 past-mono : (U : ℕ) (xs : List ℕ) → rising 0 U xs ≡ true → (i j : ℕ) → i ≤ j → j ≤ length xs → past xs i ≤ past xs j
-past-mono U xs r i j l h = elim (ℕ-discrete i j) [ yes e ↦ rw e (omega arith) | no e ↦ omega (arith, past-lt U xs r i j (omega (arith, e)) h) ]
+past-mono U xs r i j l h = elim (ℕ-discrete i j) [
+  | yes e ↦ rw e (omega arith)
+  | no e ↦ omega (arith, past-lt U xs r i j (omega (arith, e)) h)
+]
 
 -- number i is that of the first element past those before it
 pub first-past : (U : ℕ) (xs : List ℕ) → rising 0 U xs ≡ true → (i : ℕ) → i ≤ length xs → firstAt (past xs i) xs ≡ i
-first-past U xs r zero h = firstAt-unique (past xs 0) xs 0 h (λ j l. absurd (omega arith)) (λ l. rw (past-none xs) (omega arith))
+first-past U xs r zero h =
+    firstAt-unique (past xs 0) xs 0 h (λ j l. absurd (omega arith)) (λ l. rw (past-none xs) (omega arith))
 first-past U xs r (suc i) h =
     let e : suc i - 1 ≡ i = omega arith in
     let p : past xs (suc i) ≡ getD xs i 0 + 1 = rw e at (past-some xs (suc i) (omega arith) h) in
     firstAt-unique (past xs (suc i)) xs (suc i) h
-    (λ j l. elim (ℕ-discrete j i) [ yes d ↦ rw (p, d) (omega arith) | no d ↦ omega (arith, p, rising-lt 0 U xs r j i (omega arith) (omega arith)) ])
+    (λ j l. elim (ℕ-discrete j i) [
+      | yes d ↦ rw (p, d) (omega arith)
+      | no d ↦ omega (arith, p, rising-lt 0 U xs r j i (omega arith) (omega arith))
+    ])
     (λ l. omega (arith, p, rising-lt 0 U xs r i (suc i) (omega arith) l))
 
 -- the pages before number r have no more positions than there are
-pub paired-le : (counts : List ℕ) (gc : Shape) (positions : List ℕ) (gp : Shape) → Paired counts gc positions gp → (r : ℕ) → r ≤ gc .n → past (decode counts) r ≤ gp .n
+pub paired-le : (counts : List ℕ) (gc : Shape) (positions : List ℕ) (gp : Shape) → Paired counts gc positions gp
+    → (r : ℕ) → r ≤ gc .n → past (decode counts) r ≤ gp .n
 paired-le counts gc positions gp p r h =
     let o = p .counts-open in
-    omega (arith, past-le (listU counts) (decode counts) (open-rising counts gc o) r (omega (arith, open-length counts gc o)), open-U counts gc o, p .numbered)
+    omega (
+      arith,
+      past-le (listU counts) (decode counts) (open-rising counts gc o) r (omega (arith, open-length counts gc o)),
+      open-U counts gc o,
+      p .numbered,
+    )
 
 -- ---- the positions on a page
 
 -- a part of what is left after c elements
 slice-past : (c m n : ℕ) (es : List ℕ) → length (take c es) ≡ c → slice m n (drop c es) ≡ slice (c + m) (c + n) es
 slice-past c m n es l =
-    ap (drop m) (sym (drop-at (take c es) (take n (drop c es)) c l) ∙ ap (drop c) (sym (take-add c n es))) ∙ drop-drop m c (take (c + n) es)
+    ap (drop m) (sym (drop-at (take c es) (take n (drop c es)) c l) ∙ ap (drop c) (sym (take-add c n es)))
+    ∙ drop-drop m c (take (c + n) es)
 
 next-past : (b c m : ℕ) (es : List ℕ) → next (next b (take c es)) (take m (drop c es)) ≡ next b (take (c + m) es)
 next-past b c m es = sym (next-append b (take c es) (take m (drop c es))) ∙ ap (next b) (sym (take-add c m es))
@@ -91,7 +111,8 @@ next-past b c m es = sym (next-append b (take c es) (take m (drop c es))) ∙ ap
 among-rank : (r lo N s b : ℕ) (qs ks es : List ℕ) → rising lo N qs ≡ true → inOrder s ks ≡ true → length qs ≡ length ks
     → total (gaps s ks) ≡ length es → r < length qs
     → positionsAmong (getD qs r 0) qs (gaps s ks) (lowered b (gaps s ks) es)
-    ≡ less (next b (take (next s (take r ks) - s) es)) (slice (next s (take r ks) - s) (next s (take (suc r) ks) - s) es)
+    ≡ less (next b (take (next s (take r ks) - s) es))
+    (slice (next s (take r ks) - s) (next s (take (suc r) ks) - s) es)
 unfolding positionsAmong gaps next
 among-rank r lo N s b [] ks es o p l t h = absurd (omega arith)
 among-rank r lo N s b (q ∷ qs) [] es o p l t h = absurd (omega arith)
@@ -110,7 +131,8 @@ among-rank (suc r) lo N s b (q ∷ qs) (k ∷ ks) es o p l t h =
     let m′ : k + 1 ≤ f′ = next-le (k + 1) (take (suc r) ks) (page-order (k + 1) (suc r) ks (y .1) .0) in
     let e : c + (f - (k + 1)) ≡ f - s = omega (arith, y .0) in
     let e′ : c + (f′ - (k + 1)) ≡ f′ - s = omega (arith, y .0) in
-    let ih = among-rank r (q + 1) N (k + 1) (next b (take c es)) qs ks (drop c es) (x .2) (y .1) (omega arith) (len .1) (omega arith) in
+    let ih = among-rank r (q + 1) N (k + 1) (next b (take c es)) qs ks (drop c es) (x .2) (y .1) (omega arith) (len .1)
+    (omega arith) in
     rw (ne-eqb (getD qs r 0) q (λ d. omega (arith, g .0)), positionsAmong, lowered-drop b c (gaps (k + 1) ks) es t)
     (ih ∙ ap₂ less (next-past b c (f - (k + 1)) es ∙ ap (λ (i : ℕ). next b (take i es)) e)
     (slice-past c (f - (k + 1)) (f′ - (k + 1)) es (len .0) ∙ ap₂ (λ (i j : ℕ). slice i j es) e e′))
@@ -144,7 +166,8 @@ module _ (s : List ℕ) (a : termRefusal s ≡ Accepted) where
   lists-paired = record {
     counts-open = counts-opened;
     positions-open = positions-opened;
-    numbered = sym (open-n (positionsOf s) gp positions-opened) ∙ passed .positions-n ∙ open-U (countsOf s) gc counts-opened;
+    numbered =
+        sym (open-n (positionsOf s) gp positions-opened) ∙ passed .positions-n ∙ open-U (countsOf s) gc counts-opened;
   }
 
   lengths : length ps ≡ length cs
@@ -154,7 +177,8 @@ module _ (s : List ℕ) (a : termRefusal s ≡ Accepted) where
   past-counts r h =
       omega (
         arith,
-        paired-le (countsOf s) gc (positionsOf s) gp lists-paired r (omega (arith, lengths, open-length (countsOf s) gc counts-opened)),
+        paired-le (countsOf s) gc (positionsOf s) gp lists-paired r
+            (omega (arith, lengths, open-length (countsOf s) gc counts-opened)),
         open-length (positionsOf s) gp positions-opened,
       )
 
@@ -164,7 +188,8 @@ module _ (s : List ℕ) (a : termRefusal s ≡ Accepted) where
   positions-on r h =
       let U : ℕ = listU (positionsOf s) in
       let rises = positions-listed s a .rises in
-      let g = among-rank r 0 (listU (pagesOf s)) 0 0 ps cs es (pages-listed s a .rises) (counts-listed s a .ordered) lengths (total-places s a) h in
+      let g = among-rank r 0 (listU (pagesOf s)) 0 0 ps cs es (pages-listed s a .rises)
+      (counts-listed s a .ordered) lengths (total-places s a) h in
       let x = first-past U es rises (past cs r) (past-counts r (omega arith)) in
       let y = first-past U es rises (past cs (r + 1)) (past-counts (r + 1) (omega arith)) in
       rw (x, y, add-one) (unfold past in simp sub-zero at g)
@@ -175,9 +200,11 @@ module _ (s : List ℕ) (a : termRefusal s ≡ Accepted) where
   page-span r h =
       let rises = positions-listed s a .rises in
       let to = past-counts (r + 1) (omega arith) in
+      let more = past-lt (listU (countsOf s)) cs (counts-listed s a .rises) r (r + 1) (omega arith)
+      (omega (arith, lengths)) in
       record {
         positions-are = positions-on r h;
-        some = past-lt (listU (positionsOf s)) es rises (past cs r) (past cs (r + 1)) (past-lt (listU (countsOf s)) cs (counts-listed s a .rises) r (r + 1) (omega arith) (omega (arith, lengths))) to;
+        some = past-lt (listU (positionsOf s)) es rises (past cs r) (past cs (r + 1)) more to;
         within = past-le (listU (positionsOf s)) es rises (past cs (r + 1)) to;
       }
 
@@ -186,4 +213,5 @@ module _ (s : List ℕ) (a : termRefusal s ≡ Accepted) where
   unfolding spanOf
   span-order r q l h =
       past-mono (listU (positionsOf s)) es (positions-listed s a .rises) (past cs (r + 1)) (past cs q)
-      (past-mono (listU (countsOf s)) cs (counts-listed s a .rises) (r + 1) q (omega arith) (omega (arith, lengths))) (past-counts q (omega arith))
+      (past-mono (listU (countsOf s)) cs (counts-listed s a .rises) (r + 1) q (omega arith) (omega (arith, lengths)))
+      (past-counts q (omega arith))

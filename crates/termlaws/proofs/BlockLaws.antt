@@ -15,13 +15,15 @@ use Rattle.rules.specs.Term.{Word, total, sums, next, places, termBlock}
 use Rattle.rules.specs.Parts.{after, inside}
 use Rattle.rules.specs.ReadTerm.{listsOf, pagesOf, countsOf, positionsOf, gaps, readWord, termRefusal}
 use Rattle.laws.specs.Blocks.{Whole}
-use Rattle.laws.proofs.PartLaws.{sized-whole, length-sized, drop-sized, getD-sized, after-append, part-first, part-append, after-last, part-last, inside-append}
+use Rattle.laws.proofs.PartLaws.{sized-whole, length-sized, drop-sized, getD-sized, after-append}
+use Rattle.laws.proofs.PartLaws.{part-first, part-append, after-last, part-last, inside-append}
 use Rattle.listlaws.proofs.ValidLaws.{valid-U, valid-n, valid-small, valid-read, valid-framed}
 use Rattle.termlaws.specs.Words.{Writable, Passed}
 use Rattle.listlaws.proofs.Theorems.{block-accepted}
 use Rattle.termlaws.proofs.SumLaws.{length-sums, gaps-sums}
 use Rattle.termlaws.proofs.PlaceLaws.{lowered-placed}
-use Rattle.termlaws.proofs.WordLaws.{valid-agreeing, pages-valid, counts-valid, positions-valid, length-places, next-counts}
+use Rattle.termlaws.proofs.WordLaws.{valid-agreeing, pages-valid, counts-valid}
+use Rattle.termlaws.proofs.WordLaws.{positions-valid, length-places, next-counts}
 use Rattle.termlaws.proofs.PassedLaws.{passed-accepted}
 
 -- ---- the block of a valid list, as a part of a term
@@ -115,7 +117,8 @@ module _ (N : ℕ) (t : Word) (w : Writable N t) where
 
   pub term-positions : positionsOf (termBlock N t) ≡ block (next 0 (places t)) (places t)
   unfolding positionsOf
-  term-positions = rw term-lists (part-append P (C ++ Q) (p .whole) 1 ∙ part-append C Q (c .whole) 0 ∙ part-last Q (q .whole))
+  term-positions =
+      rw term-lists (part-append P (C ++ Q) (p .whole) 1 ∙ part-append C Q (c .whole) 0 ∙ part-last Q (q .whole))
 
   lists-rest : after 1 (P ++ (C ++ Q)) ≡ C ++ Q
   unfolding after

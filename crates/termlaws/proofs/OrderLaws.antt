@@ -32,7 +32,8 @@ unfolding inOrder
 order-cons lo x xs l e = rw (le-leb lo x l) e
 
 pub order-append : (lo : ℕ) (xs ys : List ℕ) → inOrder lo (xs ++ ys) ≡ inOrder lo xs && inOrder (next lo xs) ys
-order-append lo xs ys = rw (order-climbs, order-climbs lo xs, next-least, order-climbs (least lo xs) ys) (climbs-append lo xs ys)
+order-append lo xs ys =
+    rw (order-climbs, order-climbs lo xs, next-least, order-climbs (least lo xs) ys) (climbs-append lo xs ys)
 
 pub next-append : (lo : ℕ) (xs ys : List ℕ) → next lo (xs ++ ys) ≡ next (next lo xs) ys
 next-append lo xs ys = rw (next-least, next-least lo xs, next-least (least lo xs) ys) (least-append lo xs ys)

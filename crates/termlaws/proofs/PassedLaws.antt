@@ -42,7 +42,8 @@ module _ (s : List ℕ) where
         eq-eqb (listN (positionsOf s)) (listU (countsOf s)) (p .positions-n),
         eq-eqb (listU (positionsOf s)) (next 0 (decode (positionsOf s))) (p .positions-U),
       )
-      (andThen-next Accepted (andThen Accepted (andThen Accepted Accepted)) refl ∙ andThen-next Accepted (andThen Accepted Accepted) refl ∙ andThen-next Accepted Accepted refl)
+      (andThen-next Accepted (andThen Accepted (andThen Accepted Accepted)) refl
+      ∙ andThen-next Accepted (andThen Accepted Accepted) refl ∙ andThen-next Accepted Accepted refl)
 
   pub accepted-passed : termRefusal s ≡ Accepted → Passed s
   unfolding termRefusal disagree

@@ -65,7 +65,8 @@ module _ (b : ℕ) where
 -- ---- all pages
 
 -- the first page's positions, and what is left
-pub page-length : (c : ℕ) (cs es : List ℕ) → total (c ∷ cs) ≡ length es → (length (take c es) ≡ c) × (total cs ≡ length (drop c es))
+pub page-length : (c : ℕ) (cs es : List ℕ) → total (c ∷ cs) ≡ length es
+    → (length (take c es) ≡ c) × (total cs ≡ length (drop c es))
 unfolding total
 page-length c cs es e = (length-take-le c es (omega arith), rw (length-drop c es) (omega arith))
 
@@ -78,7 +79,8 @@ placed-order b (c ∷ cs) ps o =
     let h : inOrder b q ≡ true = rw (add-zero b) at (order-raised b 0 (take c ps)) ∙ p .0 in
     rw (order-append b q (placed (next b q) cs (drop c ps)), h) (placed-order (next b q) cs (drop c ps) (p .1))
 
-pub placed-rising : (cs ps : List ℕ) → inOrderByPage cs ps ≡ true → rising 0 (next 0 (placed 0 cs ps)) (placed 0 cs ps) ≡ true
+pub placed-rising : (cs ps : List ℕ) → inOrderByPage cs ps ≡ true
+    → rising 0 (next 0 (placed 0 cs ps)) (placed 0 cs ps) ≡ true
 placed-rising cs ps o = order-rising 0 (next 0 (placed 0 cs ps)) (placed 0 cs ps) (placed-order 0 cs ps o) (omega arith)
 
 pub length-placed : (b : ℕ) (cs ps : List ℕ) → total cs ≡ length ps → length (placed b cs ps) ≡ length ps
@@ -87,7 +89,13 @@ length-placed b [] ps e = e
 length-placed b (c ∷ cs) ps e =
     let q : List ℕ = raised b (take c ps) in
     let p = page-length c cs ps e in
-    rw (length-append q (placed (next b q) cs (drop c ps)), length-placed (next b q) cs (drop c ps) (p .1), ← p .1, length-raised b (take c ps), p .0) e
+    rw (
+      length-append q (placed (next b q) cs (drop c ps)),
+      length-placed (next b q) cs (drop c ps) (p .1),
+      ← p .1,
+      length-raised b (take c ps),
+      p .0,
+    ) e
 
 pub lowered-placed : (b : ℕ) (cs ps : List ℕ) → total cs ≡ length ps → lowered b cs (placed b cs ps) ≡ ps
 unfolding placed lowered total
@@ -97,7 +105,12 @@ lowered-placed b (c ∷ cs) ps e =
     let r : List ℕ = placed (next b q) cs (drop c ps) in
     let p = page-length c cs ps e in
     let l : length q ≡ c = length-raised b (take c ps) ∙ p .0 in
-    rw (take-at q r c l, drop-at q r c l, less-raised b (take c ps), lowered-placed (next b q) cs (drop c ps) (p .1)) (take-append-drop c ps)
+    rw (
+      take-at q r c l,
+      drop-at q r c l,
+      less-raised b (take c ps),
+      lowered-placed (next b q) cs (drop c ps) (p .1),
+    ) (take-append-drop c ps)
 
 pub length-lowered : (b : ℕ) (cs es : List ℕ) → total cs ≡ length es → length (lowered b cs es) ≡ length es
 unfolding lowered total
@@ -106,10 +119,17 @@ length-lowered b (c ∷ cs) es e =
     let q : List ℕ = less b (take c es) in
     let p = page-length c cs es e in
     let r : List ℕ = lowered (next b (take c es)) cs (drop c es) in
-    rw (length-append q r, length-lowered (next b (take c es)) cs (drop c es) (p .1), ← p .1, length-less b (take c es), p .0) e
+    rw (
+      length-append q r,
+      length-lowered (next b (take c es)) cs (drop c es) (p .1),
+      ← p .1,
+      length-less b (take c es),
+      p .0,
+    ) e
 
 -- the first page's elements are in order, and the others behind them
-pub page-order : (b c : ℕ) (es : List ℕ) → inOrder b es ≡ true → (inOrder b (take c es) ≡ true) × (inOrder (next b (take c es)) (drop c es) ≡ true)
+pub page-order : (b c : ℕ) (es : List ℕ) → inOrder b es ≡ true
+    → (inOrder b (take c es) ≡ true) × (inOrder (next b (take c es)) (drop c es) ≡ true)
 page-order b c es o =
     and-parts (inOrder b (take c es)) (inOrder (next b (take c es)) (drop c es))
     (sym (order-append b (take c es) (drop c es)) ∙ rw (take-append-drop c es) o)
@@ -118,13 +138,16 @@ module _ (b c : ℕ) (cs es : List ℕ) (e : total (c ∷ cs) ≡ length es) whe
   -- the first page of what is lowered, and the others
   pub lowered-take : take c (lowered b (c ∷ cs) es) ≡ less b (take c es)
   unfolding lowered
-  lowered-take = take-at (less b (take c es)) (lowered (next b (take c es)) cs (drop c es)) c (length-less b (take c es) ∙ page-length c cs es e .0)
+  lowered-take = take-at (less b (take c es)) (lowered (next b (take c es)) cs (drop c es)) c
+      (length-less b (take c es) ∙ page-length c cs es e .0)
 
   pub lowered-drop : drop c (lowered b (c ∷ cs) es) ≡ lowered (next b (take c es)) cs (drop c es)
   unfolding lowered
-  lowered-drop = drop-at (less b (take c es)) (lowered (next b (take c es)) cs (drop c es)) c (length-less b (take c es) ∙ page-length c cs es e .0)
+  lowered-drop = drop-at (less b (take c es)) (lowered (next b (take c es)) cs (drop c es)) c
+      (length-less b (take c es) ∙ page-length c cs es e .0)
 
-pub placed-lowered : (b : ℕ) (cs es : List ℕ) → total cs ≡ length es → inOrder b es ≡ true → placed b cs (lowered b cs es) ≡ es
+pub placed-lowered : (b : ℕ) (cs es : List ℕ) → total cs ≡ length es → inOrder b es ≡ true
+    → placed b cs (lowered b cs es) ≡ es
 unfolding placed total
 placed-lowered b [] es e o = sym (drop-of-length-le es {i = 0} (omega arith))
 placed-lowered b (c ∷ cs) es e o =
@@ -137,7 +160,8 @@ placed-lowered b (c ∷ cs) es e o =
       placed-lowered (next b (take c es)) cs (drop c es) (p .1) (q .1),
     ) (take-append-drop c es)
 
-pub lowered-order : (b : ℕ) (cs es : List ℕ) → total cs ≡ length es → inOrder b es ≡ true → inOrderByPage cs (lowered b cs es) ≡ true
+pub lowered-order : (b : ℕ) (cs es : List ℕ) → total cs ≡ length es → inOrder b es ≡ true
+    → inOrderByPage cs (lowered b cs es) ≡ true
 unfolding inOrderByPage
 lowered-order b [] es e o = refl
 lowered-order b (c ∷ cs) es e o =

@@ -55,7 +55,8 @@ listed s e =
 -- part k of a term is an accepted list
 part-listed : (k : ℕ) (l : List ℕ) → inside listHeader listRefusal (after k l) ≡ Accepted → Listed (part k l)
 unfolding part
-part-listed k l e = listed (take (stated (after k l)) (after k l)) (inside-parts listHeader listRefusal (after k l) e .passes)
+part-listed k l e =
+    listed (take (stated (after k l)) (after k l)) (inside-parts listHeader listRefusal (after k l) e .passes)
 
 module _ (s : List ℕ) (e : termRefusal s ≡ Accepted) where
   passed : Passed s
@@ -79,9 +80,11 @@ module _ (s : List ℕ) (e : termRefusal s ≡ Accepted) where
   unfolding positionsOf
   positions-listed = part-listed 2 (listsOf s) (passed .positions-pass)
 
-  list-lies : (k : ℕ) → inside listHeader listRefusal (after k (listsOf s)) ≡ Accepted → Lies listHeader (listAt k s) s (part k (listsOf s))
+  list-lies : (k : ℕ) → inside listHeader listRefusal (after k (listsOf s)) ≡ Accepted
+      → Lies listHeader (listAt k s) s (part k (listsOf s))
   unfolding listsOf
-  list-lies k i = inside-lies listHeader listRefusal 5 s k (lit< tt) (inside-parts listHeader listRefusal (after k (drop 5 s)) i)
+  list-lies k i =
+      inside-lies listHeader listRefusal 5 s k (lit< tt) (inside-parts listHeader listRefusal (after k (drop 5 s)) i)
 
   pub lists-pass : ListsPass s
   unfolding pagesOf countsOf positionsOf after
@@ -95,7 +98,8 @@ module _ (s : List ℕ) (e : termRefusal s ≡ Accepted) where
   }
 
   total-counts : total cs ≡ listU (countsOf s)
-  total-counts = sym (zero-add (total cs)) ∙ total-gaps 0 (decode (countsOf s)) (counts-listed .ordered) ∙ sym (passed .counts-U)
+  total-counts =
+      sym (zero-add (total cs)) ∙ total-gaps 0 (decode (countsOf s)) (counts-listed .ordered) ∙ sym (passed .counts-U)
 
   pub total-places : total cs ≡ length es
   total-places = total-counts ∙ sym (passed .positions-n) ∙ sym (positions-listed .count)
@@ -125,16 +129,20 @@ module _ (s : List ℕ) (e : termRefusal s ≡ Accepted) where
   unfolding pagesOf countsOf positionsOf after
   lists-are =
       let l : List ℕ = listsOf s in
-      let c : part 2 l ++ [] ≡ after 2 l = ap (λ (x : List ℕ). part 2 l ++ x) (sym (passed .no-more)) ∙ part-after 2 l in
-      sym (part-after 0 l) ∙ ap (λ (x : List ℕ). part 0 l ++ x) (sym (part-after 1 l) ∙ ap (λ (x : List ℕ). part 1 l ++ x) (sym c ∙ append-nil (part 2 l)))
+      let c : part 2 l ++ [] ≡ after 2 l =
+      ap (λ (x : List ℕ). part 2 l ++ x) (sym (passed .no-more)) ∙ part-after 2 l in
+      sym (part-after 0 l) ∙ ap (λ (x : List ℕ). part 0 l ++ x) (sym (part-after 1 l)
+      ∙ ap (λ (x : List ℕ). part 1 l ++ x) (sym c ∙ append-nil (part 2 l)))
 
   body-is : drop 4 s ≡ version ∷ listsOf s
   unfolding listsOf
-  body-is = drop-cons s 4 0 (omega (arith, passed .head .header)) ∙ ap (λ (x : ℕ). x ∷ drop 5 s) (passed .head .version-is)
+  body-is =
+      drop-cons s 4 0 (omega (arith, passed .head .header)) ∙ ap (λ (x : ℕ). x ∷ drop 5 s) (passed .head .version-is)
 
   -- the three lists of the word that is read
   counts-again : block (total cs) (sums 0 cs) ≡ countsOf s
-  counts-again = ap₂ block total-counts (sums-gaps 0 (decode (countsOf s)) (counts-listed .ordered)) ∙ sym (counts-listed .is-block)
+  counts-again = ap₂ block total-counts (sums-gaps 0 (decode (countsOf s)) (counts-listed .ordered))
+      ∙ sym (counts-listed .is-block)
 
   positions-again : block (next 0 (places (readWord s))) (places (readWord s)) ≡ positionsOf s
   positions-again = rw (places-read, ← passed .positions-U) (sym (positions-listed .is-block))
@@ -143,4 +151,5 @@ module _ (s : List ℕ) (e : termRefusal s ≡ Accepted) where
   unfolding termBlock readWord
   read-block b =
       whole-sized s b (record { header = omega (arith, passed .head .header); states = passed .head .states })
-      ∙ ap sized (body-is ∙ ap (λ (l : List ℕ). version ∷ l) (lists-are ∙ ap₂ (λ (p q : List ℕ). p ++ q) (pages-listed .is-block) (ap₂ (λ (p q : List ℕ). p ++ q) (sym counts-again) (sym positions-again))))
+      ∙ ap sized (body-is ∙ ap (λ (l : List ℕ). version ∷ l) (lists-are ∙ ap₂ (λ (p q : List ℕ). p ++ q)
+      (pages-listed .is-block) (ap₂ (λ (p q : List ℕ). p ++ q) (sym counts-again) (sym positions-again))))

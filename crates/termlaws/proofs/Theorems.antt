@@ -28,11 +28,16 @@ pub block-sizes : (N : ℕ) (t : Word) → Writable N t → Sizes (termBlock N t
 block-sizes N t w = record { header = term-header N t w; short = term-short N t w; states = term-whole N t w .states }
 
 -- A block is that of one writable word alone: its bytes tell N and the word.
-pub block-tells : (s : List ℕ) (N : ℕ) (t : Word) → Writable N t → s ≡ termBlock N t → (N ≡ listU (pagesOf s)) × (t ≡ readWord s)
-block-tells s N t w e = (sym (ap (λ (b : List ℕ). listU (pagesOf b)) e ∙ term-N N t w), sym (ap readWord e ∙ term-read N t w))
+pub block-tells : (s : List ℕ) (N : ℕ) (t : Word) → Writable N t → s ≡ termBlock N t
+    → (N ≡ listU (pagesOf s)) × (t ≡ readWord s)
+block-tells s N t w e = (
+  sym (ap (λ (b : List ℕ). listU (pagesOf b)) e ∙ term-N N t w),
+  sym (ap readWord e ∙ term-read N t w),
+)
 
 -- Two writable words with one block are one.
-pub block-unique : (N M : ℕ) (t u : Word) → Writable N t → Writable M u → termBlock N t ≡ termBlock M u → (N ≡ M) × (t ≡ u)
+pub block-unique : (N M : ℕ) (t u : Word) → Writable N t → Writable M u → termBlock N t ≡ termBlock M u
+    → (N ≡ M) × (t ≡ u)
 block-unique N M t u w v e =
     let a = block-tells (termBlock N t) N t w refl in
     let b = block-tells (termBlock N t) M u v e in
@@ -47,7 +52,8 @@ pub accepted-block : (s : List ℕ) → Bytes s → termRefusal s ≡ Accepted �
 accepted-block s b a = read-block s a b
 
 -- Accepted are the blocks of writable words, and nothing else.
-pub accepted-iff : (s : List ℕ) → Bytes s → (termRefusal s ≡ Accepted) ↔ ((N : ℕ) × (t : Word) × Writable N t × (s ≡ termBlock N t))
+pub accepted-iff : (s : List ℕ) → Bytes s
+    → (termRefusal s ≡ Accepted) ↔ ((N : ℕ) × (t : Word) × Writable N t × (s ≡ termBlock N t))
 accepted-iff s b = (
   λ a. (listU (pagesOf s), readWord s, accepted-writable s a, accepted-block s b a),
   λ p. ap termRefusal (p .3) ∙ block-accepted (p .0) (p .1) (p .2),
@@ -60,9 +66,11 @@ accepted-lists s a = lists-pass s a
 -- ---- the writer
 
 -- What the writer asks is enough: the room then begins with the block.
-pub writes : (N : ℕ) (t : Word) (room : List ℕ) → Writable N t → length (termBlock N t) ≤ length room → writeTerm N t room ≡ success (termBlock N t) room
+pub writes : (N : ℕ) (t : Word) (room : List ℕ) → Writable N t → length (termBlock N t) ≤ length room
+    → writeTerm N t room ≡ success (termBlock N t) room
 unfolding writeTerm
-writes N t room w h = rw (le-ltb limit N (w .within), w .valid, le-ltb limit (next 0 (places t)) (w .reach)) (stored-fits (termBlock N t) room h)
+writes N t room w h = rw (le-ltb limit N (w .within), w .valid, le-ltb limit (next 0 (places t)) (w .reach))
+    (stored-fits (termBlock N t) room h)
 
 -- A success has written the block of a writable word, which is accepted and read back.
 pub written : (N : ℕ) (t : Word) (room : List ℕ) → writeTerm N t room .refusal ≡ Accepted → Written N t room
@@ -81,7 +89,8 @@ written N t room e =
     } in
     let f = fits-stored (termBlock N t) room (c .1) in
     let m : writeTerm N t room ≡ success (termBlock N t) room = writes N t room w f in
-    let front-is : take (writeTerm N t room .size) (writeTerm N t room .room) ≡ termBlock N t = rw m (take-laid (termBlock N t) room) in
+    let front-is : take (writeTerm N t room .size) (writeTerm N t room .room) ≡ termBlock N t =
+    rw m (take-laid (termBlock N t) room) in
     record {
       writable = w;
       fits = f;

@@ -36,7 +36,12 @@ valid-agreeing N t v =
 pub agreeing-valid : (N : ℕ) (t : Word) → Agreeing N t → validWord N t ≡ true
 unfolding validWord
 agreeing-valid N t a =
-    rw (eq-eqb (length (t .pages)) (length (t .counts)) (a .lengths), a .rises, a .counted, eq-eqb (total (t .counts)) (length (t .positions)) (a .summed)) (a .ordered)
+    rw (
+      eq-eqb (length (t .pages)) (length (t .counts)) (a .lengths),
+      a .rises,
+      a .counted,
+      eq-eqb (total (t .counts)) (length (t .positions)) (a .summed),
+    ) (a .ordered)
 
 module _ (N : ℕ) (t : Word) (w : Writable N t) where
   agreeing : Agreeing N t

@@ -1,4 +1,4 @@
--- The places of the words' pages are places of lists that may be opened side by side.
+-- The places of the words' pages are places of lists that may be opened side by side; and what stands in the slots then.
 use mathlib.Core.Bool.{true}
 use mathlib.Core.Path.{_≡_, refl, sym, ap, ap₂, _∙_}
 use mathlib.Core.List.{List, [], _∷_}
@@ -10,11 +10,16 @@ use Rattle.rules.specs.declared.Refusal.the-variants.{Accepted}
 use Rattle.rules.specs.ReadList.{listU, decode}
 use Rattle.rules.specs.ReadTerm.{pagesOf, readWord}
 use Rattle.rules.specs.Index.{indexN, indexT, termPart, wordOf, indexRefusal}
-use Rattle.rules.specs.Questions.{pagesIn, listsIn}
+use Rattle.rules.specs.Common.{Tally, leadOf}
+use Rattle.rules.specs.Questions.{commonPages, pagesIn, listsIn}
 use Rattle.termlaws.proofs.Theorems.{accepted-lists}
 use Rattle.cardlaws.proofs.Theorems.{accepted-term}
-use Rattle.query.specs.Lists.{span}
-use Rattle.openlists.specs.Places.{placePart, placePages, placedIn, Places, Alike, Opened}
+use Rattle.commonlaws.proofs.PickLaws.{lead-leads}
+use Rattle.commonlaws.proofs.CommonLaws.{common-listed}
+use Rattle.query.specs.Lists.{span, pagesAt, pagesIn as allPages}
+use Rattle.query.specs.Listings.{wholeFrom}
+use Rattle.openlists.specs.Places.{placePart, placePages, placedIn, sourceOf, slotOf, Places, Alike, Opened}
+use Rattle.openlists.proofs.SourceLaws.{span-at, slot-lt, source-slot, source-order}
 use Rattle.openlists.proofs.Theorems.{placed-rise, opened-common}
 use Rattle.questions.specs.Formed.{wordsGood}
 use Rattle.questions.proofs.GoodLaws.{words-parts}
@@ -57,7 +62,7 @@ module _ (s ts ps : List ℕ) (a : indexRefusal s ≡ Accepted) (g : wordsGood (
   pub pages-alike : Alike s ps (length ts)
   pages-alike i h = part-bound i h ∙ sym (part-bound 0 (words-parts (indexT s) ts g .0))
 
-  placed-lists : placedIn s ps (length ts) ≡ listsIn s ts
+  pub placed-lists : placedIn s ps (length ts) ≡ listsIn s ts
   unfolding placedIn placePages pagesIn wordOf readWord
   placed-lists =
       listed-span s ts (placePages s ps) 0 (λ j h.
@@ -72,3 +77,36 @@ module _ (s ts ps : List ℕ) (a : indexRefusal s ≡ Accepted) (g : wordsGood (
     rise = rw (part-bound 0 (words-parts (indexT s) ts g .0), placed-lists) at (placed-rise s ps (length ts) pages-places pages-alike);
     rule = rw (part-bound 0 (words-parts (indexT s) ts g .0), placed-lists) at (opened-common s ps (length ts) pages-places pages-alike r o);
   }
+
+-- ---- the pages opened
+
+length-lists : (s ts : List ℕ) → length (listsIn s ts) ≡ length ts
+unfolding listsIn
+length-lists s [] = refl
+length-lists s (t ∷ ts) = ap suc (length-lists s ts)
+
+module _ (s ts r : List ℕ) (o : OpenedPages s ts r) where
+  pub opened-some : 0 < length (listsIn s ts)
+  opened-some = rw (length-lists s ts) (o .lists .some)
+
+  -- plain reading lists the same pages
+  pub opened-listed : wholeFrom s r (length ts) 0 .listed ≡ commonPages (listsIn s ts)
+  opened-listed = ap (λ (t : Tally). t .listed) (o .rule) ∙ common-listed (indexN s) (listsIn s ts) opened-some (o .rise)
+
+  module _ (lead : ℕ) (e : lead ≡ leadOf (listsIn s ts)) where
+    pub lead-within : lead < length ts
+    lead-within = rw (e, ← length-lists s ts) (lead-leads (listsIn s ts) opened-some .within)
+
+    -- the pages of word i stand in its slot
+    pub slot-pages : (i : ℕ) → i < length ts → pagesAt s r (slotOf lead i) ≡ pagesIn s (getD ts i 0)
+    unfolding allPages
+    slot-pages i h =
+        let f : ℕ → List ℕ = λ j. pagesIn s (getD ts j 0) in
+        let lists : span f 0 (length ts) ≡ listsIn s ts = listed-span s ts f 0 (λ j l. let z : 0 + j ≡ j = omega arith in ap f z) in
+        let t = slotOf lead i in
+        let l = slot-lt lead i (length ts) lead-within h in
+        let order = rw lists at (source-order f (length ts) lead lead-within (e ∙ ap leadOf (sym lists))) in
+        sym (span-at (pagesAt s r) (length ts) t [] l)
+        ∙ ap (λ (x : List (List ℕ)). getD x t []) (o .pages ∙ sym order)
+        ∙ span-at (λ (j : ℕ). f (sourceOf lead j)) (length ts) t [] l
+        ∙ ap f (source-slot lead i)

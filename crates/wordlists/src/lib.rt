@@ -6,6 +6,8 @@ ghost use Prim.Native.Nat.{_<_};
 ghost use lib.ListN.{length};
 ghost use Rattle.rules.specs.declared.Refusal.the-variants.{Accepted};
 ghost use Rattle.rules.specs.Index.{indexT, indexRefusal};
+ghost use Rattle.rules.specs.Common.{leadOf};
+ghost use Rattle.rules.specs.Questions.{listsIn};
 ghost use Rattle.questions.specs.Formed.{wordsGood};
 ghost use Rattle.wordlists.specs.Lying.{listOf, Lying, AllLying};
 ghost use Rattle.wordlists.specs.Opened.{OpenedPages};
@@ -40,12 +42,13 @@ pub fn place_lists(card: &[u8], terms: &[u32], k: usize, places: &mut [u32])
     }
 }
 
-// Opens the pages of the words side by side, the shortest list first and the others in their order.
-pub fn open_pages(card: &[u8], terms: &[u32], shapes: &mut [u32])
+// Opens the pages of the words side by side, the shortest list first and the others in their order; returns the number
+// of the word whose list leads.
+pub fn open_pages(card: &[u8], terms: &[u32], shapes: &mut [u32]) -> usize
     requires { ⌜ (indexRefusal (now card) ≡ Accepted) × (wordsGood (indexT (now card)) (now terms) ≡ true) × (length (now shapes) ≡ 64) ⌝ }
-    ensures { λ _. ⌜ OpenedPages (now (card .entry)) (now (terms .entry)) (now (shapes .exit)) ⌝ }
+    ensures { λ r. ⌜ (r ≡ leadOf (listsIn (now (card .entry)) (now (terms .entry)))) × OpenedPages (now (card .entry)) (now (terms .entry)) (now (shapes .exit)) ⌝ }
 {
     let mut places = [0u32; 16];
     place_lists(card, terms, 0, &mut places);
-    openlists::open_lists(card, &places, terms.len(), shapes);
+    openlists::open_lists(card, &places, terms.len(), shapes)
 }

@@ -1,4 +1,5 @@
--- Laws of the two runs of a block that is being written: nothing laid, one element more, and bytes elsewhere that change.
+-- Laws of the two runs of a block that is being written:
+-- nothing laid, one element more, and bytes elsewhere that change.
 use mathlib.Core.Path.{_≡_, refl, sym, ap, _∙_, subst}
 use mathlib.Core.Logic.{inl}
 use mathlib.Core.List.{List}
@@ -40,18 +41,22 @@ module _ (s : List ℕ) (at w i v : ℕ) (a : Lows) (l : Lowered s at w i v a) w
 
   -- what is in hand has as many bits as are counted
   pub lowered-lt : a .acc < 2 ^ a .have
-  lowered-lt = rw (l .held .rest) (shr-lt (a .have) (64 * a .words) (rw (add-comm (a .have) (64 * a .words), l .place) (l .fits)))
+  lowered-lt = rw (l .held .rest)
+      (shr-lt (a .have) (64 * a .words) (rw (add-comm (a .have) (64 * a .words), l .place) (l .fits)))
 
-  pub lowered-more : (x : ℕ) (r : Lows) (t : List ℕ) → Lower w at a x r s t → Lowered t at w (i + 1) (v + x % 2 ^ w * 2 ^ (i * w)) r
+  pub lowered-more : (x : ℕ) (r : Lows) (t : List ℕ) → Lower w at a x r s t
+      → Lowered t at w (i + 1) (v + x % 2 ^ w * 2 ^ (i * w)) r
   lowered-more x r t p = record {
     held =
         let h = rw (l .place) at (held-add s at v (a .words) (a .acc) (l .held) (x % 2 ^ w) (a .have)) in
         subst (λ k. Held t at (v + x % 2 ^ w * 2 ^ (i * w)) k (r .acc)) (sym (p .words))
-        (held-flushed s at (v + x % 2 ^ w * 2 ^ (i * w)) (a .words) (a .acc + x % 2 ^ w * 2 ^ a .have) h ((a .have + w) / 64) (r .acc) t (p .flushed));
+        (held-flushed s at (v + x % 2 ^ w * 2 ^ (i * w)) (a .words)
+        (a .acc + x % 2 ^ w * 2 ^ a .have) h ((a .have + w) / 64) (r .acc) t (p .flushed));
     place = rw more (omega (arith, p .words, p .have, l .place));
     short = omega (arith, p .have);
     fits =
-        let d : x % 2 ^ w * 2 ^ (i * w) + v < 2 ^ w * 2 ^ (i * w) = digits-lt {q = x % 2 ^ w} {m = 2 ^ w} {r = v} {c = 2 ^ (i * w)} (mod-lt x (pow-pos w)) (l .fits) in
+        let d : x % 2 ^ w * 2 ^ (i * w) + v < 2 ^ w * 2 ^ (i * w) =
+        digits-lt {q = x % 2 ^ w} {m = 2 ^ w} {r = v} {c = 2 ^ (i * w)} (mod-lt x (pow-pos w)) (l .fits) in
         rw (more, add-comm (i * w) w, add-comm v (x % 2 ^ w * 2 ^ (i * w))) (rw (← pow-add) at d);
   }
     where
@@ -90,7 +95,8 @@ raised-none s at = record {
 }
 
 module _ (s : List ℕ) (at h i v : ℕ) (b : Ups) (r : Raised s at h i v b) where
-  pub raised-alike : (t : List ℕ) → Alike t s at (at + 8 * b .words) → Alike t s 13 (9 + 4 * b .next) → Raised t at h i v b
+  pub raised-alike : (t : List ℕ) → Alike t s at (at + 8 * b .words) → Alike t s 13 (9 + 4 * b .next)
+      → Raised t at h i v b
   raised-alike t e g = record {
     held = held-alike s at v (b .words) (b .acc) (r .held) t e;
     place = r .place;
@@ -98,7 +104,8 @@ module _ (s : List ℕ) (at h i v : ℕ) (b : Ups) (r : Raised s at h i v b) whe
     top = r .top;
     counted = r .counted;
     next = r .next;
-    pointed = λ q l u. subst (λ n. After (onesTo v) (256 * q) n) (sym (beAt-same 4 t s (9 + 4 * q) (λ j m n. g j (omega arith) (omega arith)))) (r .pointed q l u);
+    pointed = λ q l u. subst (λ n. After (onesTo v) (256 * q) n)
+        (sym (beAt-same 4 t s (9 + 4 * q) (λ j m n. g j (omega arith) (omega arith)))) (r .pointed q l u);
   }
 
   -- what is in hand is one word
@@ -111,7 +118,8 @@ module _ (s : List ℕ) (at h i v : ℕ) (b : Ups) (r : Raised s at h i v b) whe
   pointed-last : (q : ℕ) → b .next ≤ q → After (onesTo v) (256 * q) (256 * q + i)
   pointed-last q l = record {
     counted = ap (λ n. 256 * q + n) (ones-all v (h + i) (256 * q + i) (r .top) (omega (arith, r .next)) ∙ r .counted);
-    zero-last = λ j e. ones-all v (h + i) (suc j) (r .top) (omega (arith, r .next)) ∙ sym (ones-all v (h + i) j (r .top) (omega (arith, r .next)));
+    zero-last = λ j e. ones-all v (h + i) (suc j) (r .top) (omega (arith, r .next))
+        ∙ sym (ones-all v (h + i) j (r .top) (omega (arith, r .next)));
   }
 
   -- the pointers up to high part z
@@ -123,16 +131,22 @@ module _ (s : List ℕ) (at h i v : ℕ) (b : Ups) (r : Raised s at h i v b) whe
             subst (λ n. After (onesTo v) (256 * q) n)
             (sym (stored-apart 4 9 (λ q. 256 * q + i) (b .next) (z / 256 + 1) s t st 4 (9 + 4 * q) (inl (omega arith))))
             (r .pointed q l y)
-        | no y ↦ subst (λ n. After (onesTo v) (256 * q) n) (sym (st .numbers q (omega arith) u)) (pointed-last q (omega arith))
+        | no y ↦ subst (λ n. After (onesTo v) (256 * q) n) (sym (st .numbers q (omega arith) u))
+            (pointed-last q (omega arith))
       ]
 
   pub raised-more : (z word : ℕ) (t : List ℕ) → h ≤ z → Held t at v ((z + i) / 64) word
       → ((q : ℕ) → 0 < q → q < z / 256 + 1 → After (onesTo v) (256 * q) (beAt 4 t (9 + 4 * q)))
-      → Raised t at z (i + 1) (v + 2 ^ (z + i)) (record { acc = word + 2 ^ ((z + i) % 64); words = (z + i) / 64; next = z / 256 + 1 })
+      → Raised t at z (i + 1) (v + 2 ^ (z + i)) (record {
+        acc = word + 2 ^ ((z + i) % 64);
+        words = (z + i) / 64;
+        next = z / 256 + 1;
+      })
   raised-more z word t hz a p = record {
     held =
         let g : 64 * ((z + i) / 64) + (z + i) % 64 ≡ z + i = omega arith in
-        rw (one-mul (2 ^ (z + i)), one-mul (2 ^ ((z + i) % 64))) at (rw g at (held-add t at v ((z + i) / 64) word a 1 ((z + i) % 64)));
+        rw (one-mul (2 ^ (z + i)), one-mul (2 ^ ((z + i) % 64))) at
+        (rw g at (held-add t at v ((z + i) / 64) word a 1 ((z + i) % 64)));
     place = omega arith;
     fits =
         let g : z + i + 1 ≤ 64 * ((z + i) / 64 + 1) = omega arith in
@@ -140,7 +154,8 @@ module _ (s : List ℕ) (at h i v : ℕ) (b : Ups) (r : Raised s at h i v b) whe
     top =
         let g : z + (i + 1) ≡ z + i + 1 = omega arith in
         rw g more;
-    counted = rw (add-comm v (2 ^ (z + i)), ← one-mul (2 ^ (z + i))) (ones-cat (z + i) 1 v below ∙ omega (arith, one-of, r .counted));
+    counted = rw (add-comm v (2 ^ (z + i)), ← one-mul (2 ^ (z + i)))
+        (ones-cat (z + i) 1 v below ∙ omega (arith, one-of, r .counted));
     next = refl;
     pointed = λ q l u. after-more v (z + i) (256 * q) (beAt 4 t (9 + 4 * q))
         (after-le (onesTo v) (ones-steps v) (256 * q) (beAt 4 t (9 + 4 * q)) (p q l u) (z + i)

@@ -6,5 +6,4 @@ pub mod PartLaws
 pub mod FinishLaws
 pub mod RiseLaws
 pub mod WriteLaws
-pub mod Unique
 pub mod Theorems

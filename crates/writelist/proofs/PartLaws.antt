@@ -1,4 +1,5 @@
--- Laws of a block of which some elements are laid: that each write lies within its part, and what one element more leaves.
+-- Laws of a block of which some elements are laid:
+-- that each write lies within its part, and what one element more leaves.
 use mathlib.Core.Path.{_≡_, refl, ap, _∙_}
 use mathlib.Core.Logic.{_⊎_, inl, inr}
 use mathlib.Core.List.{List, [], _∷_, _++_}
@@ -18,10 +19,13 @@ use Rattle.listlaws.specs.Sound.{least}
 use Rattle.listlaws.proofs.ValidLaws.{field-in}
 use Rattle.writelist.specs.declared.Lows.{Lows}
 use Rattle.writelist.specs.declared.Filling.{Filling}
-use Rattle.writelist.specs.Filling.{Stored, Flushed, Lower, Lowered, Raised, Fitting, Framed, high, Partly, Next, Ready}
-use Rattle.writelist.proofs.FillLaws.{lowered-none, lowered-alike, lowered-lt, lowered-more, raised-none, raised-more}
+use Rattle.writelist.specs.Filling.{Stored, Flushed, Lower, Lowered, Raised}
+use Rattle.writelist.specs.Filling.{Fitting, Framed, high, Partly, Next, Ready}
+use Rattle.writelist.proofs.FillLaws.{lowered-none, lowered-alike, lowered-lt}
+use Rattle.writelist.proofs.FillLaws.{lowered-more, raised-none, raised-more}
 use Rattle.writelist.proofs.PassLaws.{Passed, passed}
-use Rattle.writelist.proofs.SideLaws.{sides, header-fits, end-small, zeros-of, least-snoc, high-snoc, length-snoc, lower-snoc, upper-snoc}
+use Rattle.writelist.proofs.SideLaws.{sides, header-fits, end-small, zeros-of, least-snoc}
+use Rattle.writelist.proofs.SideLaws.{high-snoc, length-snoc, lower-snoc, upper-snoc}
 
 -- ---- no element
 
@@ -33,11 +37,13 @@ module _ (l d e : List ℕ) (at : ℕ) (q : e ≡ sets d at l) where
   byte-kept : (i : ℕ) → (i < at) ⊎ (at + length l ≤ i) → getD e i 0 ≡ getD d i 0
   byte-kept i h = rw q (sets-other l d at i h)
 
-number-is : (k v : ℕ) (d e : List ℕ) (at : ℕ) → e ≡ sets d at (be k v) → at + k ≤ length d → v < 256 ^ k → beAt k e at ≡ v
+number-is : (k v : ℕ) (d e : List ℕ) (at : ℕ) → e ≡ sets d at (be k v) → at + k ≤ length d → v < 256 ^ k
+    → beAt k e at ≡ v
 number-is k v d e at q h l = rw q (read-sets k v d at h ∙ mod-eq-of-lt l)
 
 module _ (g : Shape) (s : List ℕ) (f : Fitting g s) where
-  pub framed-none : (s1 s2 s3 s4 : List ℕ) → s1 ≡ sets s 0 (be 4 (g .end)) → s2 ≡ sets s1 4 (version ∷ []) → s3 ≡ sets s2 5 (be 4 (g .u)) → s4 ≡ sets s3 9 (be 4 (g .n)) → Framed g s s4
+  pub framed-none : (s1 s2 s3 s4 : List ℕ) → s1 ≡ sets s 0 (be 4 (g .end)) → s2 ≡ sets s1 4 (version ∷ [])
+      → s3 ≡ sets s2 5 (be 4 (g .u)) → s4 ≡ sets s3 9 (be 4 (g .n)) → Framed g s s4
   framed-none s1 s2 s3 s4 e1 e2 e3 e4 =
       let h = header-fits g s f in
       let small = end-small g s f in
@@ -72,8 +78,11 @@ module _ (g : Shape) (s : List ℕ) (f : Fitting g s) where
             ∙ byte-kept (be 4 (g .end)) s s1 0 e1 i (inr (omega arith));
       }
 
-pub partly-none : (g : Shape) (before s : List ℕ) → Framed g before s
-    → Partly g [] (record { count = 0; lows = record { acc = 0; have = 0; words = 0 }; ups = record { acc = 0; words = 0; next = 1 } }) before s
+pub partly-none : (g : Shape) (before s : List ℕ) → Framed g before s → Partly g [] (record {
+  count = 0;
+  lows = record { acc = 0; have = 0; words = 0 };
+  ups = record { acc = 0; words = 0; next = 1 };
+}) before s
 unfolding least lower upper high
 partly-none g before s f =
     let z : 0 / 2 ^ g .w ≡ 0 = zero-div (2 ^ g .w) in
@@ -103,7 +112,8 @@ pub record Step (g : Shape) (f : Filling) (x room : ℕ) : Type 0 where
   pub end : g .end ≤ room
   pub order : g .lower ≤ g .upper
 
-module _ (g : Shape) (xs : List ℕ) (f : Filling) (before s : List ℕ) (p : Partly g xs f before s) (x : ℕ) (m : Next g xs x) where
+module _ (g : Shape) (xs : List ℕ) (f : Filling) (before s : List ℕ)
+    (p : Partly g xs f before s) (x : ℕ) (m : Next g xs x) where
   abbrev z : ℕ
   z = x / 2 ^ g .w
 
@@ -144,13 +154,16 @@ module _ (g : Shape) (xs : List ℕ) (f : Filling) (before s : List ℕ) (p : Pa
     laid-on : Passed g xs f before s1 s3 z (f .lows .words + (f .lows .have + g .w) / 64) ((z + f .count) / 64) word
     laid-on =
         let t = step in
-        let n : f .ups .words + ((z + f .count) / 64 - f .ups .words) ≡ (z + f .count) / 64 = omega (arith, t .words-le) in
-        rw n at (passed g xs f before s p z high-le ((f .lows .have + g .w) / 64) ((z + f .count) / 64 - f .ups .words) (f .lows .acc + x % 2 ^ g .w * 2 ^ f .lows .have) (r .acc) word s1 s2 s3
+        let n : f .ups .words + ((z + f .count) / 64 - f .ups .words) ≡ (z + f .count) / 64 =
+        omega (arith, t .words-le) in
+        rw n at (passed g xs f before s p z high-le ((f .lows .have + g .w) / 64) ((z + f .count) / 64 - f .ups .words)
+        (f .lows .acc + x % 2 ^ g .w * 2 ^ f .lows .have) (r .acc) word s1 s2 s3
         (low .flushed) mid up (t .low-end) (t .pointer-end) (rw n (t .up-end)))
 
     lowered-put : Lowered s3 (g .lower) (g .w) (length xs + 1) lv r
     lowered-put =
-        lowered-alike s1 (g .lower) (g .w) (length xs + 1) lv r (lowered-more s (g .lower) (g .w) (length xs) (lower (g .w) 0 xs) (f .lows) (p .lows) x r s1 low) s3
+        lowered-alike s1 (g .lower) (g .w) (length xs + 1) lv r
+        (lowered-more s (g .lower) (g .w) (length xs) (lower (g .w) 0 xs) (f .lows) (p .lows) x r s1 low) s3
         (rw (low .words) (laid-on .lower-kept))
 
     raised-put : Raised s3 (g .upper) z (length xs + 1) (upper (g .w) 0 xs + 2 ^ (z + length xs))
@@ -160,8 +173,11 @@ module _ (g : Shape) (xs : List ℕ) (f : Filling) (before s : List ℕ) (p : Pa
         (raised-more s (g .upper) (high (g .w) xs) (length xs) (upper (g .w) 0 xs) (f .ups) (p .ups) z word s3 high-le
         (rw (p .count) at (laid-on .words)) (laid-on .pointers))
 
-    pub partly-more : Partly g (xs ++ (x ∷ []))
-        (record { count = f .count + 1; lows = r; ups = record { acc = word + 2 ^ ((z + f .count) % 64); words = (z + f .count) / 64; next = z / 256 + 1 } })
+    pub partly-more : Partly g (xs ++ (x ∷ [])) (record {
+      count = f .count + 1;
+      lows = r;
+      ups = record { acc = word + 2 ^ ((z + f .count) % 64); words = (z + f .count) / 64; next = z / 256 + 1 };
+    })
         before s3
     partly-more = record {
       framed = laid-on .framed;
@@ -169,7 +185,8 @@ module _ (g : Shape) (xs : List ℕ) (f : Filling) (before s : List ℕ) (p : Pa
       few = omega (arith, m .few, length-snoc (g .w) xs x);
       below = omega (arith, m .below, least-snoc (g .w) xs x);
       lows = rw (length-snoc (g .w) xs x, lower-snoc (g .w) 0 xs x, zero-add (length xs)) lowered-put;
-      ups = rw (length-snoc (g .w) xs x, upper-snoc (g .w) 0 xs x, high-snoc (g .w) xs x, zero-add (length xs)) raised-put;
+      ups = rw (length-snoc (g .w) xs x, upper-snoc (g .w) 0 xs x, high-snoc (g .w) xs x, zero-add (length xs))
+          raised-put;
     }
 
 pub ready-step : {g : Shape} {f : Filling} {x : ℕ} {room : List ℕ} → Ready g f x room → Step g f x (length room)

@@ -116,7 +116,8 @@ module _ (w : ℕ) (xs : List ℕ) (x : ℕ) where
   pub length-snoc : length (xs ++ (x ∷ [])) ≡ length xs + 1
   length-snoc = length-append xs (x ∷ [])
 
-pub lower-snoc : (w i : ℕ) (xs : List ℕ) (x : ℕ) → lower w i (xs ++ (x ∷ [])) ≡ lower w i xs + x % 2 ^ w * 2 ^ ((i + length xs) * w)
+pub lower-snoc : (w i : ℕ) (xs : List ℕ) (x : ℕ)
+    → lower w i (xs ++ (x ∷ [])) ≡ lower w i xs + x % 2 ^ w * 2 ^ ((i + length xs) * w)
 unfolding lower
 lower-snoc w i [] x =
     let e : i + length {A = ℕ} [] ≡ i = omega arith in
@@ -125,7 +126,8 @@ lower-snoc w i (y ∷ xs) x =
     let e : i + 1 + length xs ≡ i + suc (length xs) = omega arith in
     rw (lower-snoc w (i + 1) xs x, e) (omega arith)
 
-pub upper-snoc : (w i : ℕ) (xs : List ℕ) (x : ℕ) → upper w i (xs ++ (x ∷ [])) ≡ upper w i xs + 2 ^ (x / 2 ^ w + (i + length xs))
+pub upper-snoc : (w i : ℕ) (xs : List ℕ) (x : ℕ)
+    → upper w i (xs ++ (x ∷ [])) ≡ upper w i xs + 2 ^ (x / 2 ^ w + (i + length xs))
 unfolding upper
 upper-snoc w i [] x =
     let e : i + length {A = ℕ} [] ≡ i = omega arith in

@@ -31,7 +31,8 @@ module _ (k at : ℕ) (v : ℕ → ℕ) where
     stored-apart m p (inl h) = beAt-same m e d p (λ i l u. s .others i (inl (omega arith)))
     stored-apart m p (inr h) = beAt-same m e d p (λ i l u. s .others i (inr (omega arith)))
 
-    pub stored-more : a ≤ b → at + k * b + k ≤ length d → v b < 256 ^ k → (t : List ℕ) → t ≡ sets e (at + k * b) (be k (v b)) → Stored k at v a (b + 1) d t
+    pub stored-more : a ≤ b → at + k * b + k ≤ length d → v b < 256 ^ k → (t : List ℕ)
+        → t ≡ sets e (at + k * b) (be k (v b)) → Stored k at v a (b + 1) d t
     stored-more ab room small t q = rw q (record {
       long = length-sets e (at + k * b) (be k (v b)) ∙ s .long;
       others = λ i h. sets-other (be k (v b)) e (at + k * b) i (out i h) ∙ s .others i (wider i h);
@@ -50,7 +51,8 @@ module _ (k at : ℕ) (v : ℕ → ℕ) where
         below : k * a ≤ k * b
         below = mul-le-mul-left k ab
 
-        out : (i : ℕ) → (i < at + k * a) ⊎ (at + k * (b + 1) ≤ i) → (i < at + k * b) ⊎ (at + k * b + length (be k (v b)) ≤ i)
+        out : (i : ℕ) → (i < at + k * a) ⊎ (at + k * (b + 1) ≤ i)
+            → (i < at + k * b) ⊎ (at + k * b + length (be k (v b)) ≤ i)
         out i (inl h) = inl (omega (arith, below))
         out i (inr h) = inr (omega (arith, one, length-be k (v b)))
 
@@ -70,17 +72,20 @@ module _ (at k v : ℕ) (d : List ℕ) where
   flushed-none m r e g =
       let z : k ≡ k + m = omega arith in
       record {
-        stored = subst (λ n. Stored 8 at (λ j. v / 2 ^ (64 * (j - k)) % 2 ^ 64) k n d d) z (stored-none 8 at (λ j. v / 2 ^ (64 * (j - k)) % 2 ^ 64) k d);
+        stored = subst (λ n. Stored 8 at (λ j. v / 2 ^ (64 * (j - k)) % 2 ^ 64) k n d d) z
+            (stored-none 8 at (λ j. v / 2 ^ (64 * (j - k)) % 2 ^ 64) k d);
         rest = rw e (g ∙ sym (div-one v));
       }
 
-  pub flushed-one : (m r lo : ℕ) (e : List ℕ) → m ≡ 1 → at + 8 * k + 8 ≤ length d → e ≡ sets d (at + 8 * k) (be 8 lo) → lo ≡ v % 2 ^ 64 → r ≡ v / 2 ^ 64 → Flushed at k m v r d e
+  pub flushed-one : (m r lo : ℕ) (e : List ℕ) → m ≡ 1 → at + 8 * k + 8 ≤ length d → e ≡ sets d (at + 8 * k) (be 8 lo)
+      → lo ≡ v % 2 ^ 64 → r ≡ v / 2 ^ 64 → Flushed at k m v r d e
   flushed-one m r lo e one room s l g =
       let z : k + 1 ≡ k + m = omega arith in
       let w : lo ≡ v / 2 ^ (64 * (k - k)) % 2 ^ 64 = let n : 64 * (k - k) ≡ 0 = omega arith in rw (n, div-one) l in
       record {
         stored = subst (λ n. Stored 8 at (λ j. v / 2 ^ (64 * (j - k)) % 2 ^ 64) k n d e) z
-            (stored-more 8 at (λ j. v / 2 ^ (64 * (j - k)) % 2 ^ 64) k k d d (stored-none 8 at (λ j. v / 2 ^ (64 * (j - k)) % 2 ^ 64) k d) (omega arith) room (omega arith) e
+            (stored-more 8 at (λ j. v / 2 ^ (64 * (j - k)) % 2 ^ 64) k k d d
+            (stored-none 8 at (λ j. v / 2 ^ (64 * (j - k)) % 2 ^ 64) k d) (omega arith) room (omega arith) e
             (s ∙ ap (λ n. sets d (at + 8 * k) (be 8 n)) w));
         rest = rw one g;
       }
@@ -102,7 +107,8 @@ module _ (s : List ℕ) (at v k r : ℕ) (a : Held s at v k r) where
   held-add q b = record {
     written = λ j h.
         let g : 64 * k + b ≡ 64 * (k - suc j) + b + 64 + 64 * j = omega arith in
-        a .written j h ∙ sym (rw (g, add-comm v (q * 2 ^ (64 * (k - suc j) + b + 64 + 64 * j)), drop-low) (drop-high q (v / 2 ^ (64 * j)) (64 * (k - suc j) + b) 64));
+        a .written j h ∙ sym (rw (g, add-comm v (q * 2 ^ (64 * (k - suc j) + b + 64 + 64 * j)), drop-low)
+        (drop-high q (v / 2 ^ (64 * j)) (64 * (k - suc j) + b) 64));
     rest =
         let g : 64 * k + b ≡ b + 64 * k = omega arith in
         rw (a .rest, g, add-comm v (q * 2 ^ (b + 64 * k)), drop-low) (add-comm (v / 2 ^ (64 * k)) (q * 2 ^ b));
@@ -111,7 +117,8 @@ module _ (s : List ℕ) (at v k r : ℕ) (a : Held s at v k r) where
   pub held-flushed : (m p : ℕ) (t : List ℕ) → Flushed at k m r p s t → Held t at v (k + m) p
   held-flushed m p t f = record {
     written = λ j h. elim (decLt j k) [
-      | yes y ↦ stored-apart 8 at (λ i. r / 2 ^ (64 * (i - k)) % 2 ^ 64) k (k + m) s t (f .stored) 8 (at + 8 * j) (inl (omega arith)) ∙ a .written j y
+      | yes y ↦ stored-apart 8 at (λ i. r / 2 ^ (64 * (i - k)) % 2 ^ 64) k (k + m) s t (f .stored) 8 (at + 8 * j)
+          (inl (omega arith)) ∙ a .written j y
       | no y ↦
           let g : 64 * k + 64 * (j - k) ≡ 64 * j = omega arith in
           f .stored .numbers j (omega arith) h ∙ rw (a .rest, shr-shr, g)

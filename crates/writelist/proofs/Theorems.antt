@@ -15,6 +15,7 @@ use Rattle.rules.specs.Refusal.{number}
 use Rattle.rules.specs.List.{rising, validList, size, block}
 use Rattle.rules.specs.ReadList.{listU, decode, listRefusal}
 use Rattle.rules.specs.Write.{made, laid, writeList}
+use Rattle.rules.specs.Promises.{ListWritten}
 use Rattle.listlaws.proofs.BlockLaws.{block-size}
 use Rattle.listlaws.proofs.ValidLaws.{valid-from, valid-parts}
 use Rattle.listlaws.proofs.Theorems.{decode-block, block-accepted, accepted-block}
@@ -45,7 +46,8 @@ module _ (U : ℕ) (xs room : List ℕ) (a : writeList U xs room .refusal ≡ Ac
           ]
 
 -- What the writer accepts is a valid list, and its answer's bytes are that list's block.
-pub written-block : (U : ℕ) (xs room : List ℕ) (r : Written) (s : List ℕ) → made r s ≡ writeList U xs room → r .refusal ≡ Accepted → (validList U xs ≡ true) × (take (r .size) s ≡ block U xs)
+pub written-block : (U : ℕ) (xs room : List ℕ) (r : Written) (s : List ℕ) → ListWritten U xs room r s → r .refusal ≡ Accepted
+    → (validList U xs ≡ true) × (take (r .size) s ≡ block U xs)
 unfolding laid
 written-block U xs room r s e a =
     let w = wrote U xs room (sym (ap (λ m. m .refusal) e) ∙ a) in
@@ -56,7 +58,7 @@ written-block U xs room r s e a =
     (w .valid, rw (n, t) (take-at (block U xs) (drop (length (block U xs)) room) (size U (length xs)) (block-size U xs)))
 
 -- What the writer writes is accepted, and reading it gives the list.
-pub written-read : (U : ℕ) (xs room : List ℕ) (r : Written) (s : List ℕ) → made r s ≡ writeList U xs room → r .refusal ≡ Accepted
+pub written-read : (U : ℕ) (xs room : List ℕ) (r : Written) (s : List ℕ) → ListWritten U xs room r s → r .refusal ≡ Accepted
     → (listRefusal (take (r .size) s) ≡ Accepted) × (decode (take (r .size) s) ≡ xs)
 written-read U xs room r s e a =
     let b = written-block U xs room r s e a in

@@ -37,9 +37,14 @@ module _ (U : ℕ) (xs room : List ℕ) where
       unfolding stored
       write-room h = stored-is ∙ rw (lt-ltb (length room) (length (block U xs)) (omega (arith, block-size U xs)))
 
-      pub write-laid : size U (length xs) ≤ length room → writeList U xs room ≡ record { refusal = Accepted; size = size U (length xs); room = laid (block U xs) room }
+      pub write-laid : size U (length xs) ≤ length room → writeList U xs room ≡ record {
+        refusal = Accepted;
+        size = size U (length xs);
+        room = laid (block U xs) room;
+      }
       unfolding stored
-      write-laid h = stored-is ∙ rw (le-ltb (length room) (length (block U xs)) (omega (arith, block-size U xs)), block-size U xs)
+      write-laid h =
+          stored-is ∙ rw (le-ltb (length room) (length (block U xs)) (omega (arith, block-size U xs)), block-size U xs)
 
 -- ---- the shape
 

@@ -6,7 +6,8 @@ ghost use mathlib.Core.List.{[]};
 ghost use Prim.Native.Nat.{_+_, _-_, _*_, _/_, _^_, _<_, _≤_};
 ghost use lib.ListN.{length};
 ghost use Rattle.rules.specs.List.{rising, block};
-ghost use Rattle.rules.specs.Write.{made, laid, writeList};
+ghost use Rattle.rules.specs.Write.{laid};
+ghost use Rattle.rules.specs.Promises.{ListWritten};
 ghost use Rattle.writelist.specs.Filling.{Stored, Flushed, Lower, Fitting, Partly, Ready, OneMore, Full, Closed};
 use rules::Refusal;
 use rules::Written;
@@ -50,7 +51,8 @@ fn put_words(room: &mut [u8], at: usize, from: usize, to: usize, acc: u64) -> u6
 fn put_pointers(room: &mut [u8], next: usize, high: usize, count: usize) -> usize
     requires { ⌜ (0 < next) × (next ≤ high / 256 + 1)
         × (13 + 4 * (high / 256) ≤ length (now room)) × (high + count < 2 ^ 32) ⌝ }
-    ensures { λ r. ⌜ (r ≡ high / 256 + 1) × Stored 4 9 (λ q. 256 * q + count) next r (now (room .entry)) (now (room .exit)) ⌝ }
+    ensures { λ r. ⌜ (r ≡ high / 256 + 1)
+        × Stored 4 9 (λ q. 256 * q + count) next r (now (room .entry)) (now (room .exit)) ⌝ }
 {
     let end = high / 256 + 1;
     for q in next..end {
@@ -172,7 +174,7 @@ pub fn fill(room: &mut [u8], g: Shape, list: &[u32])
 
 // Writes the list below u as a block at the front of the room.
 pub fn write_list(u: u32, list: &[u32], room: &mut [u8]) -> Written
-    ensures { λ r. ⌜ made r (now (room .exit)) ≡ writeList u (now (list .entry)) (now (room .entry)) ⌝ }
+    ensures { λ r. ⌜ ListWritten u (now (list .entry)) (now (room .entry)) r (now (room .exit)) ⌝ }
 {
     if 16777216 < u {
         return Written {

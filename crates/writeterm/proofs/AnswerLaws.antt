@@ -20,10 +20,16 @@ module _ (N : ℕ) (t : Word) (room : List ℕ) where
   unfolding writeTerm
   answer-lists h v = rw (le-ltb limit N h, v)
 
-  pub answer-reach : N ≤ limit → validWord N t ≡ true → limit < next 0 (places t) → writeTerm N t room ≡ refused Limit room
+  pub answer-reach : N ≤ limit → validWord N t ≡ true → limit < next 0 (places t)
+      → writeTerm N t room ≡ refused Limit room
   unfolding writeTerm
   answer-reach h v l = rw (le-ltb limit N h, v, lt-ltb limit (next 0 (places t)) l)
 
   pub answer-room : Writable N t → length room < length (termBlock N t) → writeTerm N t room ≡ refused Room room
   unfolding writeTerm stored
-  answer-room w l = rw (le-ltb limit N (w .within), w .valid, le-ltb limit (next 0 (places t)) (w .reach), lt-ltb (length room) (length (termBlock N t)) l)
+  answer-room w l = rw (
+    le-ltb limit N (w .within),
+    w .valid,
+    le-ltb limit (next 0 (places t)) (w .reach),
+    lt-ltb (length room) (length (termBlock N t)) l,
+  )

@@ -1,27 +1,20 @@
 -- Laws of the tests of a word, read from the front: what is left to test gives what all of it gives.
-use mathlib.Core.Bool.{Bool, true, false, _&&_}
+use mathlib.Core.Bool.{true, false, _&&_, and-false}
 use mathlib.Core.Path.{_≡_, refl, sym, ap, _∙_}
 use mathlib.Core.List.{List, [], _∷_}
 use Prim.Native.Nat.{ℕ, _+_, _-_, _≤_, _<_}
 use native.Mathlib.Nat.{add-zero, add-assoc}
-use native.Mathlib.Numerals.{add-one}
 use native.Mathlib.Decide.{ℕ-discrete}
 use native.Mathlib.Omega.{arith}
 use borrow.Author.Tests.{le-leb, lt-leb, lt-ltb, eq-eqb, ne-eqb}
 use lib.Dec.{eqb}
 use lib.ListN.{length, getD, take, drop, drop-of-length-le}
-use lib.Seq.{drop-cons, drop-drop}
+use lib.Seq.{drop-drop}
 use Rattle.rules.specs.Term.{total, next, raised, placed, positive, inOrder, inOrderByPage}
 use Rattle.termlaws.proofs.OrderLaws.{next-append}
+use Rattle.writelist.proofs.RiseLaws.{drop-front}
 use Rattle.writeterm.specs.declared.Reach.{Reach}
 use Rattle.writeterm.specs.Reach.{summing, Ordered}
-
-and-none : (b : Bool) → b && false ≡ false
-and-none true = refl
-and-none false = refl
-
-pub drop-front : (xs : List ℕ) (i : ℕ) → i < length xs → drop i xs ≡ getD xs i 0 ∷ drop (i + 1) xs
-drop-front xs i h = rw add-one (drop-cons xs i 0 h)
 
 -- ---- counts
 
@@ -39,7 +32,7 @@ module _ (n c : ℕ) (cs : List ℕ) where
 
   first-over : n < c → summing n (c ∷ cs) ≡ false
   unfolding summing total
-  first-over h = rw (ne-eqb (c + total cs) n (λ e. omega arith)) (and-none (positive (c ∷ cs)))
+  first-over h = rw (ne-eqb (c + total cs) n (λ e. omega arith)) (and-false (positive (c ∷ cs)))
 
   first-fits : 0 < c → c ≤ n → summing n (c ∷ cs) ≡ summing (n - c) cs
   unfolding summing positive total
@@ -52,7 +45,8 @@ module _ (n : ℕ) (cs : List ℕ) (i : ℕ) (h : i < length cs) where
   pub summing-over : n < getD cs i 0 → summing n (drop i cs) ≡ false
   summing-over l = ap (summing n) (drop-front cs i h) ∙ first-over n (getD cs i 0) (drop (i + 1) cs) l
 
-  pub summing-on : 0 < getD cs i 0 → getD cs i 0 ≤ n → summing n (drop i cs) ≡ summing (n - getD cs i 0) (drop (i + 1) cs)
+  pub summing-on : 0 < getD cs i 0 → getD cs i 0 ≤ n
+      → summing n (drop i cs) ≡ summing (n - getD cs i 0) (drop (i + 1) cs)
   summing-on s l = ap (summing n) (drop-front cs i h) ∙ first-fits n (getD cs i 0) (drop (i + 1) cs) s l
 
 pub summing-end : (n : ℕ) (cs : List ℕ) (i : ℕ) → length cs ≤ i → summing n (drop i cs) ≡ eqb n 0
@@ -109,11 +103,13 @@ module _ (cs ps : List ℕ) (i from : ℕ) (h : i < length cs) where
   abbrev c : ℕ
   c = getD cs i 0
 
-  spanned-on : spanned (drop i cs) (drop from ps) ≡ next 0 (take c (drop from ps)) + spanned (drop (i + 1) cs) (drop (from + c) ps)
+  spanned-on : spanned (drop i cs) (drop from ps)
+      ≡ next 0 (take c (drop from ps)) + spanned (drop (i + 1) cs) (drop (from + c) ps)
   unfolding spanned
   spanned-on = ap (λ l. spanned l (drop from ps)) (drop-front cs i h) ∙ rw (drop-drop c from ps)
 
-  pages-on : inOrderByPage (drop i cs) (drop from ps) ≡ inOrder 0 (take c (drop from ps)) && inOrderByPage (drop (i + 1) cs) (drop (from + c) ps)
+  pages-on : inOrderByPage (drop i cs) (drop from ps)
+      ≡ inOrder 0 (take c (drop from ps)) && inOrderByPage (drop (i + 1) cs) (drop (from + c) ps)
   unfolding inOrderByPage
   pages-on = ap (λ l. inOrderByPage l (drop from ps)) (drop-front cs i h) ∙ rw (drop-drop c from ps)
 
@@ -127,10 +123,12 @@ module _ (cs ps : List ℕ) (i from : ℕ) (h : i < length cs) where
     pub page-falls : r .ok ≡ false → inOrderByPage (drop i cs) (drop from ps) ≡ false
     page-falls f = pages-on ∙ rw (← page .says, f)
 
-    pub page-on : r .ok ≡ true → inOrderByPage (drop i cs) (drop from ps) ≡ inOrderByPage (drop (i + 1) cs) (drop (from + c) ps)
+    pub page-on : r .ok ≡ true
+        → inOrderByPage (drop i cs) (drop from ps) ≡ inOrderByPage (drop (i + 1) cs) (drop (from + c) ps)
     page-on t = pages-on ∙ rw (← page .says, t)
 
-    pub page-spans : r .ok ≡ true → spanned (drop i cs) (drop from ps) ≡ r .next + spanned (drop (i + 1) cs) (drop (from + c) ps)
+    pub page-spans : r .ok ≡ true
+        → spanned (drop i cs) (drop from ps) ≡ r .next + spanned (drop (i + 1) cs) (drop (from + c) ps)
     page-spans t = spanned-on ∙ rw (← page .ends t)
 
 pub total-on : (cs : List ℕ) (i : ℕ) → i < length cs → total (drop i cs) ≡ getD cs i 0 + total (drop (i + 1) cs)

@@ -6,7 +6,8 @@ use Prim.Native.Nat.{ℕ, zero, suc, _+_, _-_, _≤_, _<_}
 use native.Mathlib.Numerals.{add-one}
 use native.Mathlib.Omega.{arith}
 use lib.ListN.{length, getD, take, drop, length-append, length-drop, take-append-drop, List·getD-append}
-use lib.Seq.{take-suc, length-take-le, take-append-add, getD-append-add, getD-take, getD-drop, take-at, drop-at, take-add, drop-drop}
+use lib.Seq.{take-suc, length-take-le, take-append-add, getD-append-add}
+use lib.Seq.{getD-take, getD-drop, take-at, drop-at, take-add, drop-drop}
 use Rattle.rules.specs.List.{rising}
 use Rattle.rules.specs.Term.{total, sums, next, raised, placed, positive}
 use Rattle.listlaws.specs.Sound.{least}
@@ -15,9 +16,9 @@ use Rattle.termlaws.proofs.SumLaws.{positive-parts, length-sums, sums-rising}
 use Rattle.termlaws.proofs.PlaceLaws.{length-raised, length-placed}
 use Rattle.shape.specs.declared.Shape.{Shape}
 use Rattle.writelist.specs.Filling.{Next}
-use Rattle.writelist.proofs.RiseLaws.{rising-next, next-of}
+use Rattle.writelist.proofs.RiseLaws.{rising-next, next-of, drop-front}
 use Rattle.writeterm.specs.Lists.{Follows, Sums, Places}
-use Rattle.writeterm.proofs.CheckLaws.{drop-front, next-page, total-on}
+use Rattle.writeterm.proofs.CheckLaws.{next-page, total-on}
 
 pub take-more : (xs : List ℕ) (i : ℕ) → i < length xs → take (i + 1) xs ≡ take i xs ++ (getD xs i 0 ∷ [])
 take-more xs i h = rw add-one (take-suc xs i 0 h)
@@ -70,7 +71,8 @@ module _ (g : Shape) (cs room : List ℕ) (q : Sums g cs room) where
     sum-at = getD-sums 0 cs i h ∙ omega (arith, total-take cs i h)
 
     pub sums-next : Next g (take i ss) (total (take i cs) + getD cs i 0 - 1)
-    sums-next = rw sum-at at (next-of g ss sums-long (rw (q .reach) at (sums-rising cs (q .counted))) i (omega (arith, length-sums 0 cs)))
+    sums-next = rw sum-at at
+        (next-of g ss sums-long (rw (q .reach) at (sums-rising cs (q .counted))) i (omega (arith, length-sums 0 cs)))
 
     pub sums-more : take (i + 1) ss ≡ take i ss ++ ((total (take i cs) + getD cs i 0 - 1) ∷ [])
     sums-more = take-more ss i (omega (arith, length-sums 0 cs)) ∙ rw sum-at
@@ -99,7 +101,8 @@ getD-raised b (p ∷ ps) zero h = refl
 getD-raised b (p ∷ ps) (suc i) h = getD-raised b ps i (omega arith)
 
 -- those of one page
-module _ (g : Shape) (xs : List ℕ) (base : ℕ) (ps : List ℕ) (f : Follows g xs (raised base ps)) (i : ℕ) (h : i < length ps) where
+module _ (g : Shape) (xs : List ℕ) (base : ℕ) (ps : List ℕ)
+    (f : Follows g xs (raised base ps)) (i : ℕ) (h : i < length ps) where
   raised-lt : i < length (raised base ps)
   raised-lt = omega (arith, length-raised base ps)
 
@@ -126,8 +129,10 @@ pub record Turn (g : Shape) (cs ps : List ℕ) (i from base : ℕ) : Type 0 wher
   pub left : from + getD cs i 0 + total (drop (i + 1) cs) ≡ length ps
   pub below : base + getD ps (from + getD cs i 0 - 1) 0 < g .u
   pub follows : Follows g (take from (placed 0 cs ps)) (raised base (take (getD cs i 0) (drop from ps)))
-  pub taken : take (from + getD cs i 0) (placed 0 cs ps) ≡ take from (placed 0 cs ps) ++ raised base (take (getD cs i 0) (drop from ps))
-  pub dropped : drop (from + getD cs i 0) (placed 0 cs ps) ≡ placed (base + (getD ps (from + getD cs i 0 - 1) 0 + 1)) (drop (i + 1) cs) (drop (from + getD cs i 0) ps)
+  pub taken : take (from + getD cs i 0) (placed 0 cs ps)
+      ≡ take from (placed 0 cs ps) ++ raised base (take (getD cs i 0) (drop from ps))
+  pub dropped : drop (from + getD cs i 0) (placed 0 cs ps)
+      ≡ placed (base + (getD ps (from + getD cs i 0 - 1) 0 + 1)) (drop (i + 1) cs) (drop (from + getD cs i 0) ps)
 
 module _ (g : Shape) (cs ps room : List ℕ) (q : Places g cs ps room) where
   abbrev es : List ℕ
@@ -136,7 +141,8 @@ module _ (g : Shape) (cs ps room : List ℕ) (q : Places g cs ps room) where
   pub places-long : length es ≡ g .n
   places-long = length-placed 0 cs ps (q .summed) ∙ q .count
 
-  module _ (i from base : ℕ) (h : i < length cs) (at : from + total (drop i cs) ≡ length ps) (rest : drop from es ≡ placed base (drop i cs) (drop from ps)) where
+  module _ (i from base : ℕ) (h : i < length cs) (at : from + total (drop i cs) ≡ length ps)
+      (rest : drop from es ≡ placed base (drop i cs) (drop from ps)) where
     abbrev c : ℕ
     c = getD cs i 0
 
@@ -166,16 +172,24 @@ module _ (g : Shape) (cs ps room : List ℕ) (q : Places g cs ps room) where
 
     page-follows : Follows g (take from es) ys
     page-follows = record {
-      few = rw (← page-taken) (omega (arith, length-take-le (from + c) es (omega (arith, page-in, places-long, q .count)), page-in, q .count));
+      few = rw (← page-taken) (omega (
+        arith,
+        length-take-le (from + c) es (omega (arith, page-in, places-long, q .count)),
+        page-in,
+        q .count,
+      ));
       rises = rw (← page-taken) (rising-take 0 (g .u) (from + c) es (q .rises));
     }
 
-    last-at : (k : ℕ) → k < c → (getD (take c (drop from ps)) k 0 ≡ getD ps (from + k) 0) × (getD es (from + k) 0 ≡ base + getD ps (from + k) 0)
+    last-at : (k : ℕ) → k < c → (getD (take c (drop from ps)) k 0 ≡ getD ps (from + k) 0)
+        × (getD es (from + k) 0 ≡ base + getD ps (from + k) 0)
     last-at k l =
-        let p : getD (take c (drop from ps)) k 0 ≡ getD ps (from + k) 0 = getD-take c (drop from ps) k 0 l ∙ getD-drop from ps k 0 in (
+        let p : getD (take c (drop from ps)) k 0 ≡ getD ps (from + k) 0 =
+        getD-take c (drop from ps) k 0 l ∙ getD-drop from ps k 0 in (
           p,
           sym (getD-drop from es k 0) ∙ ap (λ l. getD l k 0) split
-              ∙ List·getD-append ys others 0 k (omega (arith, ys-long)) ∙ getD-raised base (take c (drop from ps)) k (omega (arith, page-long))
+              ∙ List·getD-append ys others 0 k (omega (arith, ys-long))
+              ∙ getD-raised base (take c (drop from ps)) k (omega (arith, page-long))
               ∙ rw p,
         )
 
@@ -189,9 +203,11 @@ module _ (g : Shape) (cs ps room : List ℕ) (q : Places g cs ps room) where
     page-next =
         let e : from + (c - 1) ≡ from + c - 1 = omega (arith, page-in) in
         let l = next-last 0 (take c (drop from ps)) (c - 1) (omega (arith, page-in, page-long)) in
-        next-page base (take c (drop from ps)) ∙ ap (λ n. base + n) (l ∙ rw (last-at (c - 1) (omega (arith, page-in)) .0, e))
+        next-page base (take c (drop from ps))
+        ∙ ap (λ n. base + n) (l ∙ rw (last-at (c - 1) (omega (arith, page-in)) .0, e))
 
-    page-dropped : drop (from + c) es ≡ placed (base + (getD ps (from + c - 1) 0 + 1)) (drop (i + 1) cs) (drop (from + c) ps)
+    page-dropped : drop (from + c) es
+        ≡ placed (base + (getD ps (from + c - 1) 0 + 1)) (drop (i + 1) cs) (drop (from + c) ps)
     page-dropped = sym (drop-drop c from es) ∙ ap (drop c) split ∙ drop-at ys others c ys-long ∙ rw page-next
 
     pub page-turn : Turn g cs ps i from base

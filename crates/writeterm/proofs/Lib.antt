@@ -4,5 +4,4 @@ pub mod LayLaws
 pub mod PieceLaws
 pub mod ShapedLaws
 pub mod AnswerLaws
-pub mod Unique
 pub mod Theorems

@@ -17,7 +17,8 @@ module _ (u : ℕ) (room : List ℕ) where
 
   tail-back : (ys : List ℕ) → putMid u (length room - u) room ys ≡ take u room ++ ys
   tail-back ys =
-      ap (λ (t : List ℕ). take u room ++ (ys ++ t)) (drop-of-length-le (drop u room) {i = length room - u} (simp length-drop (omega arith)))
+      ap (λ (t : List ℕ). take u room ++ (ys ++ t))
+      (drop-of-length-le (drop u room) {i = length room - u} (simp length-drop (omega arith)))
       ∙ ap (λ (t : List ℕ). take u room ++ t) (append-nil ys)
 
   pub part-long : length (midOf u (length room - u) room) ≡ length room - u
@@ -27,7 +28,8 @@ module _ (u : ℕ) (room : List ℕ) where
 module _ (a b room : List ℕ) where
   behind : a ++ laid b (drop (length a) room) ≡ laid (a ++ b) room
   unfolding laid
-  behind = rw (drop-drop (length b) (length a) room, length-append a b) (sym (append-assoc a b (drop (length a + length b) room)))
+  behind = rw (drop-drop (length b) (length a) room, length-append a b)
+      (sym (append-assoc a b (drop (length a + length b) room)))
 
   pub piece-laid : (u : ℕ) (r ys : List ℕ) → length a ≡ u → r ≡ laid a room → ys ≡ laid b (midOf u (length r - u) r)
       → putMid u (length r - u) r ys ≡ laid (a ++ b) room
@@ -38,7 +40,8 @@ module _ (a b room : List ℕ) where
       tail-back u r ys ∙ rw (t, f, tail-part u r, d) behind
 
 -- the header: a length and a version
-pub header-laid : (n v : ℕ) (room : List ℕ) → 5 ≤ length room → set (sets room 0 (be 4 n)) 4 v ≡ laid (be 4 n ++ (v ∷ [])) room
+pub header-laid : (n v : ℕ) (room : List ℕ) → 5 ≤ length room
+    → set (sets room 0 (be 4 n)) 4 v ≡ laid (be 4 n ++ (v ∷ [])) room
 unfolding laid
 header-laid n v room h =
     let b : List ℕ = be 4 n in

@@ -37,11 +37,17 @@ bounds-of N ps cs qs w =
     record {
       pages = valid-below N ps (pages-valid N t w);
       counts = omega (arith, e, valid-below (total cs) (sums 0 cs) (counts-valid N t w), length-sums 0 cs);
-      positions = omega (arith, e, valid-below (next 0 (places t)) (places t) (positions-valid N t w), length-places N t w);
+      positions = omega (
+        arith,
+        e,
+        valid-below (next 0 (places t)) (places t) (positions-valid N t w),
+        length-places N t w,
+      );
     }
 
-pub shaped-of : (N k : ℕ) (ps cs qs : List ℕ) → Writable N (wordOf ps cs qs) → k ≡ next 0 (places (wordOf ps cs qs)) → (p c q : Shape)
-    → p ≡ shapeOf N (length ps) → c ≡ shapeOf (length qs) (length cs) → q ≡ shapeOf k (length qs) → Shaped p c q ps cs qs
+pub shaped-of : (N k : ℕ) (ps cs qs : List ℕ) → Writable N (wordOf ps cs qs) → k ≡ next 0 (places (wordOf ps cs qs))
+    → (p c q : Shape) → p ≡ shapeOf N (length ps) → c ≡ shapeOf (length qs) (length cs) → q ≡ shapeOf k (length qs)
+    → Shaped p c q ps cs qs
 shaped-of N k ps cs qs w e p c q f g h =
     let u = u-of N (length ps) p f in
     record {
@@ -76,7 +82,9 @@ module _ {p c q : Shape} {ps cs qs : List ℕ} (s : Shaped p c q ps cs qs) where
   counts-ask r l =
       let v = counts-valid (p .u) t (s .writable) in
       record {
-        fitting = fitting-of (total cs) (length cs) c (s .counts-are) r (omega (arith, valid-below (total cs) (sums 0 cs) v, length-sums 0 cs)) (valid-parts (total cs) (sums 0 cs) v .0) l;
+        fitting = fitting-of (total cs) (length cs) c (s .counts-are) r
+            (omega (arith, valid-below (total cs) (sums 0 cs) v, length-sums 0 cs))
+            (valid-parts (total cs) (sums 0 cs) v .0) l;
         count = sym (n-of (total cs) (length cs) c (s .counts-are));
         reach = sym (u-of (total cs) (length cs) c (s .counts-are));
         counted = agreeing .counted;
@@ -91,7 +99,8 @@ module _ {p c q : Shape} {ps cs qs : List ℕ} (s : Shaped p c q ps cs qs) where
       let v = positions-valid (p .u) t (s .writable) in
       let u = u-of (next 0 (places t)) (length qs) q (s .places-are) in
       record {
-        fitting = fitting-of (next 0 (places t)) (length qs) q (s .places-are) r (omega (arith, valid-below (next 0 (places t)) (places t) v, places-long)) (s .writable .reach) l;
+        fitting = fitting-of (next 0 (places t)) (length qs) q (s .places-are) r
+            (omega (arith, valid-below (next 0 (places t)) (places t) v, places-long)) (s .writable .reach) l;
         count = sym (n-of (next 0 (places t)) (length qs) q (s .places-are));
         summed = agreeing .summed;
         counted = agreeing .counted;
@@ -102,10 +111,12 @@ module _ {p c q : Shape} {ps cs qs : List ℕ} (s : Shaped p c q ps cs qs) where
   pages-long = block-size (p .u) ps ∙ sym (end-of (p .u) (length ps) p (s .pages-are))
 
   counts-end : length (block (total cs) (sums 0 cs)) ≡ c .end
-  counts-end = block-size (total cs) (sums 0 cs) ∙ rw (length-sums 0 cs) (sym (end-of (total cs) (length cs) c (s .counts-are)))
+  counts-end =
+      block-size (total cs) (sums 0 cs) ∙ rw (length-sums 0 cs) (sym (end-of (total cs) (length cs) c (s .counts-are)))
 
   places-end : length (block (next 0 (places t)) (places t)) ≡ q .end
-  places-end = block-size (next 0 (places t)) (places t) ∙ rw places-long (sym (end-of (next 0 (places t)) (length qs) q (s .places-are)))
+  places-end = block-size (next 0 (places t)) (places t)
+      ∙ rw places-long (sym (end-of (next 0 (places t)) (length qs) q (s .places-are)))
 
   pub counts-long : length (block (c .u) (sums 0 cs)) ≡ c .end
   counts-long = rw (u-of (total cs) (length cs) c (s .counts-are)) counts-end
@@ -114,9 +125,11 @@ module _ {p c q : Shape} {ps cs qs : List ℕ} (s : Shaped p c q ps cs qs) where
   block-long = term-length (p .u) t (s .writable) ∙ omega (arith, pages-long, counts-end, places-end)
 
   pub head-long : length (headOf p c q) ≡ 5
-  head-long = length-append (be 4 (5 + p .end + c .end + q .end)) (version ∷ []) ∙ omega (arith, length-be 4 (5 + p .end + c .end + q .end))
+  head-long = length-append (be 4 (5 + p .end + c .end + q .end)) (version ∷ [])
+      ∙ omega (arith, length-be 4 (5 + p .end + c .end + q .end))
 
-  pub pieces-are : ((headOf p c q ++ block (p .u) ps) ++ block (c .u) (sums 0 cs)) ++ block (q .u) (placed 0 cs qs) ≡ termBlock (p .u) t
+  pub pieces-are : ((headOf p c q ++ block (p .u) ps) ++ block (c .u) (sums 0 cs)) ++ block (q .u) (placed 0 cs qs)
+      ≡ termBlock (p .u) t
   unfolding termBlock sized places
   pieces-are =
       let P : List ℕ = block (p .u) ps in
@@ -124,5 +137,9 @@ module _ {p c q : Shape} {ps cs qs : List ℕ} (s : Shaped p c q ps cs qs) where
       let Q : List ℕ = block (next 0 (placed 0 cs qs)) (placed 0 cs qs) in
       let n : 4 + length (version ∷ (P ++ (C ++ Q))) ≡ 5 + p .end + c .end + q .end =
       omega (arith, length-append P (C ++ Q), length-append C Q, pages-long, counts-end, places-end) in
-      rw (u-of (total cs) (length cs) c (s .counts-are), u-of (next 0 (placed 0 cs qs)) (length qs) q (s .places-are), n)
+      rw (
+        u-of (total cs) (length cs) c (s .counts-are),
+        u-of (next 0 (placed 0 cs qs)) (length qs) q (s .places-are),
+        n,
+      )
       (simp append-assoc)

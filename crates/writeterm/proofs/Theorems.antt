@@ -9,13 +9,14 @@ use Rattle.rules.specs.ReadList.{listU}
 use Rattle.rules.specs.Write.{made}
 use Rattle.rules.specs.Term.{Word, termBlock, writeTerm}
 use Rattle.rules.specs.ReadTerm.{pagesOf, readWord, termRefusal}
+use Rattle.rules.specs.Promises.{TermWritten}
 use Rattle.laws.proofs.ByteLaws.{Bytes}
 use Rattle.laws.proofs.RoomLaws.{success}
 use Rattle.termlaws.specs.Words.{Writable}
 use Rattle.termlaws.proofs.Theorems.{written, write-again}
 
 -- An answer r with the room s after it, where the room held `room` before.
-module _ (N : ℕ) (w : Word) (room : List ℕ) (r : Written) (s : List ℕ) (e : made r s ≡ writeTerm N w room) where
+module _ (N : ℕ) (w : Word) (room : List ℕ) (r : Written) (s : List ℕ) (e : TermWritten N w room r s) where
   accepts : r .refusal ≡ Accepted → writeTerm N w room .refusal ≡ Accepted
   accepts a = sym (ap (λ m. m .refusal) e) ∙ a
 
@@ -39,5 +40,5 @@ module _ (N : ℕ) (w : Word) (room : List ℕ) (r : Written) (s : List ℕ) (e 
 
 -- Writing what was read of accepted bytes gives the same bytes.
 pub read-written : (s : List ℕ) → Bytes s → termRefusal s ≡ Accepted → (room : List ℕ) → length s ≤ length room
-    → (r : Written) (u : List ℕ) → made r u ≡ writeTerm (listU (pagesOf s)) (readWord s) room → made r u ≡ success s room
+    → (r : Written) (u : List ℕ) → TermWritten (listU (pagesOf s)) (readWord s) room r u → made r u ≡ success s room
 read-written s b a room h r u e = e ∙ write-again s b a room h

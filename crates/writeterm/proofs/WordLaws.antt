@@ -11,7 +11,8 @@ use Rattle.rules.specs.Term.{total, positive, inOrderByPage, validWord}
 use Rattle.listlaws.proofs.RisingLaws.{and-parts, and-assoc}
 use Rattle.writeterm.specs.Reach.{wordOf, summing, Reached}
 
-pub no-word : (N e : ℕ) (ps cs qs : List ℕ) → validWord N (wordOf ps cs qs) ≡ false → Reached (validWord N (wordOf ps cs qs)) e (record { ok = false; next = 0 })
+pub no-word : (N e : ℕ) (ps cs qs : List ℕ) → validWord N (wordOf ps cs qs) ≡ false
+    → Reached (validWord N (wordOf ps cs qs)) e (record { ok = false; next = 0 })
 no-word N e ps cs qs v = record { says = sym v; ends = λ t. absurd (false≢true t) }
 
 pub summing-total : (n : ℕ) (cs : List ℕ) → summing n cs ≡ true → total cs ≡ n

@@ -5,8 +5,9 @@ ghost use mathlib.Core.List.{List, _++_};
 ghost use Prim.Native.Nat.{ℕ, _+_, _≤_};
 ghost use lib.ListN.{length};
 ghost use Rattle.rules.specs.List.{block};
-ghost use Rattle.rules.specs.Write.{made, laid};
-ghost use Rattle.rules.specs.Term.{total, sums, next, raised, placed, places, inOrderByPage, validWord, termBlock, writeTerm};
+ghost use Rattle.rules.specs.Write.{laid};
+ghost use Rattle.rules.specs.Term.{total, sums, next, raised, placed, places, inOrderByPage, validWord, termBlock};
+ghost use Rattle.rules.specs.Promises.{TermWritten};
 ghost use Rattle.writelist.specs.Filling.{Partly};
 ghost use Rattle.writeterm.specs.Reach.{wordOf, summing, capped, Ordered, Reached};
 ghost use Rattle.writeterm.specs.Lists.{Follows, Page, Sums, Places, Shaped};
@@ -66,7 +67,8 @@ fn capped(x: usize) -> usize
 // Whether the positions of each page rise strictly, and where the elements that they give end.
 fn positions_rise(counts: &[u32], positions: &[u32]) -> Reach
     requires { ⌜ total (now counts) ≡ length (now positions) ⌝ }
-    ensures { λ r. ⌜ Reached (inOrderByPage (now (counts .entry)) (now (positions .entry))) (next 0 (placed 0 (now (counts .entry)) (now (positions .entry)))) r ⌝ }
+    ensures { λ r. ⌜ Reached (inOrderByPage (now (counts .entry)) (now (positions .entry)))
+        (next 0 (placed 0 (now (counts .entry)) (now (positions .entry)))) r ⌝ }
 {
     let mut base: usize = 0;
     let mut from: usize = 0;
@@ -90,7 +92,8 @@ fn positions_rise(counts: &[u32], positions: &[u32]) -> Reach
 
 // Whether the word is one that can be written, and where the elements of its positions end.
 fn check_word(n: usize, pages: &[u32], counts: &[u32], positions: &[u32]) -> Reach
-    ensures { λ r. ⌜ Reached (validWord n (wordOf (now (pages .entry)) (now (counts .entry)) (now (positions .entry)))) (next 0 (places (wordOf (now (pages .entry)) (now (counts .entry)) (now (positions .entry))))) r ⌝ }
+    ensures { λ r. ⌜ Reached (validWord n (wordOf (now (pages .entry)) (now (counts .entry)) (now (positions .entry))))
+        (next 0 (places (wordOf (now (pages .entry)) (now (counts .entry)) (now (positions .entry))))) r ⌝ }
 {
     if pages.len() != counts.len() {
         return Reach { ok: false, next: 0 };
@@ -121,7 +124,9 @@ fn fill_sums(room: &mut [u8], g: Shape, counts: &[u32])
 // Lays the elements of one page, whose positions lie above base.
 fn fill_page(room: &mut [u8], g: Shape, start: Filling, base: usize, page: &[u32]) -> Filling
     requires { ⌜ Page g start (raised base (now page)) (now room) ⌝ }
-    ensures { λ r. ⌜ ((xs before : List ℕ) → Partly g xs start before (now (room .entry)) → Follows g xs (raised base (now (page .entry))) → Partly g (xs ++ raised base (now (page .entry))) r before (now (room .exit))) ⌝ }
+    ensures { λ r. ⌜ ((xs before : List ℕ) → Partly g xs start before (now (room .entry))
+        → Follows g xs (raised base (now (page .entry)))
+        → Partly g (xs ++ raised base (now (page .entry))) r before (now (room .exit))) ⌝ }
 {
     let mut f = start;
     for i in 0..page.len() {
@@ -133,7 +138,8 @@ fn fill_page(room: &mut [u8], g: Shape, start: Filling, base: usize, page: &[u32
 // Writes the block of the elements that the positions of all pages give.
 fn fill_places(room: &mut [u8], g: Shape, counts: &[u32], positions: &[u32])
     requires { ⌜ Places g (now counts) (now positions) (now room) ⌝ }
-    ensures { λ _. ⌜ now (room .exit) ≡ laid (block (g .u) (placed 0 (now (counts .entry)) (now (positions .entry)))) (now (room .entry)) ⌝ }
+    ensures { λ _. ⌜ now (room .exit)
+        ≡ laid (block (g .u) (placed 0 (now (counts .entry)) (now (positions .entry)))) (now (room .entry)) ⌝ }
 {
     let mut f = writelist::begin(room, g);
     let mut base: usize = 0;
@@ -157,8 +163,11 @@ fn fill_term(
     counts: &[u32],
     positions: &[u32],
 )
-    requires { ⌜ Shaped p c q (now pages) (now counts) (now positions) × (5 + p .end + c .end + q .end ≤ length (now room)) ⌝ }
-    ensures { λ _. ⌜ now (room .exit) ≡ laid (termBlock (p .u) (wordOf (now (pages .entry)) (now (counts .entry)) (now (positions .entry)))) (now (room .entry)) ⌝ }
+    requires { ⌜ Shaped p c q (now pages) (now counts) (now positions)
+        × (5 + p .end + c .end + q .end ≤ length (now room)) ⌝ }
+    ensures { λ _. ⌜ now (room .exit)
+        ≡ laid (termBlock (p .u) (wordOf (now (pages .entry)) (now (counts .entry)) (now (positions .entry))))
+        (now (room .entry)) ⌝ }
 {
     let second = 5 + p.end;
     let third = second + c.end;
@@ -177,7 +186,7 @@ pub fn write_term(
     positions: &[u32],
     room: &mut [u8],
 ) -> Written
-    ensures { λ r. ⌜ made r (now (room .exit)) ≡ writeTerm n (wordOf (now (pages .entry)) (now (counts .entry)) (now (positions .entry))) (now (room .entry)) ⌝ }
+    ensures { λ r. ⌜ TermWritten n (wordOf (now (pages .entry)) (now (counts .entry)) (now (positions .entry))) (now (room .entry)) r (now (room .exit)) ⌝ }
 {
     if 16777216 < n {
         return Written {

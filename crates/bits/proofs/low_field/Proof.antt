@@ -18,7 +18,9 @@ returns-2 : tie.Need-returns-2
 returns-2 c =
     let r = c .before .before in
     let a = r .before .before .before .args in
-    c .field-of .ensures ∙ run-field (a .s .now) (a .at) (r .run-word .result) 0 (a .o) (a .w) (omega arith) (r .run-word .ensures) (omega arith) (λ v. absurd (omega arith))
+    c .field-of .ensures
+    ∙ run-field (a .s .now) (a .at) (r .run-word .result) 0 (a .o) (a .w) (omega arith) (r .run-word .ensures)
+    (omega arith) (λ v. absurd (omega arith))
 
 run-word-requires-2 : tie.Need-run-word-requires-2
 unfolding wordsFor
@@ -29,7 +31,9 @@ returns-3 c =
     let h = c .before in
     let r = h .before .before in
     let a = r .before .before .before .args in
-    c .field-of2 .ensures ∙ run-field (a .s .now) (a .at) (r .run-word .result) (h .run-word2 .result) (a .o) (a .w) (omega arith) (r .run-word .ensures) (omega arith)
+    c .field-of2 .ensures
+    ∙ run-field (a .s .now) (a .at) (r .run-word .result) (h .run-word2 .result) (a .o) (a .w) (omega arith)
+    (r .run-word .ensures) (omega arith)
     (λ v. h .run-word2 .ensures)
 
 pub low-field-spec : {M : Type 1} → statement M

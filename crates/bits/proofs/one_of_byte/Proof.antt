@@ -38,4 +38,5 @@ returns-2 c =
 pub one-of-byte-spec : {M : Type 1} → statement M
 one-of-byte-spec =
     tie.close
-    (tie.spec Inv-loop μ-loop loop-holds returns (λ c. search needs) (λ c. search needs) (λ c. search needs) loop-again returns-2)
+    (tie.spec Inv-loop μ-loop loop-holds returns (λ c. search needs) (λ c. search needs)
+    (λ c. search needs) loop-again returns-2)

@@ -13,8 +13,10 @@ returns : tie.Need-returns
 returns c =
     let a = c .before .args in
     let l : a .x < 2 ^ 64 = c .before .fits .x .fits in
-    let j : 64 ≡ a .j = omega arith in
-    (subst (λ (i : ℕ). ones (a .x) ≡ ones (a .x % 2 ^ i)) j (ap ones (sym (mod-eq-of-lt l))), omega (arith, ones-le 64 (a .x) l))
+    let j : 64 ≡ a .j = omega arith in (
+      subst (λ (i : ℕ). ones (a .x) ≡ ones (a .x % 2 ^ i)) j (ap ones (sym (mod-eq-of-lt l))),
+      omega (arith, ones-le 64 (a .x) l),
+    )
 
 sub-result : tie.Need-sub-result
 sub-result c = omega (arith, pow-pos (c .before .args .j), pow-mono {i = c .before .args .j} {j = 63} (omega arith))

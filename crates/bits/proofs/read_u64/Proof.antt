@@ -10,4 +10,5 @@ returns c = omega (arith, beAt-cat 4 4 (c .before .before .before .args .s .now)
 pub read-u64-spec : {M : Type 1} → statement M
 read-u64-spec =
     tie.close
-    (tie.spec (λ c κs. search needs) (λ c. search needs) (λ c κs. search needs) (λ c. search needs) (λ c. search needs) returns)
+    (tie.spec (λ c κs. search needs) (λ c. search needs) (λ c κs. search needs) (λ c. search needs)
+    (λ c. search needs) returns)

@@ -15,7 +15,8 @@ returns c =
     let one = two .before in
     let x = one .before .args .x in
     let e : one .byte-counts .result ≡ byteOnes 8 x + 0 = omega (arith, one .byte-counts .ensures) in
-    doubled (one .byte-counts .result) (two .wrapping-add-u64 .result) (four .wrapping-add-u642 .result) (c .wrapping-add-u643 .result) (omega arith)
+    doubled (one .byte-counts .result) (two .wrapping-add-u64 .result) (four .wrapping-add-u642 .result)
+    (c .wrapping-add-u643 .result) (omega arith)
     (two .wrapping-add-u64 .ensures) (four .wrapping-add-u642 .ensures) (c .wrapping-add-u643 .ensures)
     ∙ ap (λ (n : ℕ). n * each 8 1 % 2 ^ 64) e ∙ running-is 8 0 x (lit< tt)
 

@@ -9,21 +9,23 @@ use Rattle.bits.proofs.SelectLaws.{marked, marked-fits, Held, held, non
 use borrow.Author.Needs.{needs}
 use Rattle.bits.proofs.select_one.Statement.{statement}
 use Rattle.bits.proofs.select_one.Tie as tie
-use Rattle.bits.proofs.select_one.Reads as reads
-use Rattle.bits.proofs.select_one.Lts as lts
-use Rattle.bits.proofs.one_of_byte.Reads as one-of-byte-reads
-use Rattle.bits.proofs.running_counts.Reads as running-counts-reads
 
 -- what is known where a byte holds the one
-in-byte : (c : lts.Else2 (running-counts-reads.Asked, running-counts-reads.Learnt, one-of-byte-reads.Asked, one-of-byte-reads.Learnt) reads.Pre reads.Post) → Held (c .before .before .before .args .x) (c .before .before .before .args .j) (c .before .running-counts .result) (trailingZeros 64 (marked 8 (c .before .running-counts .result) (c .before .before .before .args .j)))
+in-byte : (c : tie.Else2)
+    → let a = c .before .before .before .args in
+    let r = c .before .running-counts .result in
+    Held (a .x) (a .j) r (trailingZeros 64 (marked 8 r (a .j)))
 in-byte c =
     let a = c .before .before .before .args in
-    held (a .x) (a .j) (c .before .running-counts .result) (c .before .running-counts .ensures) (c .before .before .if1 .left) (c .if2 .left)
+    held (a .x) (a .j) (c .before .running-counts .result) (c .before .running-counts .ensures)
+    (c .before .before .if1 .left) (c .if2 .left)
 
 returns : tie.Need-returns
 returns c =
-    let a = c .before .args in
-    (sym (place-none 64 (a .x) (a .j) (omega (arith, ones-le 64 (a .x % 2 ^ 64) (mod-lt (a .x) (pow-pos 64))))), omega arith)
+    let a = c .before .args in (
+      sym (place-none 64 (a .x) (a .j) (omega (arith, ones-le 64 (a .x % 2 ^ 64) (mod-lt (a .x) (pow-pos 64))))),
+      omega arith,
+    )
 
 sub-passed : tie.Need-sub-passed
 sub-passed c = omega (arith, marked-fits 8 (c .running-counts .result) (c .before .before .args .j) (omega arith))
@@ -31,8 +33,11 @@ sub-passed c = omega (arith, marked-fits 8 (c .running-counts .result) (c .befor
 returns-2 : tie.Need-returns-2
 returns-2 c =
     let b = c .before in
-    let a = b .before .before .args in
-    (sym (none-held (a .x) (a .j) (b .running-counts .result) (b .running-counts .ensures) (b .before .if1 .left) (c .if2 .taken)), omega arith)
+    let a = b .before .before .args in (
+      sym (none-held (a .x) (a .j) (b .running-counts .result) (b .running-counts .ensures) (b .before .if1 .left)
+          (c .if2 .taken)),
+      omega arith,
+    )
 
 sub-p : tie.Need-sub-p
 sub-p c = in-byte c .least
@@ -61,7 +66,11 @@ sub-one-of-byte c = omega (arith, in-byte c .below)
 add-result : tie.Need-add-result
 add-result c =
     let a = c .before .before .before .before .args in
-    omega (arith, in-byte (c .before) .lands (c .one-of-byte .result) (c .one-of-byte .ensures), place-le 64 (a .x) (a .j))
+    omega (
+      arith,
+      in-byte (c .before) .lands (c .one-of-byte .result) (c .one-of-byte .ensures),
+      place-le 64 (a .x) (a .j),
+    )
 
 returns-3 : tie.Need-returns-3
 returns-3 c =

@@ -10,7 +10,8 @@ use Rattle.bits.proofs.width.Statement.{statement}
 use Rattle.bits.proofs.width.Tie as tie
 
 -- the place of the quotient's highest set bit
-top : (u n : ℕ) → 0 < n → n ≤ u → u < 2 ^ 32 → (31 - leadingZeros 32 (u / n) ≡ width u n) × (leadingZeros 32 (u / n) ≤ 31)
+top : (u n : ℕ) → 0 < n → n ≤ u → u < 2 ^ 32
+    → (31 - leadingZeros 32 (u / n) ≡ width u n) × (leadingZeros 32 (u / n) ≤ 31)
 top u n some below fits =
     let t = leading-top 32 (u / n) (quotient-pos u n some below) (omega (arith, div-le-self u n)) in
     let e : 31 - leadingZeros 32 (u / n) ≡ t .0 = omega (arith, t .1) in
@@ -26,4 +27,5 @@ returns c =
 
 pub width-spec : {M : Type 1} → statement M
 width-spec =
-    tie.close (tie.spec (λ c. search needs) (λ c. search needs) (λ c. search needs) sub-result (λ c. search needs) returns)
+    tie.close
+    (tie.spec (λ c. search needs) (λ c. search needs) (λ c. search needs) sub-result (λ c. search needs) returns)

@@ -16,4 +16,5 @@ returns c = rw (div-one, add-one)
 
 pub write-u16-spec : {M : Type 1} → statement M
 write-u16-spec =
-    tie.close (tie.spec (λ c. search needs) (λ c. search needs) (λ c. search needs) (λ c. search needs) slice-write-d-2 (λ c. search needs) returns)
+    tie.close (tie.spec (λ c. search needs) (λ c. search needs) (λ c. search needs) (λ c. search needs) slice-write-d-2
+    (λ c. search needs) returns)

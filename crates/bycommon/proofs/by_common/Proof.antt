@@ -5,14 +5,15 @@ use lib.ListN.{length}
 use Rattle.query.specs.Listings.{wholeFrom}
 use Rattle.wordlists.specs.Opened.{OpenedPages}
 use Rattle.questions.proofs.WroteLaws.{wrote-none}
-use Rattle.bycommon.proofs.TallyLaws.{whole-few, opened-answer, length-tallied}
+use Rattle.openlists.proofs.FewLaws.{whole-few}
+use Rattle.bycommon.proofs.TallyLaws.{opened-answer, length-tallied}
 use borrow.Author.Needs.{needs}
 use Rattle.bycommon.proofs.by_common.Statement.{statement}
 use Rattle.bycommon.proofs.by_common.Tie as tie
 
 -- the words' lists are opened
 opened : (c : tie.After-open-pages) → OpenedPages (c .before .before .before .before .before .args .card .now) (c .before .before .before .before .before .args .terms .now) (c .open-pages .last .1 .1 .0)
-opened c = c .open-pages .ensures
+opened c = c .open-pages .ensures .1
 
 add-if1 : tie.Need-add-if1
 add-if1 c =

@@ -2,7 +2,8 @@
 use native.Mathlib.Omega.{arith}
 use lib.ListN.{length-set}
 use Rattle.query.specs.Listings.{wholeFrom}
-use Rattle.bycommon.proofs.TallyLaws.{put-tally, whole-few}
+use Rattle.openlists.proofs.FewLaws.{whole-few}
+use Rattle.bycommon.proofs.TallyLaws.{put-tally}
 use borrow.Author.Needs.{needs}
 use Rattle.bycommon.proofs.put_common.Statement.{statement}
 use Rattle.bycommon.proofs.put_common.Tie as tie

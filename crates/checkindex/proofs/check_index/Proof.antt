@@ -25,26 +25,29 @@ returns c =
     let p = c .before .passed in
     let h = c .before .before in
     let s = h .before .before .args .card .now in
-    told-stop (p .result) (h .check-head .result) (headRefusal indexHeader s) (p .ensures) (h .check-head .ensures) (limited (indexN s) (indexT s) (inner s)) (c .if1 .taken)
+    told-stop (p .result) (h .check-head .result) (headRefusal indexHeader s) (p .ensures) (h .check-head .ensures)
+    (limited (indexN s) (indexT s) (inner s)) (c .if1 .taken)
     ∙ sym (index-then s)
 
 head-at : (c : tie.Else1) → headRefusal indexHeader (c .before .before .before .before .args .card .now) ≡ Accepted
 head-at c =
     let p = c .before .passed in
     let h = c .before .before in
-    told-passed (p .result) (h .check-head .result) (headRefusal indexHeader (h .before .before .args .card .now)) (p .ensures) (h .check-head .ensures) (c .if1 .left)
+    told-passed (p .result) (h .check-head .result)
+    (headRefusal indexHeader (h .before .before .args .card .now)) (p .ensures) (h .check-head .ensures) (c .if1 .left)
 
 header : (c : tie.Else1) → 11 ≤ length (c .before .before .before .before .args .card .now)
 header c = head-passed indexHeader (c .before .before .before .before .args .card .now) Accepted (head-at c) .0 .header
 
 behind-head : (c : tie.Else1)
-    → indexRefusal (c .before .before .before .before .args .card .now)
-    ≡ limited (indexN (c .before .before .before .before .args .card .now)) (indexT (c .before .before .before .before .args .card .now)) (inner (c .before .before .before .before .args .card .now))
+    → let a = c .before .before .before .before .args in
+    indexRefusal (a .card .now) ≡ limited (indexN (a .card .now)) (indexT (a .card .now)) (inner (a .card .now))
 behind-head c =
     let s = c .before .before .before .before .args .card .now in
     index-then s ∙ andThen-next (headRefusal indexHeader s) (limited (indexN s) (indexT s) (inner s)) (head-at c)
 
-N-at : (c : tie.After-read-u32) → c .read-u32 .result ≡ indexN (c .before .before .before .before .before .args .card .now)
+N-at : (c : tie.After-read-u32)
+    → c .read-u32 .result ≡ indexN (c .before .before .before .before .before .args .card .now)
 unfolding indexN
 N-at c = c .read-u32 .ensures .0
 
@@ -54,7 +57,8 @@ returns-2 c =
     let s = n .before .before .before .before .before .args .card .now in
     sym (behind-head (n .before) ∙ over-N (indexN s) (indexT s) (inner s) (omega (arith, N-at n, c .if2 .taken)))
 
-T-at : (c : tie.After-read-u16) → c .read-u16 .result ≡ indexT (c .before .before .before .before .before .before .before .args .card .now)
+T-at : (c : tie.After-read-u16)
+    → c .read-u16 .result ≡ indexT (c .before .before .before .before .before .before .before .args .card .now)
 unfolding indexT
 T-at c = c .read-u16 .ensures .0
 
@@ -63,7 +67,8 @@ returns-3 c =
     let t = c .before in
     let n = t .before .before in
     let s = n .before .before .before .before .before .args .card .now in
-    sym (behind-head (n .before) ∙ over-T (indexN s) (indexT s) (inner s) (omega (arith, N-at n, t .before .if2 .left)) (omega (arith, T-at t, c .if3 .taken)))
+    sym (behind-head (n .before) ∙ over-T (indexN s) (indexT s) (inner s) (omega (arith, N-at n, t .before .if2 .left))
+    (omega (arith, T-at t, c .if3 .taken)))
 
 returns-4 : tie.Need-returns-4
 returns-4 c =
@@ -74,7 +79,8 @@ returns-4 c =
     c .check-terms .ensures
     ∙ ap (termsRefusal (t .read-u16 .result) (n .read-u32 .result)) (part-behind 11 s)
     ∙ rw (T-at t, N-at n)
-    (sym (behind-head (n .before) ∙ within-limits (indexN s) (indexT s) (inner s) (omega (arith, N-at n, t .before .if2 .left)) (omega (arith, T-at t, e .if3 .left))))
+    (sym (behind-head (n .before) ∙ within-limits (indexN s) (indexT s) (inner s)
+    (omega (arith, N-at n, t .before .if2 .left)) (omega (arith, T-at t, e .if3 .left))))
 
 pub check-index-spec : {M : Type 1} → statement M
 check-index-spec =

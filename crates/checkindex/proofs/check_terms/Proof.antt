@@ -29,10 +29,11 @@ loop-holds c = (omega arith, refl)
 
 -- the first of the terms that are left, and then the others
 more : (c : tie.In-loop Inv-loop μ-loop)
-    → andThen (wordInside (c .before .before .before .args .n) (drop (c .before .loop .at) (c .before .before .before .args .s .now)))
-    (termsRefusal (c .before .loop .left - 1) (c .before .before .before .args .n)
-    (drop (stated (drop (c .before .loop .at) (c .before .before .before .args .s .now))) (drop (c .before .loop .at) (c .before .before .before .args .s .now))))
-    ≡ termsRefusal (c .before .before .before .args .t) (c .before .before .before .args .n) (c .before .before .before .args .s .now)
+    → let a = c .before .before .before .args in
+    let l = c .before .loop in
+    let rest = drop (l .at) (a .s .now) in
+    andThen (wordInside (a .n) rest) (termsRefusal (l .left - 1) (a .n) (drop (stated rest) rest))
+    ≡ termsRefusal (a .t) (a .n) (a .s .now)
 more c =
     let l = c .before in
     let a = l .before .before .args in
@@ -51,15 +52,20 @@ returns c =
     ∙ more (r .before)
 
 term-at : (c : tie.Else1 Inv-loop μ-loop)
-    → wordInside (c .before .before .before .before .before .before .args .n) (drop (c .before .before .before .before .loop .at) (c .before .before .before .before .before .before .args .s .now)) ≡ Accepted
+    → let l = c .before .before .before .before in
+    let a = l .before .before .args in
+    wordInside (a .n) (drop (l .loop .at) (a .s .now)) ≡ Accepted
 term-at c =
     let p = c .before .passed in
     let r = c .before .before in
     let l = r .before .before in
     let a = l .before .before .args in
-    told-passed (p .result) (r .check-inside .result) (wordInside (a .n) (drop (l .loop .at) (a .s .now))) (p .ensures) (r .check-inside .ensures) (c .if1 .left)
+    told-passed (p .result) (r .check-inside .result) (wordInside (a .n) (drop (l .loop .at) (a .s .now))) (p .ensures)
+    (r .check-inside .ensures) (c .if1 .left)
 
-here : (c : tie.Else1 Inv-loop μ-loop) → Held (c .before .before .before .before .loop .at) (c .before .before .before .before .before .before .args .s .now)
+here : (c : tie.Else1 Inv-loop μ-loop)
+    → let l = c .before .before .before .before in
+    Held (l .loop .at) (l .before .before .args .s .now)
 here c =
     let l = c .before .before .before .before in
     let a = l .before .before .args in
@@ -71,10 +77,11 @@ loop-again c =
     let r = e .before .before in
     let l = r .before .before in
     let a = l .before .before .args in
-    let rest = drop (l .loop .at) (a .s .now) in (
+    let rest = drop (l .loop .at) (a .s .now) in
+    let others = termsRefusal (l .loop .left - 1) (a .n) (drop (stated rest) rest) in (
       omega (arith, here e, c .read-u32 .ensures .0),
       rw (c .read-u32 .ensures .0, ← drop-next (l .loop .at) (a .s .now))
-          (sym (andThen-next (wordInside (a .n) rest) (termsRefusal (l .loop .left - 1) (a .n) (drop (stated rest) rest)) (term-at e)) ∙ more (r .before)),
+          (sym (andThen-next (wordInside (a .n) rest) others (term-at e)) ∙ more (r .before)),
     )
 
 returns-2 : tie.Need-returns-2 Inv-loop μ-loop
@@ -82,7 +89,8 @@ returns-2 c =
     let l = c .before .before in
     let a = l .before .before .args in
     let d = length-drop (l .loop .at) (a .s .now) in
-    sym (terms-over (l .loop .left) (a .n) (drop (l .loop .at) (a .s .now)) (omega (arith, c .before .loop-test .left)) (omega (arith, c .if2 .taken)))
+    sym (terms-over (l .loop .left) (a .n) (drop (l .loop .at) (a .s .now)) (omega (arith, c .before .loop-test .left))
+    (omega (arith, c .if2 .taken)))
     ∙ l .loop .inv .1
 
 returns-3 : tie.Need-returns-3 Inv-loop μ-loop
@@ -90,7 +98,8 @@ returns-3 c =
     let l = c .before .before in
     let a = l .before .before .args in
     let d = length-drop (l .loop .at) (a .s .now) in
-    sym (terms-done (l .loop .left) (a .n) (drop (l .loop .at) (a .s .now)) (omega (arith, c .before .loop-test .left)) (omega (arith, c .if2 .left)))
+    sym (terms-done (l .loop .left) (a .n) (drop (l .loop .at) (a .s .now)) (omega (arith, c .before .loop-test .left))
+    (omega (arith, c .if2 .left)))
     ∙ l .loop .inv .1
 
 pub check-terms-spec : {M : Type 1} → statement M

@@ -28,7 +28,8 @@ term-at : (c : tie.Else1) → termRefusal (c .before .before .before .before .ar
 term-at c =
     let p = c .before .passed in
     let t = c .before .before in
-    told-passed (p .result) (t .check-term .result) (termRefusal (t .before .before .args .block .now)) (p .ensures) (t .check-term .ensures) (c .if1 .left)
+    told-passed (p .result) (t .check-term .result)
+    (termRefusal (t .before .before .args .block .now)) (p .ensures) (t .check-term .ensures) (c .if1 .left)
 
 read-u32-requires : tie.Need-read-u32-requires
 read-u32-requires c κs =
@@ -38,30 +39,35 @@ read-u32-requires c κs =
     omega (arith, ap length (c .pages-of .ensures))
 
 -- the pages' U is read, and the refusal is by it
-U-at : (c : tie.After-read-u32) → c .read-u32 .result ≡ listU (pagesOf (c .before .before .before .before .before .before .args .block .now))
+U-at : (c : tie.After-read-u32)
+    → c .read-u32 .result ≡ listU (pagesOf (c .before .before .before .before .before .before .args .block .now))
 unfolding listU
 U-at c = c .read-u32 .ensures .0 ∙ ap listU (c .before .pages-of .ensures)
 
 by-N : (c : tie.After-read-u32)
-    → wordRefusal (c .before .before .before .before .before .before .args .n) (c .before .before .before .before .before .before .args .block .now)
-    ≡ cond (not (eqb (c .read-u32 .result) (c .before .before .before .before .before .before .args .n))) Parts Accepted
+    → let a = c .before .before .before .before .before .before .args in
+    wordRefusal (a .n) (a .block .now) ≡ cond (not (eqb (c .read-u32 .result) (a .n))) Parts Accepted
 by-N c =
     let e = c .before .before in
     let a = e .before .before .before .before .args in
-    andThen-next (termRefusal (a .block .now)) (cond (not (eqb (listU (pagesOf (a .block .now))) (a .n))) Parts Accepted) (term-at e)
+    andThen-next (termRefusal (a .block .now))
+    (cond (not (eqb (listU (pagesOf (a .block .now))) (a .n))) Parts Accepted) (term-at e)
     ∙ rw (U-at c)
 
 returns-2 : tie.Need-returns-2
 returns-2 c =
     let u = c .before in
-    sym (by-N u ∙ rw (ne-eqb (u .read-u32 .result) (u .before .before .before .before .before .before .args .n) (c .if2 .taken)))
+    sym (by-N u
+    ∙ rw (ne-eqb (u .read-u32 .result) (u .before .before .before .before .before .before .args .n) (c .if2 .taken)))
 
 returns-3 : tie.Need-returns-3
 returns-3 c =
     let u = c .before in
-    sym (by-N u ∙ rw (eq-eqb (u .read-u32 .result) (u .before .before .before .before .before .before .args .n) (c .if2 .left)))
+    sym (by-N u
+    ∙ rw (eq-eqb (u .read-u32 .result) (u .before .before .before .before .before .before .args .n) (c .if2 .left)))
 
 pub check-word-spec : {M : Type 1} → statement M
 check-word-spec =
     tie.close
-    (tie.spec (λ c κs. search needs) (λ c κs. search needs) returns (λ c κs. term-at c) read-u32-requires returns-2 returns-3)
+    (tie.spec (λ c κs. search needs) (λ c κs. search needs) returns
+    (λ c κs. term-at c) read-u32-requires returns-2 returns-3)

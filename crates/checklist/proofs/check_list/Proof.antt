@@ -1,6 +1,7 @@
 -- `check_list` gives the refusal: each test of the header is that of its number, and 6 is what `runs_ok` says.
 use mathlib.Core.Path.{_≡_, sym, ap, ap₂, _∙_}
-use Prim.Native.Nat.{_<_}
+use mathlib.Core.List.{List}
+use Prim.Native.Nat.{ℕ, _<_}
 use native.Mathlib.Omega.{arith}
 use borrow.Author.Needs.{needs}
 use borrow.Author.Tests.{not-true, not-false}
@@ -12,7 +13,8 @@ use Rattle.shape.specs.declared.Shape.{Shape}
 use Rattle.shape.specs.Shape.{shapeOf}
 use Rattle.listlaws.specs.Sound.{Framed}
 use Rattle.listlaws.proofs.SoundLaws.{none-block}
-use Rattle.listlaws.proofs.RefusalLaws.{refuse-short, refuse-length, refuse-version, refuse-limit, refuse-many, refuse-size, framed-accepted}
+use Rattle.listlaws.proofs.RefusalLaws.{refuse-short, refuse-length, refuse-version, refuse-limit}
+use Rattle.listlaws.proofs.RefusalLaws.{refuse-many, refuse-size, framed-accepted}
 use Rattle.checklist.proofs.CheckLaws.{shape-end, framed-laid, holds-accepted, holds-refused}
 use Rattle.checklist.proofs.check_list.Statement.{statement}
 use Rattle.checklist.proofs.check_list.Tie as tie
@@ -24,9 +26,26 @@ returns-2 : tie.Need-returns-2
 unfolding stated
 returns-2 c =
     let r = c .before in
-    sym (refuse-length (r .before .before .before .args .block .now) (r .before .if1 .left) (λ e. c .if2 .taken (r .read-u32 .ensures .0 ∙ e)))
+    sym (refuse-length (r .before .before .before .args .block .now) (r .before .if1 .left)
+    (λ e. c .if2 .taken (r .read-u32 .ensures .0 ∙ e)))
 
-stated-at : (c : tie.Else2) → stated (c .before .before .before .before .args .block .now) ≡ length (c .before .before .before .before .args .block .now)
+-- the block, seen from where each number of it is known
+abbrev by-length : tie.Else2 → List ℕ
+by-length c = c .before .before .before .before .args .block .now
+
+abbrev by-u : tie.After-read-u322 → List ℕ
+by-u c = by-length (c .before .before .before)
+
+abbrev by-n : tie.After-read-u323 → List ℕ
+by-n c = by-u (c .before .before)
+
+abbrev by-shape : tie.After-shape-of → List ℕ
+by-shape c = by-n (c .before .before)
+
+abbrev by-size : tie.Else6 → List ℕ
+by-size c = by-shape (c .before .before)
+
+stated-at : (c : tie.Else2) → stated (by-length c) ≡ length (by-length c)
 unfolding stated
 stated-at c = sym (c .before .read-u32 .ensures .0) ∙ c .if2 .left
 
@@ -38,11 +57,11 @@ returns-3 c =
 
 -- ---- U and n as they are read
 
-u-at : (c : tie.After-read-u322) → c .read-u322 .result ≡ listU (c .before .before .before .before .before .before .before .args .block .now)
+u-at : (c : tie.After-read-u322) → c .read-u322 .result ≡ listU (by-u c)
 unfolding listU
 u-at c = c .read-u322 .ensures .0
 
-n-at : (c : tie.After-read-u323) → c .read-u323 .result ≡ listN (c .before .before .before .before .before .before .before .before .before .args .block .now)
+n-at : (c : tie.After-read-u323) → c .read-u323 .result ≡ listN (by-n c)
 unfolding listN
 n-at c = c .read-u323 .ensures .0
 
@@ -51,7 +70,8 @@ returns-4 c =
     let v = c .before .before in
     let e = v .before .before in
     let h = e .before .before in
-    sym (refuse-limit (h .before .before .args .block .now) (h .if1 .left) (stated-at e) (v .if3 .left) (omega (arith, u-at (c .before), c .if4 .taken)))
+    sym (refuse-limit (h .before .before .args .block .now) (h .if1 .left) (stated-at e) (v .if3 .left)
+    (omega (arith, u-at (c .before), c .if4 .taken)))
 
 returns-5 : tie.Need-returns-5
 returns-5 c =
@@ -59,17 +79,16 @@ returns-5 c =
     let v = l .before .before in
     let e = v .before .before in
     let h = e .before .before in
-    sym (refuse-many (h .before .before .args .block .now) (h .if1 .left) (stated-at e) (v .if3 .left) (omega (arith, u-at (l .before), l .if4 .left)) (omega (arith, u-at (l .before), n-at (c .before), c .if5 .taken)))
+    sym (refuse-many (h .before .before .args .block .now) (h .if1 .left) (stated-at e) (v .if3 .left)
+    (omega (arith, u-at (l .before), l .if4 .left)) (omega (arith, u-at (l .before), n-at (c .before), c .if5 .taken)))
 
-shape-at : (c : tie.After-shape-of) → c .shape-of .result ≡ shapeOf (listU (c .before .before .before .before .before .before .before .before .before .before .before .args .block .now)) (listN (c .before .before .before .before .before .before .before .before .before .before .before .args .block .now))
+shape-at : (c : tie.After-shape-of) → c .shape-of .result ≡ shapeOf (listU (by-shape c)) (listN (by-shape c))
 shape-at c =
     let b = c .before in
     c .shape-of .ensures ∙ ap₂ shapeOf (u-at (b .before .before .before)) (n-at (b .before))
 
-end-at : (c : tie.After-shape-of) → c .shape-of .result .end ≡ size (listU (c .before .before .before .before .before .before .before .before .before .before .before .args .block .now)) (listN (c .before .before .before .before .before .before .before .before .before .before .before .args .block .now))
-end-at c =
-    let s = c .before .before .before .before .before .before .before .before .before .before .before .args .block .now in
-    ap (λ (g : Shape). g .end) (shape-at c) ∙ shape-end (listU s) (listN s)
+end-at : (c : tie.After-shape-of) → c .shape-of .result .end ≡ size (listU (by-shape c)) (listN (by-shape c))
+end-at c = ap (λ (g : Shape). g .end) (shape-at c) ∙ shape-end (listU (by-shape c)) (listN (by-shape c))
 
 returns-6 : tie.Need-returns-6
 returns-6 c =
@@ -79,9 +98,11 @@ returns-6 c =
     let v = l .before .before in
     let e = v .before .before in
     let h = e .before .before in
-    sym (refuse-size (h .before .before .args .block .now) (h .if1 .left) (stated-at e) (v .if3 .left) (omega (arith, u-at (l .before), l .if4 .left)) (omega (arith, u-at (l .before), n-at (m .before), m .if5 .left)) (λ q. c .if6 .taken (q ∙ sym (end-at g))))
+    sym (refuse-size (h .before .before .args .block .now) (h .if1 .left) (stated-at e) (v .if3 .left)
+    (omega (arith, u-at (l .before), l .if4 .left)) (omega (arith, u-at (l .before), n-at (m .before), m .if5 .left))
+    (λ q. c .if6 .taken (q ∙ sym (end-at g))))
 
-framed-at : (c : tie.Else6) → Framed (c .before .before .before .before .before .before .before .before .before .before .before .before .before .args .block .now)
+framed-at : (c : tie.Else6) → Framed (by-size c)
 framed-at c =
     let g = c .before .before in
     let m = g .before in
@@ -112,15 +133,14 @@ returns-7 c =
     sym (framed-accepted s (framed-at e) (none-block s (bytes-at k) (framed-at e) (sym (n-at n) ∙ c .if7 .taken)))
 
 -- the elements are at least one
-some-at : (c : tie.Else7) → 0 < listN (c .before .before .before .before .before .before .before .before .before .before .before .before .before .before .args .block .now)
+some-at : (c : tie.Else7) → 0 < listN (by-size (c .before))
 some-at c = omega (arith, n-at (c .before .before .before .before .before), c .if7 .left)
 
 runs-ok-requires : tie.Need-runs-ok-requires
 runs-ok-requires c κs =
     let e = c .before in
-    let s = e .before .before .before .before .before .before .before .before .before .before .before .before .before .args .block .now in
     let g = e .before .before in
-    framed-laid s (framed-at e) (some-at c) (g .shape-of .result) (shape-at g)
+    framed-laid (by-size e) (framed-at e) (some-at c) (g .shape-of .result) (shape-at g)
 
 returns-8 : tie.Need-returns-8
 returns-8 c =
@@ -128,7 +148,8 @@ returns-8 c =
     let e = r .before .before in
     let k = e .before .before .before .before .before .before .before .before .before .before .before .before in
     let g = e .before .before in
-    sym (holds-refused (k .before .args .block .now) (framed-at e) (some-at (r .before)) (g .shape-of .result) (shape-at g) (bytes-at k) (r .runs-ok .ensures .1 (not-true (r .runs-ok .result) (c .if8 .taken))))
+    sym (holds-refused (k .before .args .block .now) (framed-at e) (some-at (r .before)) (g .shape-of .result)
+    (shape-at g) (bytes-at k) (r .runs-ok .ensures .1 (not-true (r .runs-ok .result) (c .if8 .taken))))
 
 returns-9 : tie.Need-returns-9
 returns-9 c =
@@ -136,7 +157,8 @@ returns-9 c =
     let e = r .before .before in
     let k = e .before .before .before .before .before .before .before .before .before .before .before .before in
     let g = e .before .before in
-    sym (holds-accepted (k .before .args .block .now) (framed-at e) (some-at (r .before)) (g .shape-of .result) (shape-at g) (bytes-at k) (r .runs-ok .ensures .0 (not-false (r .runs-ok .result) (c .if8 .left))))
+    sym (holds-accepted (k .before .args .block .now) (framed-at e) (some-at (r .before)) (g .shape-of .result)
+    (shape-at g) (bytes-at k) (r .runs-ok .ensures .0 (not-false (r .runs-ok .result) (c .if8 .left))))
 
 pub check-list-spec : {M : Type 1} → statement M
 check-list-spec =

@@ -1,4 +1,5 @@
--- `climb` reads the elements of a word. The loop's invariant: what is left is the word with the ones that were read cleared.
+-- `climb` reads the elements of a word. The loop's invariant:
+-- what is left is the word with the ones that were read cleared.
 use mathlib.Core.Bool.{true≢false, false≢true}
 use mathlib.Core.Path.{_≡_, refl, ap}
 use Prim.Native.Nat.{_+_, _-_, _*_, _%_, _^_, _<_}
@@ -10,7 +11,8 @@ use Rattle.laws.proofs.CountLaws.{next-word}
 use Rattle.checklist.specs.declared.Low.{Low}
 use Rattle.checklist.proofs.LowLaws.{held-room}
 use Rattle.checklist.proofs.ClimbLaws.{elementAt}
-use Rattle.checklist.proofs.TurnLaws.{Word, Peeled, Turn, peeled-start, peeled-end, turn-lt, turn-below, turn-more, turn-value, turn-small, turn-refuse, turn-next}
+use Rattle.checklist.proofs.TurnLaws.{Word, Peeled, Turn, peeled-start, peeled-end, turn-lt, turn-below}
+use Rattle.checklist.proofs.TurnLaws.{turn-more, turn-value, turn-small, turn-refuse, turn-next}
 use Rattle.checklist.proofs.climb.Statement.{statement}
 use Rattle.checklist.proofs.climb.Tie as tie
 
@@ -24,7 +26,8 @@ loop-holds : tie.Need-loop-holds Inv-loop μ-loop
 loop-holds c =
     let b = c .before .before in
     let a = b .args in
-    peeled-start (a .s .now) (a .g) (a .k) (a .x) (a .m .i) (a .m .least) (a .m .low) (b .pre .0 .at .climbed) (b .pre .0 .at .held)
+    peeled-start (a .s .now) (a .g) (a .k) (a .x) (a .m .i) (a .m .least) (a .m .low) (b .pre .0 .at .climbed)
+    (b .pre .0 .at .held)
 
 -- what is known of the word, where an element is left in it, and once its low part is read
 word-at : (c : tie.Start Inv-loop μ-loop) → Word (c .args .s .now) (c .args .g) (c .args .k) (c .args .x)
@@ -32,15 +35,39 @@ word-at c =
     let p = c .pre in
     let a = c .args in
     let f : a .x < 2 ^ 64 = omega arith in
-    record { laid = p .0 .laid; inside = p .0 .inside; is = p .0 .word-is; fits = f; total = omega (arith, next-word (a .s .now) (a .g .upper) (a .k) (a .x) (p .0 .word-is) f, p .0 .at .climbed .counted, p .1) }
+    record {
+      laid = p .0 .laid;
+      inside = p .0 .inside;
+      is = p .0 .word-is;
+      fits = f;
+      total = omega (
+        arith,
+        next-word (a .s .now) (a .g .upper) (a .k) (a .x) (p .0 .word-is) f,
+        p .0 .at .climbed .counted,
+        p .1,
+      );
+    }
 
-turn-at : (c : tie.In-loop Inv-loop μ-loop) → Turn (c .before .before .before .before .args .s .now) (c .before .before .before .before .args .g) (c .before .before .before .before .args .k) (c .before .before .before .before .args .x) (c .before .loop .rest) (c .before .loop .i) (c .before .loop .least) (c .before .loop .low)
-turn-at c = record { word = word-at (c .before .before .before .before); peeled = c .before .loop .inv; some = omega arith }
+turn-at : (c : tie.In-loop Inv-loop μ-loop)
+    → let a = c .before .before .before .before .args in
+    let l = c .before .loop in
+    Turn (a .s .now) (a .g) (a .k) (a .x) (l .rest) (l .i) (l .least) (l .low)
+turn-at c = record {
+  word = word-at (c .before .before .before .before);
+  peeled = c .before .loop .inv;
+  some = omega arith;
+}
 
-value-at : (c : tie.After-next-low Inv-loop μ-loop) →
-    ((64 * c .before .before .before .before .before .args .k + trailingZeros 64 (c .before .before .loop .rest) - c .before .before .loop .i) * 2 ^ c .before .before .before .before .before .args .g .w) % 2 ^ 64 + c .next-low .result .part
-    ≡ elementAt (c .before .before .before .before .before .args .s .now) (c .before .before .before .before .before .args .g) (64 * c .before .before .before .before .before .args .k + trailingZeros 64 (c .before .before .loop .rest)) (c .before .before .loop .i)
-value-at c = turn-value (turn-at (c .before)) (64 * c .before .before .before .before .before .args .k + trailingZeros 64 (c .before .before .loop .rest) - c .before .before .loop .i) (c .next-low .result .part) refl (ap (λ (l : Low). l .part) (c .next-low .ensures))
+value-at : (c : tie.After-next-low Inv-loop μ-loop)
+    → let a = c .before .before .before .before .before .args in
+    let l = c .before .before .loop in
+    ((64 * a .k + trailingZeros 64 (l .rest) - l .i) * 2 ^ a .g .w) % 2 ^ 64 + c .next-low .result .part
+    ≡ elementAt (a .s .now) (a .g) (64 * a .k + trailingZeros 64 (l .rest)) (l .i)
+value-at c =
+    let a = c .before .before .before .before .before .args in
+    let l = c .before .before .loop in
+    turn-value (turn-at (c .before)) (64 * a .k + trailingZeros 64 (l .rest) - l .i) (c .next-low .result .part) refl
+    (ap (λ (l : Low). l .part) (c .next-low .ensures))
 
 place : tie.Need-add-high Inv-loop μ-loop
 unfolding wordsFor
@@ -62,7 +89,10 @@ add-v : tie.Need-add-v Inv-loop μ-loop
 add-v c = omega (arith, turn-small (turn-at (c .before .before)) _ (value-at (c .before)))
 
 returns : tie.Need-returns Inv-loop μ-loop
-returns c = (λ e. absurd (false≢true e), λ _. turn-refuse (turn-at (c .before .before .before)) _ (value-at (c .before .before)) (c .if1 .taken))
+returns c = (
+  λ e. absurd (false≢true e),
+  λ _. turn-refuse (turn-at (c .before .before .before)) _ (value-at (c .before .before)) (c .if1 .taken),
+)
 
 add-least : tie.Need-add-least Inv-loop μ-loop
 add-least c = omega (arith, turn-small (turn-at (c .before .before .before)) _ (value-at (c .before .before)))
@@ -90,7 +120,11 @@ returns-2 c =
     let o = word-at b in
     let e = peeled-end o (lp .loop .inv) (c .loop-test .left) in
     let n = next-word (a .s .now) (a .g .upper) (a .k) (a .x) (o .is) (o .fits) in (
-      λ _. record { all = omega (arith, e .counted, n, b .pre .0 .at .climbed .counted); climbed = e; held = lp .loop .inv .held },
+      λ _. record {
+        all = omega (arith, e .counted, n, b .pre .0 .at .climbed .counted);
+        climbed = e;
+        held = lp .loop .inv .held;
+      },
       λ z. absurd (true≢false z),
     )
 

@@ -11,7 +11,8 @@ returns : tie.Need-returns
 returns c =
     let b = c .before .before .before in
     let p = b .pre .0 in
-    low-near (b .args .s .now) (b .args .low) (b .args .w) (p .0) (omega arith) (p .1) (p .2) (c .field-of .result) (c .field-of .ensures) (c .before .if1 .taken)
+    low-near (b .args .s .now) (b .args .low) (b .args .w) (p .0) (omega arith) (p .1) (p .2) (c .field-of .result)
+    (c .field-of .ensures) (c .before .if1 .taken)
 
 -- the next word is there
 room : (c : tie.Else1) → c .before .before .args .low .at + 16 ≤ length (c .before .before .args .s .now)
@@ -25,7 +26,8 @@ returns-2 c =
     let r = c .before in
     let b = r .before .before .before in
     let p = b .pre .0 in
-    low-far (b .args .s .now) (b .args .low) (b .args .w) (p .0) (omega arith) (p .1) (p .2) (c .field-of2 .result) (r .read-u64 .result) (r .read-u64 .ensures) (c .field-of2 .ensures) (r .before .if1 .left)
+    low-far (b .args .s .now) (b .args .low) (b .args .w) (p .0) (omega arith) (p .1) (p .2) (c .field-of2 .result)
+    (r .read-u64 .result) (r .read-u64 .ensures) (c .field-of2 .ensures) (r .before .if1 .left)
 
 pub next-low-spec : {M : Type 1} → statement M
 next-low-spec =

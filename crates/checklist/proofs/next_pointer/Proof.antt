@@ -1,4 +1,5 @@
--- `next_pointer` gives the next number: the same where the word decides no pointer, else one more, or 0 where that pointer is wrong.
+-- `next_pointer` gives the next number:
+-- the same where the word decides no pointer, else one more, or 0 where that pointer is wrong.
 use Prim.Native.Nat.{_*_}
 use native.Mathlib.Omega.{arith}
 use borrow.Author.Needs.{needs}
@@ -18,21 +19,30 @@ returns : tie.Need-returns
 returns c =
     let b = c .before .before .before in
     let a = b .args in
-    let p = b .pre .at .pointed in
-    (λ _. pointed-same (a .s .now) (a .g) (a .k) (a .m .i) (a .m .next) (ones (a .x)) p (λ l. absurd (omega (arith, c .if1 .taken))), λ z. absurd (omega (arith, p .first)))
+    let p = b .pre .at .pointed in (
+      λ _. pointed-same (a .s .now) (a .g) (a .k) (a .m .i) (a .m .next) (ones (a .x)) p
+          (λ l. absurd (omega (arith, c .if1 .taken))),
+      λ z. absurd (omega (arith, p .first)),
+    )
 
 returns-2 : tie.Need-returns-2
 returns-2 c =
     let b = c .before .before .before .before in
     let a = b .args in
-    let p = b .pre .at .pointed in
-    (λ _. pointed-same (a .s .now) (a .g) (a .k) (a .m .i) (a .m .next) (ones (a .x)) p (λ _. c .if2 .taken), λ z. absurd (omega (arith, p .first)))
+    let p = b .pre .at .pointed in (
+      λ _. pointed-same (a .s .now) (a .g) (a .k) (a .m .i) (a .m .next) (ones (a .x)) p (λ _. c .if2 .taken),
+      λ z. absurd (omega (arith, p .first)),
+    )
 
 pointer-ok-requires : tie.Need-pointer-ok-requires
 pointer-ok-requires c κs =
     let b = c .before .before .before .before in
-    let m = small-at b in
-    (pointer-room (b .args .s .now) (b .args .g) (b .args .m .next) (b .pre .laid) (c .before .if1 .left), m .next, omega (arith, m .place), omega (arith, m .elements))
+    let m = small-at b in (
+      pointer-room (b .args .s .now) (b .args .g) (b .args .m .next) (b .pre .laid) (c .before .if1 .left),
+      m .next,
+      omega (arith, m .place),
+      omega (arith, m .elements),
+    )
 
 returns-3 : tie.Need-returns-3
 returns-3 c =
@@ -41,7 +51,9 @@ returns-3 c =
     let a = b .args in
     let p = b .pre in
     let st = t .pointer-ok .ensures .0 (c .if3 .taken) in (
-      λ _. pointed-next (a .s .now) (a .g) (a .k) (a .m .i) (a .m .next) (ones (a .x)) (p .at .pointed) (p .laid) (t .before .before .if1 .left) (stands-after (a .s .now) (a .g .upper) (a .k) (a .x) (a .m .i) (p .word-is) (p .at .climbed .counted) (256 * a .m .next) _ st),
+      λ _. pointed-next (a .s .now) (a .g) (a .k) (a .m .i) (a .m .next) (ones (a .x)) (p .at .pointed) (p .laid)
+          (t .before .before .if1 .left) (stands-after (a .s .now) (a .g .upper) (a .k) (a .x) (a .m .i) (p .word-is)
+          (p .at .climbed .counted) (256 * a .m .next) _ st),
       λ z. absurd (omega arith),
     )
 
@@ -54,7 +66,10 @@ returns-4 c =
       λ z. absurd (omega arith),
       λ _ h.
           t .pointer-ok .ensures .1 (c .if3 .left)
-          (after-stands (a .s .now) (a .g .upper) (a .k) (a .x) (a .m .i) (p .word-is) (p .at .climbed .counted) (256 * a .m .next) _ (omega arith) (h .pointers-are (a .m .next) (p .at .pointed .first) (t .before .before .if1 .left)) (p .at .pointed .ahead (t .before .before .if1 .left)) (t .before .if2 .left)),
+          (after-stands (a .s .now) (a .g .upper) (a .k) (a .x) (a .m .i) (p .word-is)
+          (p .at .climbed .counted) (256 * a .m .next) _ (omega arith)
+          (h .pointers-are (a .m .next) (p .at .pointed .first) (t .before .before .if1 .left))
+          (p .at .pointed .ahead (t .before .before .if1 .left)) (t .before .if2 .left)),
     )
 
 pub next-pointer-spec : {M : Type 1} → statement M

@@ -8,7 +8,9 @@ use Rattle.checklist.proofs.HoldLaws.{refuse-many}
 use Rattle.checklist.proofs.one_word.Statement.{statement}
 use Rattle.checklist.proofs.one_word.Tie as tie
 
-small-at : (c : tie.After-run-word) → Small (c .before .before .args .s .now) (c .before .before .args .g) (c .before .before .args .m) (c .run-word .result) (c .before .before .args .k)
+small-at : (c : tie.After-run-word)
+    → let a = c .before .before .args in
+    Small (a .s .now) (a .g) (a .m) (c .run-word .result) (a .k)
 small-at c =
     let b = c .before .before in
     let a = b .args in
@@ -20,11 +22,15 @@ returns c =
     let b = r .before .before in
     let a = b .args in (
       λ t. absurd (true≢false (sym t ∙ c .refused .ensures)),
-      λ _. refuse-many (a .s .now) (a .g) (b .pre .0) (a .k) (r .run-word .result) (a .m .i) (b .pre .2) (r .run-word .ensures) (omega arith) (b .pre .1 .climbed .counted) (c .before .if1 .taken),
+      λ _. refuse-many (a .s .now) (a .g) (b .pre .0) (a .k) (r .run-word .result) (a .m .i) (b .pre .2)
+          (r .run-word .ensures) (omega arith) (b .pre .1 .climbed .counted) (c .before .if1 .taken),
     )
 
 returns-2 : tie.Need-returns-2
-returns-2 c = (λ t. absurd (true≢false (sym t ∙ c .refused2 .ensures)), λ _. c .before .before .next-pointer .ensures .1 (c .before .if2 .taken))
+returns-2 c = (
+  λ t. absurd (true≢false (sym t ∙ c .refused2 .ensures)),
+  λ _. c .before .before .next-pointer .ensures .1 (c .before .if2 .taken),
+)
 
 returns-3 : tie.Need-returns-3
 returns-3 c =

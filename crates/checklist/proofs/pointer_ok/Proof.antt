@@ -20,16 +20,21 @@ returns-2 c = (λ e. absurd (false≢true e), λ _ a. omega (arith, a .within, c
 returns-3 : tie.Need-returns-3
 unfolding bit
 returns-3 c =
-    let r = c .before .before .before .read-u32 in
-    (λ e. absurd (false≢true e), λ _ a. c .if3 .taken (ap (λ (p : ℕ). c .before .before .before .before .before .args .x / 2 ^ (p - c .before .before .before .before .before .args .base - 1) % 2) (r .ensures .0) ∙ a .zero-last))
+    let r = c .before .before .before in
+    let b = r .before .before .args in (
+      λ e. absurd (false≢true e),
+      λ _ a. c .if3 .taken (ap (λ (p : ℕ). b .x / 2 ^ (p - b .base - 1) % 2) (r .read-u32 .ensures .0) ∙ a .zero-last),
+    )
 
 returns-4 : tie.Need-returns-4
 returns-4 c =
     let r = c .before .before .before .before in
     let a = r .before .before .args in
     let p = r .read-u32 .result in
-    subst (λ (q : ℕ). Tells (eqb (256 * a .q + a .i + c .ones-below .result) p) (Stands (a .x) (a .base) (a .i) (256 * a .q) q)) (r .read-u32 .ensures .0)
-    (stands-tells (a .x) (a .base) (a .i) (256 * a .q) p (c .ones-below .result) (omega arith) (omega arith) (c .before .if3 .left) (c .ones-below .ensures .0))
+    let equal = eqb (256 * a .q + a .i + c .ones-below .result) p in
+    subst (λ (q : ℕ). Tells equal (Stands (a .x) (a .base) (a .i) (256 * a .q) q)) (r .read-u32 .ensures .0)
+    (stands-tells (a .x) (a .base) (a .i) (256 * a .q) p (c .ones-below .result) (omega arith) (omega arith)
+    (c .before .if3 .left) (c .ones-below .ensures .0))
 
 pub pointer-ok-spec : {M : Type 1} → statement M
 pointer-ok-spec =

@@ -39,12 +39,18 @@ read-u64-requires c κs =
 
 loop-holds : tie.Need-loop-holds Inv-loop μ-loop
 loop-holds c =
-    let b = c .before .before .before .before .before .before .before .before in
-    (omega arith, at-start (b .args .s .now) (b .args .g) (b .pre) (c .before .read-u64 .result) (c .before .read-u64 .ensures))
+    let b = c .before .before .before .before .before .before .before .before in (
+      omega arith,
+      at-start (b .args .s .now) (b .args .g) (b .pre) (c .before .read-u64 .result) (c .before .read-u64 .ensures),
+    )
 
 one-word-requires : tie.Need-one-word-requires Inv-loop μ-loop
 unfolding wordsFor
-one-word-requires c κs = (c .before .before .before .before .before .before .before .before .before .before .pre, c .before .loop .inv .1, c .loop-test .taken)
+one-word-requires c κs = (
+  c .before .before .before .before .before .before .before .before .before .before .pre,
+  c .before .loop .inv .1,
+  c .loop-test .taken,
+)
 
 returns-3 : tie.Need-returns-3 Inv-loop μ-loop
 returns-3 c =
@@ -53,19 +59,26 @@ returns-3 c =
 
 loop-again : tie.Need-loop-again Inv-loop μ-loop
 loop-again c =
-    let r = c .before .before in
-    (omega (arith, r .before .loop-test .taken), r .one-word .ensures .0 (not-false (r .one-word .result .ok) (c .if3 .left)))
+    let r = c .before .before in (
+      omega (arith, r .before .loop-test .taken),
+      r .one-word .ensures .0 (not-false (r .one-word .result .ok) (c .if3 .left)),
+    )
 
 -- all words are passed
-end-at : (c : tie.After-loop Inv-loop μ-loop) → At (c .before .before .before .before .before .before .before .before .before .before .args .s .now) (c .before .before .before .before .before .before .before .before .before .before .args .g) (wordsFor (c .before .before .before .before .before .before .before .before .before .before .args .g .bits)) (c .before .loop .m)
+end-at : (c : tie.After-loop Inv-loop μ-loop)
+    → let a = c .before .before .before .before .before .before .before .before .before .before .args in
+    At (a .s .now) (a .g) (wordsFor (a .g .bits)) (c .before .loop .m)
 unfolding wordsFor
 end-at c =
     let b = c .before .before .before .before .before .before .before .before .before .before in
-    let k : c .before .loop .k ≡ (b .args .g .bits + 63) / 64 = omega (arith, c .before .loop .inv .0, c .loop-test .left) in
+    let k : c .before .loop .k ≡ (b .args .g .bits + 63) / 64 =
+    omega (arith, c .before .loop .inv .0, c .loop-test .left) in
     rw k at (c .before .loop .inv .1)
 
 -- and the spare bits of the upper run are 0
-spare-at : (c : tie.Else1 Inv-loop μ-loop) → Clear (c .before .before .before .args .s .now) (c .before .before .before .args .g .upper) (c .before .before .before .args .g .bits)
+spare-at : (c : tie.Else1 Inv-loop μ-loop)
+    → let a = c .before .before .before .args in
+    Clear (a .s .now) (a .g .upper) (a .g .bits)
 spare-at c =
     let r = c .before .spare-clear in
     r .ensures .0 (not-false (r .result) (c .if1 .left))
@@ -73,8 +86,10 @@ spare-at c =
 returns-4 : tie.Need-returns-4 Inv-loop μ-loop
 returns-4 c =
     let l = c .before .before .before in
-    let b = l .before .before .before .before .before .before .before .before .before .before in
-    (λ e. absurd (false≢true e), λ _. refuse-count (b .args .s .now) (b .args .g) (b .pre) (l .before .loop .m) (end-at l) (c .if4 .taken))
+    let b = l .before .before .before .before .before .before .before .before .before .before in (
+      λ e. absurd (false≢true e),
+      λ _. refuse-count (b .args .s .now) (b .args .g) (b .pre) (l .before .loop .m) (end-at l) (c .if4 .taken),
+    )
 
 returns-5 : tie.Need-returns-5 Inv-loop μ-loop
 returns-5 c =
@@ -86,7 +101,8 @@ returns-5 c =
     let s = b .args .s .now in
     let g = b .args .g in
     let m = l .before .loop .m in (
-      λ t. holds s g (b .pre) m (end-at l) (spare-at f) (r .ensures .0 (not-false (r .result) (e .if2 .left))) (c .before .before .if4 .left) (leb-true (m .least) (g .u) t),
+      λ t. holds s g (b .pre) m (end-at l) (spare-at f) (r .ensures .0 (not-false (r .result) (e .if2 .left)))
+          (c .before .before .if4 .left) (leb-true (m .least) (g .u) t),
       λ t. refuse-bound s g (b .pre) m (end-at l) (spare-at f) (leb-false (m .least) (g .u) t),
     )
 

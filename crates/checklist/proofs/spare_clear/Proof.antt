@@ -22,8 +22,10 @@ returns-2 : tie.Need-returns-2
 returns-2 c =
     let a = c .before .before .before .args in
     let x = c .run-word .result in (
-      λ t. shr-clear (a .s .now) (a .at) (a .size) x (c .run-word .ensures) (omega arith) (omega arith) (eqb-true (x / 2 ^ (a .size % 64)) 0 t),
-      λ t z. eqb-false (x / 2 ^ (a .size % 64)) 0 t (clear-shr (a .s .now) (a .at) (a .size) x (c .run-word .ensures) (omega arith) (omega arith) z),
+      λ t. shr-clear (a .s .now) (a .at) (a .size) x (c .run-word .ensures) (omega arith) (omega arith)
+          (eqb-true (x / 2 ^ (a .size % 64)) 0 t),
+      λ t z. eqb-false (x / 2 ^ (a .size % 64)) 0 t
+          (clear-shr (a .s .now) (a .at) (a .size) x (c .run-word .ensures) (omega arith) (omega arith) z),
     )
 
 pub spare-clear-spec : {M : Type 1} → statement M

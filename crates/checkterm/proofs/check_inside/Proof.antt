@@ -11,14 +11,16 @@ returns c =
     let p = c .before .passed in
     let f = c .before .before in
     let a = f .before .before .args in
-    front-refused 13 (a .at) (a .block .now) (p .result) (f .check-front .result) (p .ensures) (f .check-front .ensures) listRefusal (c .if1 .taken)
+    front-refused 13 (a .at) (a .block .now) (p .result) (f .check-front .result) (p .ensures)
+    (f .check-front .ensures) listRefusal (c .if1 .taken)
 
 part-at-requires : tie.Need-part-at-requires
 part-at-requires c κs =
     let p = c .before .passed in
     let f = c .before .before in
     let b = f .before .before in
-    front-held 13 (b .args .at) (b .args .block .now) (p .result) (f .check-front .result) (p .ensures) (f .check-front .ensures) (lit≤ tt) (b .pre) (c .if1 .left)
+    front-held 13 (b .args .at) (b .args .block .now) (p .result) (f .check-front .result) (p .ensures)
+    (f .check-front .ensures) (lit≤ tt) (b .pre) (c .if1 .left)
 
 returns-2 : tie.Need-returns-2
 returns-2 c =
@@ -27,7 +29,8 @@ returns-2 c =
     let p = e .before .passed in
     let f = e .before .before in
     let a = f .before .before .args in
-    front-answers 13 (a .at) (a .block .now) (p .result) (f .check-front .result) (p .ensures) (f .check-front .ensures) listRefusal
+    front-answers 13 (a .at) (a .block .now) (p .result) (f .check-front .result) (p .ensures)
+    (f .check-front .ensures) listRefusal
     (m .result .now) (c .check-list .result) (e .if1 .left) (m .ensures) (c .check-list .ensures)
 
 pub check-inside-spec : {M : Type 1} → statement M

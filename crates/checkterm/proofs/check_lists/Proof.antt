@@ -20,7 +20,8 @@ use Rattle.checkterm.proofs.check_lists.Statement.{statement}
 use Rattle.checkterm.proofs.check_lists.Tie as tie
 
 abbrev Inv-loop : tie.InvT-loop
-Inv-loop block at₀ left₀ at left = (at ≤ length block) × (listsRefusal left (drop at block) ≡ listsRefusal 3 (listsOf block))
+Inv-loop block at₀ left₀ at left =
+    (at ≤ length block) × (listsRefusal left (drop at block) ≡ listsRefusal 3 (listsOf block))
 
 abbrev μ-loop : tie.MeasureT-loop
 μ-loop block at₀ left₀ at left = left
@@ -31,35 +32,44 @@ loop-holds c = (c .before .pre, refl)
 
 -- the first of the lists that are left, and then the others
 more : (c : tie.In-loop Inv-loop μ-loop)
-    → andThen (inside listHeader listRefusal (drop (c .before .loop .at) (c .before .before .before .args .block .now)))
-    (listsRefusal (c .before .loop .left - 1) (drop (stated (drop (c .before .loop .at) (c .before .before .before .args .block .now))) (drop (c .before .loop .at) (c .before .before .before .args .block .now))))
-    ≡ listsRefusal 3 (listsOf (c .before .before .before .args .block .now))
+    → let l = c .before .loop in
+    let s = c .before .before .before .args .block .now in
+    let rest = drop (l .at) s in
+    andThen (inside listHeader listRefusal rest) (listsRefusal (l .left - 1) (drop (stated rest) rest))
+    ≡ listsRefusal 3 (listsOf s)
 more c =
     let l = c .before in
     let m : l .loop .left ≡ suc (l .loop .left - 1) = omega (arith, c .loop-test .taken) in
-    sym (lists-more (l .loop .left) (l .loop .left - 1) (drop (l .loop .at) (l .before .before .args .block .now)) m) ∙ l .loop .inv .1
+    sym (lists-more (l .loop .left) (l .loop .left - 1) (drop (l .loop .at) (l .before .before .args .block .now)) m)
+    ∙ l .loop .inv .1
 
 returns : tie.Need-returns Inv-loop μ-loop
 returns c =
     let r = c .before .before in
     let l = r .before .before in
     let rest = drop (l .loop .at) (l .before .before .args .block .now) in
-    told-stop (c .before .passed .result) (r .check-inside .result) (inside listHeader listRefusal rest) (c .before .passed .ensures) (r .check-inside .ensures)
+    told-stop (c .before .passed .result) (r .check-inside .result) (inside listHeader listRefusal rest)
+    (c .before .passed .ensures) (r .check-inside .ensures)
     (listsRefusal (l .loop .left - 1) (drop (stated rest) rest)) (c .if1 .taken)
     ∙ more (r .before)
 
 list-at : (c : tie.Else1 Inv-loop μ-loop)
-    → inside listHeader listRefusal (drop (c .before .before .before .before .loop .at) (c .before .before .before .before .before .before .args .block .now)) ≡ Accepted
+    → let l = c .before .before .before .before in
+    inside listHeader listRefusal (drop (l .loop .at) (l .before .before .args .block .now)) ≡ Accepted
 list-at c =
     let r = c .before .before in
     let l = r .before .before in
-    told-passed (c .before .passed .result) (r .check-inside .result) (inside listHeader listRefusal (drop (l .loop .at) (l .before .before .args .block .now)))
+    told-passed (c .before .passed .result) (r .check-inside .result)
+    (inside listHeader listRefusal (drop (l .loop .at) (l .before .before .args .block .now)))
     (c .before .passed .ensures) (r .check-inside .ensures) (c .if1 .left)
 
-here : (c : tie.Else1 Inv-loop μ-loop) → Held (c .before .before .before .before .loop .at) (c .before .before .before .before .before .before .args .block .now)
+here : (c : tie.Else1 Inv-loop μ-loop)
+    → let l = c .before .before .before .before in
+    Held (l .loop .at) (l .before .before .args .block .now)
 here c =
     let l = c .before .before .before .before in
-    inside-held listHeader listRefusal (l .loop .at) (l .before .before .args .block .now) (lit≤ tt) (l .loop .inv .0) (list-at c)
+    inside-held listHeader listRefusal (l .loop .at) (l .before .before .args .block .now)
+    (lit≤ tt) (l .loop .inv .0) (list-at c)
 
 loop-again : tie.Need-loop-again Inv-loop μ-loop
 loop-again c =
@@ -67,16 +77,18 @@ loop-again c =
     let r = e .before .before in
     let l = r .before .before in
     let s = l .before .before .args .block .now in
-    let rest = drop (l .loop .at) s in (
+    let rest = drop (l .loop .at) s in
+    let others = listsRefusal (l .loop .left - 1) (drop (stated rest) rest) in (
       omega (arith, here e, c .read-u32 .ensures .0),
       rw (c .read-u32 .ensures .0, ← drop-next (l .loop .at) s)
-          (sym (andThen-next (inside listHeader listRefusal rest) (listsRefusal (l .loop .left - 1) (drop (stated rest) rest)) (list-at e)) ∙ more (r .before)),
+          (sym (andThen-next (inside listHeader listRefusal rest) others (list-at e)) ∙ more (r .before)),
     )
 
 returns-2 : tie.Need-returns-2 Inv-loop μ-loop
 returns-2 c =
     let l = c .before in
-    sym (lists-none (l .loop .left) (drop (l .loop .at) (l .before .before .args .block .now)) (omega (arith, c .loop-test .left))) ∙ l .loop .inv .1
+    let rest = drop (l .loop .at) (l .before .before .args .block .now) in
+    sym (lists-none (l .loop .left) rest (omega (arith, c .loop-test .left))) ∙ l .loop .inv .1
 
 pub check-lists-spec : {M : Type 1} → statement M
 check-lists-spec =

@@ -32,7 +32,9 @@ disagree-requires c κs =
     )
 
 -- what is left to tell
-rest-at : (c : tie.After-disagree) → restRefusal (c .before .before .before .before .before .before .before .before .args .block .now) ≡ cond (c .disagree .result) Parts Accepted
+rest-at : (c : tie.After-disagree)
+    → restRefusal (c .before .before .before .before .before .before .before .before .args .block .now)
+    ≡ cond (c .disagree .result) Parts Accepted
 rest-at c =
     let q = c .before in
     let e = q .before .before .before in
@@ -40,7 +42,8 @@ rest-at c =
     let s = p .before .before .args .block .now in
     rest-none s (omega (arith, end-at p, e .if1 .left))
     ∙ ap (λ (b : Bool). cond b Parts Accepted)
-    (sym (c .disagree .ensures ∙ disagree-parts s (q .before .before .block-of .result .now) (q .before .block-of2 .result .now) (q .block-of3 .result .now)
+    (sym (c .disagree .ensures ∙ disagree-parts s (q .before .before .block-of .result .now)
+    (q .before .block-of2 .result .now) (q .block-of3 .result .now)
     (q .before .before .block-of .ensures) (q .before .block-of2 .ensures) (q .block-of3 .ensures)))
 
 returns-2 : tie.Need-returns-2
@@ -55,9 +58,12 @@ check-rest-spec =
     (tie.spec
     (λ c κs. lists-walk (c .before .args .block .now) (c .before .pre) 2 (lit< tt))
     returns
-    (λ c κs. lists-walk (c .before .before .before .before .args .block .now) (c .before .before .before .before .pre) 0 (lit< tt))
-    (λ c κs. lists-walk (c .before .before .before .before .before .args .block .now) (c .before .before .before .before .before .pre) 1 (lit< tt))
-    (λ c κs. lists-walk (c .before .before .before .before .before .before .args .block .now) (c .before .before .before .before .before .before .pre) 2 (lit< tt))
+    (λ c κs. lists-walk (c .before .before .before .before .args .block .now)
+    (c .before .before .before .before .pre) 0 (lit< tt))
+    (λ c κs. lists-walk (c .before .before .before .before .before .args .block .now)
+    (c .before .before .before .before .before .pre) 1 (lit< tt))
+    (λ c κs. lists-walk (c .before .before .before .before .before .before .args .block .now)
+    (c .before .before .before .before .before .before .pre) 2 (lit< tt))
     disagree-requires
     returns-2
     returns-3)

@@ -33,9 +33,12 @@ unfolding listN
 returns c =
     let r = c .before in
     let a = r .before .before .before .before .before .args in
-    sym (differ-n (a .pages .now) (a .counts .now) (a .positions .now) (λ e. c .if1 .taken (r .before .read-u32 .ensures .0 ∙ e ∙ sym (r .read-u322 .ensures .0))))
+    sym (differ-n (a .pages .now) (a .counts .now) (a .positions .now)
+    (λ e. c .if1 .taken (r .before .read-u32 .ensures .0 ∙ e ∙ sym (r .read-u322 .ensures .0))))
 
-n-at : (c : tie.Else1) → listN (c .before .before .before .before .before .before .args .counts .now) ≡ listN (c .before .before .before .before .before .before .args .pages .now)
+n-at : (c : tie.Else1)
+    → let a = c .before .before .before .before .before .before .args in
+    listN (a .counts .now) ≡ listN (a .pages .now)
 unfolding listN
 n-at c =
     let r = c .before in
@@ -47,7 +50,8 @@ read-u32-requires-3 c κs =
     omega (arith, header (b .args .counts .now) (b .pre .1))
 
 -- the number that is read as the counts' U
-total-at : (c : tie.After-read-u323) → c .read-u323 .result ≡ listU (c .before .before .before .before .before .before .before .args .counts .now)
+total-at : (c : tie.After-read-u323)
+    → c .read-u323 .result ≡ listU (c .before .before .before .before .before .before .before .args .counts .now)
 unfolding listU
 total-at c = c .read-u323 .ensures .0
 
@@ -55,11 +59,12 @@ returns-2 : tie.Need-returns-2
 returns-2 c =
     let u = c .before .before in
     let a = u .before .before .before .before .before .before .before .args in
-    sym (differ-sum (a .pages .now) (a .counts .now) (a .positions .now) (n-at (u .before)) (λ e. c .if2 .taken (total-at u ∙ e ∙ sym (c .before .next-of .ensures))))
+    sym (differ-sum (a .pages .now) (a .counts .now) (a .positions .now) (n-at (u .before))
+    (λ e. c .if2 .taken (total-at u ∙ e ∙ sym (c .before .next-of .ensures))))
 
 sum-at : (c : tie.Else2)
-    → listU (c .before .before .before .before .before .before .before .before .before .args .counts .now)
-    ≡ next 0 (decode (c .before .before .before .before .before .before .before .before .before .args .counts .now))
+    → let a = c .before .before .before .before .before .before .before .before .before .args in
+    listU (a .counts .now) ≡ next 0 (decode (a .counts .now))
 sum-at c = sym (total-at (c .before .before)) ∙ c .if2 .left ∙ c .before .next-of .ensures
 
 read-u32-requires-4 : tie.Need-read-u32-requires-4
@@ -88,7 +93,8 @@ returns-4 c =
     let e2 = e3 .before .before in
     let u = e2 .before .before in
     let a = u .before .before .before .before .before .before .before .args in
-    let p : listN (a .positions .now) ≡ listU (a .counts .now) = sym (e3 .before .read-u324 .ensures .0) ∙ e3 .if3 .left ∙ total-at u in
+    let p : listN (a .positions .now) ≡ listU (a .counts .now) =
+    sym (e3 .before .read-u324 .ensures .0) ∙ e3 .if3 .left ∙ total-at u in
     ap₂ (λ (x y : ℕ). not (eqb x y)) (c .before .read-u325 .ensures .0) (c .next-of2 .ensures)
     ∙ sym (differ-last (a .pages .now) (a .counts .now) (a .positions .now) (n-at (u .before)) (sum-at e2) p)
 

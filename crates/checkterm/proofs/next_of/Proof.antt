@@ -17,7 +17,8 @@ use Rattle.checkterm.proofs.next_of.Tie as tie
 many : (c : tie.After-shape-at) → c .shape-at .result .n ≡ length (decode (c .before .before .args .list .now))
 many c =
     let s = c .before .before .args .list .now in
-    ap (λ (g : Shape). g .n) (c .shape-at .ensures) ∙ shape-n (listU s) (listN s) ∙ sym (accepted-length s (c .before .before .pre))
+    ap (λ (g : Shape). g .n) (c .shape-at .ensures) ∙ shape-n (listU s) (listN s)
+    ∙ sym (accepted-length s (c .before .before .pre))
 
 returns : tie.Need-returns
 returns c =
@@ -25,7 +26,8 @@ returns c =
     let s = g .before .before .args .list .now in
     sym (next-none 0 (decode s) (omega (arith, many g, c .if1 .taken)))
 
-last-is : (c : tie.After-element-at) → c .element-at .result + 1 ≡ next 0 (decode (c .before .before .before .before .args .list .now))
+last-is : (c : tie.After-element-at)
+    → c .element-at .result + 1 ≡ next 0 (decode (c .before .before .before .before .args .list .now))
 last-is c =
     let g = c .before .before in
     let s = g .before .before .args .list .now in
@@ -42,4 +44,5 @@ returns-2 : tie.Need-returns-2
 returns-2 c = last-is c
 
 pub next-of-spec : {M : Type 1} → statement M
-next-of-spec = tie.close (tie.spec (λ c κs. search needs) returns (λ c. search needs) (λ c κs. search needs) add-result returns-2)
+next-of-spec =
+    tie.close (tie.spec (λ c κs. search needs) returns (λ c. search needs) (λ c κs. search needs) add-result returns-2)

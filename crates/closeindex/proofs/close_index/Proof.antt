@@ -16,16 +16,18 @@ returns c =
     let p = c .before .passed in
     let r = c .before .before in
     let a = r .before .before .before .args in
-    close-refused (a .buffer .now) (a .used) (a .n) (a .t) (r .close-refusal .result) (r .close-refusal .ensures) (p .result) (p .ensures) (c .if1 .taken)
+    close-refused (a .buffer .now) (a .used) (a .n) (a .t) (r .close-refusal .result)
+    (r .close-refusal .ensures) (p .result) (p .ensures) (c .if1 .taken)
 
 closable : (c : tie.Else1)
-    → Closable (c .before .before .before .before .before .args .buffer .now) (c .before .before .before .before .before .args .used)
-    (c .before .before .before .before .before .args .n) (c .before .before .before .before .before .args .t)
+    → let a = c .before .before .before .before .before .args in
+    Closable (a .buffer .now) (a .used) (a .n) (a .t)
 closable c =
     let p = c .before .passed in
     let r = c .before .before in
     let a = r .before .before .before .args in
-    close-passed (a .buffer .now) (a .used) (a .n) (a .t) (r .close-refusal .result) (r .close-refusal .ensures) (p .result) (p .ensures) (c .if1 .left)
+    close-passed (a .buffer .now) (a .used) (a .n) (a .t) (r .close-refusal .result)
+    (r .close-refusal .ensures) (p .result) (p .ensures) (c .if1 .left)
 
 returns-2 : tie.Need-returns-2
 returns-2 c =

@@ -35,9 +35,9 @@ abbrev inner : List ℕ → ℕ → ℕ → ℕ → Refusal
 inner s used N T = termsRefusal T N (drop indexHeader (take used s))
 
 behind-length : (c : tie.Else3)
-    → closeRefusal (c .before .before .before .before .args .buffer .now) (c .before .before .before .before .args .used) (c .before .before .before .before .args .n) (c .before .before .before .before .args .t)
-    ≡ limited (c .before .before .before .before .args .n) (c .before .before .before .before .args .t)
-    (inner (c .before .before .before .before .args .buffer .now) (c .before .before .before .before .args .used) (c .before .before .before .before .args .n) (c .before .before .before .before .args .t))
+    → let a = c .before .before .before .before .args in
+    closeRefusal (a .buffer .now) (a .used) (a .n) (a .t)
+    ≡ limited (a .n) (a .t) (inner (a .buffer .now) (a .used) (a .n) (a .t))
 behind-length c =
     let h = c .before in
     let f = h .before in
@@ -55,7 +55,8 @@ returns-5 c =
     let m = c .before in
     let l = m .before in
     let a = l .before .before .before .before .args in
-    sym (behind-length l ∙ over-T (a .n) (a .t) (inner (a .buffer .now) (a .used) (a .n) (a .t)) (m .if4 .left) (c .if5 .taken))
+    sym (behind-length l
+    ∙ over-T (a .n) (a .t) (inner (a .buffer .now) (a .used) (a .n) (a .t)) (m .if4 .left) (c .if5 .taken))
 
 returns-6 : tie.Need-returns-6
 returns-6 c =
@@ -66,7 +67,8 @@ returns-6 c =
     let a = h .before .before .before .args in
     c .check-terms .ensures
     ∙ ap (termsRefusal (a .t) (a .n)) (part-used (a .used) (a .buffer .now) (h .if2 .left) (h .before .if1 .left))
-    ∙ sym (behind-length l ∙ within-limits (a .n) (a .t) (inner (a .buffer .now) (a .used) (a .n) (a .t)) (m .if4 .left) (e .if5 .left))
+    ∙ sym (behind-length l
+    ∙ within-limits (a .n) (a .t) (inner (a .buffer .now) (a .used) (a .n) (a .t)) (m .if4 .left) (e .if5 .left))
 
 pub close-refusal-spec : {M : Type 1} → statement M
 close-refusal-spec =

@@ -13,12 +13,15 @@ use Rattle.closeindex.proofs.write_front.Statement.{statement}
 use Rattle.closeindex.proofs.write_front.Tie as tie
 
 -- the length stays
-length-at : (c : tie.After-write-u32) → length (set (c .write-u32 .last .0) 4 1) ≡ length (c .before .before .before .args .buffer .now)
+length-at : (c : tie.After-write-u32)
+    → length (set (c .write-u32 .last .0) 4 1) ≡ length (c .before .before .before .args .buffer .now)
 length-at c =
     let a = c .before .before .before .args in
-    length-set (c .write-u32 .last .0) 4 1 ∙ ap length (c .write-u32 .ensures) ∙ length-sets (a .buffer .now) 0 (be 4 (a .used))
+    length-set (c .write-u32 .last .0) 4 1 ∙ ap length (c .write-u32 .ensures)
+    ∙ length-sets (a .buffer .now) 0 (be 4 (a .used))
 
-length-at-2 : (c : tie.After-write-u322) → length (c .write-u322 .last .0) ≡ length (c .before .before .before .before .before .before .before .args .buffer .now)
+length-at-2 : (c : tie.After-write-u322) → length (c .write-u322 .last .0)
+    ≡ length (c .before .before .before .before .before .before .before .args .buffer .now)
 length-at-2 c =
     let w = c .before .before .before .before in
     let a = w .before .before .before .args in
@@ -31,14 +34,18 @@ returns c =
     let w = v .before .before .before .before in
     let b = w .before .before .before in
     let a = b .args in
-    front-stored (a .buffer .now) (w .write-u32 .last .0) (set (w .write-u32 .last .0) 4 1) (v .write-u322 .last .0) (u .write-u16 .last .0) (a .used) (a .n) (a .t) (b .pre)
+    front-stored (a .buffer .now) (w .write-u32 .last .0)
+    (set (w .write-u32 .last .0) 4 1) (v .write-u322 .last .0) (u .write-u16 .last .0) (a .used) (a .n) (a .t) (b .pre)
     (w .write-u32 .ensures) refl (v .write-u322 .ensures) (u .write-u16 .ensures)
 
 same-length : tie.Need-same-length
 same-length c =
-    let a = c .before .before .before .before .before .before .before .before .before .before .before .before .before .args in
-    let b = c .before .before .before .before .before .before .before .before .before .before .before .before .before .pre in
-    ap length (returns c) ∙ length-laid (indexFront (a .used) (a .n) (a .t)) (a .buffer .now) (omega (arith, length-front (a .used) (a .n) (a .t)))
+    let v = c .before .before .before .before .before .before in
+    let b = v .before .before .before .before .before .before .before in
+    let a = b .args in
+    ap length (returns c)
+    ∙ length-laid (indexFront (a .used) (a .n) (a .t)) (a .buffer .now)
+    (omega (arith, b .pre, length-front (a .used) (a .n) (a .t)))
 
 pub write-front-spec : {M : Type 1} → statement M
 write-front-spec =
@@ -46,7 +53,12 @@ write-front-spec =
     (tie.spec
     (λ c κs. search needs)
     (λ c. search needs)
-    (λ c κs. omega (arith, length-at (c .before .before .before), c .before .before .before .before .before .before .pre))
-    (λ c κs. omega (arith, length-at-2 (c .before .before .before), c .before .before .before .before .before .before .before .before .before .before .pre))
+    (λ c κs.
+    omega (arith, length-at (c .before .before .before), c .before .before .before .before .before .before .pre))
+    (λ c κs. omega (
+      arith,
+      length-at-2 (c .before .before .before),
+      c .before .before .before .before .before .before .before .before .before .before .pre,
+    ))
     same-length
     returns)

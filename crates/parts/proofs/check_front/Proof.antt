@@ -15,7 +15,9 @@ returns c =
     let l = length-drop (a .at) (a .s .now) in
     sym (inside-short (a .h) (λ _. Accepted) (drop (a .at) (a .s .now)) (omega (arith, c .if1 .taken)))
 
-stated-at : (c : tie.After-read-u32) → stated (drop (c .before .before .before .args .at) (c .before .before .before .args .s .now)) ≡ c .read-u32 .result
+stated-at : (c : tie.After-read-u32)
+    → let a = c .before .before .before .args in
+    stated (drop (a .at) (a .s .now)) ≡ c .read-u32 .result
 stated-at c =
     let a = c .before .before .before .args in
     stated-drop (a .at) (a .s .now) ∙ sym (c .read-u32 .ensures .0)
@@ -26,7 +28,8 @@ returns-2 c =
     let a = r .before .before .before .args in
     let l = length-drop (a .at) (a .s .now) in
     let e = stated-at r in
-    sym (inside-less (a .h) (λ _. Accepted) (drop (a .at) (a .s .now)) (omega (arith, r .before .if1 .left)) (omega (arith, c .if2 .taken)))
+    sym (inside-less (a .h) (λ _. Accepted) (drop (a .at) (a .s .now)) (omega (arith, r .before .if1 .left))
+    (omega (arith, c .if2 .taken)))
 
 returns-3 : tie.Need-returns-3
 returns-3 c =
@@ -34,7 +37,8 @@ returns-3 c =
     let a = r .before .before .before .args in
     let l = length-drop (a .at) (a .s .now) in
     let e = stated-at r in
-    sym (inside-more (a .h) (λ _. Accepted) (drop (a .at) (a .s .now)) (omega (arith, r .before .if1 .left)) (omega (arith, c .before .if2 .left)) (omega (arith, c .if3 .taken)))
+    sym (inside-more (a .h) (λ _. Accepted) (drop (a .at) (a .s .now)) (omega (arith, r .before .if1 .left))
+    (omega (arith, c .before .if2 .left)) (omega (arith, c .if3 .taken)))
 
 returns-4 : tie.Need-returns-4
 returns-4 c =
@@ -42,7 +46,8 @@ returns-4 c =
     let a = r .before .before .before .args in
     let l = length-drop (a .at) (a .s .now) in
     let e = stated-at r in
-    sym (inside-is (a .h) (λ _. Accepted) (drop (a .at) (a .s .now)) (omega (arith, c .before .if2 .left)) (omega (arith, c .if3 .left)))
+    sym (inside-is (a .h) (λ _. Accepted) (drop (a .at) (a .s .now)) (omega (arith, c .before .if2 .left))
+    (omega (arith, c .if3 .left)))
 
 pub check-front-spec : {M : Type 1} → statement M
 check-front-spec = tie.close (tie.spec (λ c. search needs) returns (λ c κs. search needs) returns-2 returns-3 returns-4)

@@ -18,9 +18,12 @@ unfolding stated
 returns-2 c =
     let r = c .before in
     let a = r .before .before .before .args in
-    sym (head-length (a .h) (a .block .now) Accepted (r .before .if1 .left) (λ e. c .if2 .taken (r .read-u32 .ensures .0 ∙ e)))
+    sym (head-length (a .h) (a .block .now) Accepted (r .before .if1 .left)
+    (λ e. c .if2 .taken (r .read-u32 .ensures .0 ∙ e)))
 
-stated-at : (c : tie.Else2) → stated (c .before .before .before .before .args .block .now) ≡ length (c .before .before .before .before .args .block .now)
+stated-at : (c : tie.Else2)
+    → let a = c .before .before .before .before .args in
+    stated (a .block .now) ≡ length (a .block .now)
 unfolding stated
 stated-at c = sym (c .before .read-u32 .ensures .0) ∙ c .if2 .left
 
@@ -36,7 +39,11 @@ returns-4 c =
     let e = c .before .before in
     let h = e .before .before in
     let a = h .before .before .args in
-    sym (head-next (a .h) (a .block .now) Accepted (record { header = h .if1 .left; states = stated-at e; version-is = c .if3 .left }))
+    sym (head-next (a .h) (a .block .now) Accepted (record {
+      header = h .if1 .left;
+      states = stated-at e;
+      version-is = c .if3 .left;
+    }))
 
 pub check-head-spec : {M : Type 1} → statement M
 check-head-spec = tie.close (tie.spec returns (λ c κs. search needs) returns-2 (λ c. search needs) returns-3 returns-4)

@@ -8,7 +8,8 @@ use denote.Enum.Declared.{tagOf}
 use borrow.Author.Needs.{needs}
 use Rattle.rules.specs.declared.Refusal.{Refusal}
 use Rattle.rules.proofs.Refusal.{the-type}
-use Rattle.rules.specs.declared.Refusal.the-variants.{Accepted, Short, Length, Version, Limit, Layout, Runs, Parts, Question, Room, Lists}
+use Rattle.rules.specs.declared.Refusal.the-variants.{Accepted, Short, Length, Version, Limit}
+use Rattle.rules.specs.declared.Refusal.the-variants.{Layout, Runs, Parts, Question, Room, Lists}
 use Rattle.rules.specs.Refusal.{accepted}
 use Rattle.laws.proofs.RefusalLaws.{true-accepted}
 use Rattle.parts.proofs.passed.Statement.{statement}

@@ -1,4 +1,5 @@
--- `count_starts` goes through the first word's positions: those found so far are counted, and what is left is still to count.
+-- `count_starts` goes through the first word's positions:
+-- those found so far are counted, and what is left is still to count.
 use Prim.Native.Nat.{_+_, _-_, _<_}
 use native.Mathlib.Omega.{arith}
 use borrow.Author.Needs.{needs}
@@ -6,7 +7,8 @@ use lib.Dec.{lit<}
 use Rattle.seek.specs.Cursors.{unused}
 use Rattle.query.specs.Queries.{cursorIn}
 use Rattle.phrase.specs.Words.{spanIn}
-use Rattle.phrase.proofs.CountLaws.{Counting, Tried, counting-begins, counting-ends, counting-tries, counting-goes, stood-one, stood-ready}
+use Rattle.phrase.proofs.CountLaws.{Counting, Tried, counting-begins, counting-ends}
+use Rattle.phrase.proofs.CountLaws.{counting-tries, counting-goes, stood-one, stood-ready}
 use Rattle.phrase.proofs.count_starts.Statement.{statement}
 use Rattle.phrase.proofs.count_starts.Tie as tie
 
@@ -42,13 +44,15 @@ abbrev entry : tie.At-loop Inv-loop μ-loop → tie.Start Inv-loop μ-loop
 entry c = spanned c .before .before .before .before
 
 tried : (c : tie.Then1 Inv-loop μ-loop)
-    → Tried (entry (c .before .before) .args .card .now) (entry (c .before .before) .args .shapes .now) (entry (c .before .before) .args .spans .now)
-    (entry (c .before .before) .args .k) (c .before .before .loop .q) (c .before .before .loop .count) (c .before .before .loop .mark)
+    → let a = entry (c .before .before) .args in
+    let l = c .before .before .loop in
+    Tried (a .card .now) (a .shapes .now) (a .spans .now) (a .k) (l .q) (l .count) (l .mark)
 tried c =
     let at = c .before .before .loop in
     let start = entry (c .before .before) in
     let a = start .args in
-    counting-tries (a .card .now) (a .shapes .now) (a .spans .now) (a .k) (start .pre .0) (at .q) (at .count) (at .mark) (at .inv)
+    counting-tries (a .card .now) (a .shapes .now) (a .spans .now) (a .k) (start .pre .0) (at .q) (at .count)
+    (at .mark) (at .inv)
     (rw (spanned (c .before .before) .span-in .ensures) at (c .if1 .taken))
 
 sub-stand-2 : tie.Need-sub-stand-2 Inv-loop μ-loop
@@ -57,7 +61,8 @@ sub-stand-2 c = rw (spanned (c .before .before .before) .span-in .ensures) (omeg
 stand-requires : tie.Need-stand-requires Inv-loop μ-loop
 stand-requires c κs =
     let t = tried (c .before) in
-    rw (spanned (c .before .before .before) .span-in .ensures) (entry (c .before .before .before) .pre .0, t .beside, omega (arith, t .small))
+    rw (spanned (c .before .before .before) .span-in .ensures)
+    (entry (c .before .before .before) .pre .0, t .beside, omega (arith, t .small))
 
 add-count : tie.Need-add-count Inv-loop μ-loop
 add-count c =
@@ -66,7 +71,13 @@ add-count c =
     let t = tried n in
     let stood = c .before .stand in
     let st = rw (spanned (n .before .before) .span-in .ensures) at (stood .ensures) in
-    omega (arith, t .few, t .small, stood-one (a .card .now) (a .shapes .now) (a .spans .now) (a .k) (n .before .before .loop .q) (n .before .before .loop .mark - 1 - spanIn (a .spans .now) 0 .base) (stood .result) st)
+    omega (
+      arith,
+      t .few,
+      t .small,
+      stood-one (a .card .now) (a .shapes .now) (a .spans .now) (a .k) (n .before .before .loop .q)
+          (n .before .before .loop .mark - 1 - spanIn (a .spans .now) 0 .base) (stood .result) st,
+    )
 
 seek-on-requires-2 : tie.Need-seek-on-requires-2 Inv-loop μ-loop
 seek-on-requires-2 c κs =
@@ -76,17 +87,18 @@ seek-on-requires-2 c κs =
     let a = start .args in
     let stood = c .before .stand in
     let r =
-    stood-ready (a .card .now) (a .shapes .now) (a .spans .now) (a .k) (start .pre .0) (at .q) (at .count) (at .mark) (at .inv)
+    stood-ready (a .card .now) (a .shapes .now) (a .spans .now) (a .k) (start .pre .0) (at .q) (at .count)
+    (at .mark) (at .inv)
     (at .mark - 1 - spanned (n .before .before) .span-in .result .base) (stood .result) (stood .ensures) in
     (start .pre .0 .lists 0 (start .pre .0 .some), record { eight = stood .ensures .beside .eight; held = r .held })
 
 -- the count after a turn, and its mark
 goes : (c : tie.After-seek-on2 Inv-loop μ-loop)
-    → Counting (entry (c .before .before .before .before .before .before) .args .card .now) (entry (c .before .before .before .before .before .before) .args .shapes .now)
-    (entry (c .before .before .before .before .before .before) .args .spans .now) (entry (c .before .before .before .before .before .before) .args .k)
-    (c .seek-on2 .result) (c .before .before .before .before .before .before .loop .count + c .before .before .stand .result .count)
-    (cursorIn (c .seek-on2 .result) 0 .mark)
-    × (c .before .before .before .before .before .before .loop .mark < cursorIn (c .seek-on2 .result) 0 .mark)
+    → let a = entry (c .before .before .before .before .before .before) .args in
+    let l = c .before .before .before .before .before .before .loop in
+    Counting (a .card .now) (a .shapes .now) (a .spans .now) (a .k) (c .seek-on2 .result)
+    (l .count + c .before .before .stand .result .count) (cursorIn (c .seek-on2 .result) 0 .mark)
+    × (l .mark < cursorIn (c .seek-on2 .result) 0 .mark)
 goes c =
     let n = c .before .before .before .before in
     let at = n .before .before .loop in
@@ -94,7 +106,8 @@ goes c =
     let start = entry (n .before .before) in
     let a = start .args in
     let stood = c .before .before .stand in
-    counting-goes (a .card .now) (a .shapes .now) (a .spans .now) (a .k) (start .pre .0) (at .q) (at .count) (at .mark) (at .inv)
+    counting-goes (a .card .now) (a .shapes .now) (a .spans .now) (a .k) (start .pre .0) (at .q) (at .count)
+    (at .mark) (at .inv)
     (rw (x .span-in .ensures) at (n .if1 .taken)) (stood .result) (rw (x .span-in .ensures) at (stood .ensures))
     (c .seek-on2 .result) (c .seek-on2 .ensures)
 
@@ -111,7 +124,8 @@ returns c =
     let at = c .before .before .loop in
     let start = entry (c .before .before) in
     let a = start .args in
-    counting-ends (a .card .now) (a .shapes .now) (a .spans .now) (a .k) (start .pre .0) (at .q) (at .count) (at .mark) (at .inv)
+    counting-ends (a .card .now) (a .shapes .now) (a .spans .now) (a .k) (start .pre .0) (at .q) (at .count)
+    (at .mark) (at .inv)
     (rw (spanned (c .before .before) .span-in .ensures) at (c .if1 .left))
 
 pub count-starts-spec : {M : Type 1} → statement M

@@ -19,7 +19,8 @@ seek-requires c κs =
     let sh = a .shapes .now in
     let from = c .before .before .before .before .number .ensures in
     let to = c .before .before .before .number2 .ensures in
-    let held = plain-held (topAt s sh (a .i)) (elementsAt s sh (a .i)) (list-rises s sh (a .i) l) (list-within s sh (a .i) l) (cursorIn (a .t3) (a .i)) (start .pre .1 .held) in
+    let held = plain-held (topAt s sh (a .i)) (elementsAt s sh (a .i)) (list-rises s sh (a .i) l)
+    (list-within s sh (a .i) l) (cursorIn (a .t3) (a .i)) (start .pre .1 .held) in
     rw (from, to, c .shape-in .ensures) (l .opened, held, lit< tt, lit< tt)
 
 returns : tie.Need-returns

@@ -9,7 +9,8 @@ use Rattle.phrase.proofs.span_at.Tie as tie
 -- the part of the positions lies in the card
 inside : (c : tie.After-span-of-arg)
     → (c .before .before .before .before .number3 .result ≤ c .before .before .before .number4 .result)
-    × (c .before .before .before .number4 .result ≤ length (c .before .before .before .before .before .before .before .before .before .before .args .card .now))
+    × (c .before .before .before .number4 .result ≤ length
+    (c .before .before .before .before .before .before .before .before .before .before .args .card .now))
 inside c =
     let w = c .before .before .before .before .before .before .before .before .before .before .pre .0 in
     let start = c .before .before .before .before .number3 .ensures in

@@ -16,7 +16,8 @@ use Rattle.phrase.proofs.stand.Tie as tie
 abbrev Inv-loop : tie.InvT-loop
 Inv-loop card shapes spans k a q₀ i₀ q i =
     (0 < i) × (i ≤ k) × Beside card shapes spans k q a × (cursorIn q 0 ≡ cursorIn q₀ 0)
-    × (standsIn (span (pageAt card shapes spans) i (k - i)) (a + i) ≡ standsIn (span (pageAt card shapes spans) 1 (k - 1)) (a + 1))
+    × (standsIn (span (pageAt card shapes spans) i (k - i)) (a + i)
+    ≡ standsIn (span (pageAt card shapes spans) 1 (k - 1)) (a + 1))
 
 abbrev μ-loop : tie.MeasureT-loop
 μ-loop card shapes spans k a q₀ i₀ q i = k - i
@@ -32,13 +33,13 @@ span-in-requires c κs =
     (w .room, omega (arith, w .few))
 
 -- where word i has to stand is a small number
-small : (c : tie.After-span-in Inv-loop μ-loop)
-    → c .span-in .result .base ≤ limit
+small : (c : tie.After-span-in Inv-loop μ-loop) → c .span-in .result .base ≤ limit
 small c =
     let at = c .before .before .loop in
     let start = c .before .before .before .before .before .before in
     let a = start .args in
-    rw (c .span-in .ensures) (base-small (a .card .now) (a .shapes .now) (a .spans .now) (a .k) (start .pre .0) (a .a) (at .i) (c .before .loop-test .taken))
+    rw (c .span-in .ensures) (base-small (a .card .now) (a .shapes .now) (a .spans .now) (a .k) (start .pre .0) (a .a)
+    (at .i) (c .before .loop-test .taken))
 
 add-b : tie.Need-add-b Inv-loop μ-loop
 add-b c = omega (arith, small (c .before))
@@ -53,7 +54,8 @@ returns c =
     let start = x .before .before .before .before .before .before in
     let a = start .args in
     let l = rw (x .span-in .ensures) at (c .if1 .taken) in
-    let e = stands-past (a .card .now) (a .shapes .now) (a .spans .now) (a .k) (start .pre .0) (a .a) (at .i) (x .before .loop-test .taken) (omega (arith, l)) in
+    let e = stands-past (a .card .now) (a .shapes .now) (a .spans .now) (a .k) (start .pre .0) (a .a) (at .i)
+    (x .before .loop-test .taken) (omega (arith, l)) in
     record { counted = rw (sym (at .inv .4) ∙ e); beside = at .inv .2; first = at .inv .3 }
 
 seek-on-requires : tie.Need-seek-on-requires Inv-loop μ-loop
@@ -62,30 +64,33 @@ seek-on-requires c κs =
     let at = x .before .before .loop in
     let start = x .before .before .before .before .before .before in
     let a = start .args in
-    let h = x .before .loop-test .taken in
-    (start .pre .0 .lists (at .i) h, record { eight = at .inv .2 .eight; held = at .inv .2 .others (at .i) (at .inv .0) h .held })
+    let h = x .before .loop-test .taken in (
+      start .pre .0 .lists (at .i) h,
+      record { eight = at .inv .2 .eight; held = at .inv .2 .others (at .i) (at .inv .0) h .held },
+    )
 
 add-if2 : tie.Need-add-if2 Inv-loop μ-loop
-add-if2 c = omega (arith, small (c .before .before .before .before .before .before), c .before .before .before .before .before .before .before .before .before .before .before .before .pre .0 .few)
+add-if2 c = omega (
+  arith,
+  small (c .before .before .before .before .before .before),
+  c .before .before .before .before .before .before .before .before .before .before .before .before .pre .0 .few,
+)
 
 -- what the seek of word i tells
 turned : (c : tie.After-seek-on Inv-loop μ-loop)
-    → Turned (c .before .before .before .before .before .before .before .before .before .before .args .card .now)
-    (c .before .before .before .before .before .before .before .before .before .before .args .shapes .now)
-    (c .before .before .before .before .before .before .before .before .before .before .args .spans .now)
-    (c .before .before .before .before .before .before .before .before .before .before .args .k)
-    (c .before .before .before .before .before .before .before .before .before .before .args .a)
-    (c .before .before .before .before .before .before .loop .i)
-    (c .before .before .before .before .before .before .loop .q)
-    (c .seek-on .result)
+    → let a = c .before .before .before .before .before .before .before .before .before .before .args in
+    let l = c .before .before .before .before .before .before .loop in
+    Turned (a .card .now) (a .shapes .now) (a .spans .now) (a .k) (a .a) (l .i) (l .q) (c .seek-on .result)
 turned c =
     let x = c .before .before .before .before in
     let at = x .before .before .loop in
     let start = x .before .before .before .before .before .before in
     let a = start .args in
     let short = rw (x .span-in .ensures) at (c .before .if1 .left) in
-    word-turned (a .card .now) (a .shapes .now) (a .spans .now) (a .k) (start .pre .0) (a .a) (at .i) (x .before .loop-test .taken)
-    (at .q) (at .inv .2) (at .inv .0) (omega (arith, short)) (c .seek-on .result) (rw (x .span-in .ensures) at (c .seek-on .ensures))
+    word-turned (a .card .now) (a .shapes .now) (a .spans .now) (a .k) (start .pre .0) (a .a) (at .i)
+    (x .before .loop-test .taken)
+    (at .q) (at .inv .2) (at .inv .0) (omega (arith, short)) (c .seek-on .result)
+    (rw (x .span-in .ensures) at (c .seek-on .ensures))
 
 returns-2 : tie.Need-returns-2 Inv-loop μ-loop
 unfolding unused
@@ -97,7 +102,8 @@ returns-2 c =
     let a = start .args in
     let t = turned y in
     let g = rw (x .span-in .ensures) at (c .if2 .taken) in
-    let e = stands-lacks (a .card .now) (a .shapes .now) (a .spans .now) (a .k) (start .pre .0) (a .a) (at .i) (x .before .loop-test .taken) (λ m. g (t .mark-is ∙ m)) in
+    let e = stands-lacks (a .card .now) (a .shapes .now) (a .spans .now) (a .k) (start .pre .0) (a .a) (at .i)
+    (x .before .loop-test .taken) (λ m. g (t .mark-is ∙ m)) in
     record { counted = rw (sym (at .inv .4) ∙ e); beside = t .beside; first = t .first ∙ at .inv .3 }
 
 loop-again : tie.Need-loop-again Inv-loop μ-loop
@@ -111,7 +117,8 @@ loop-again c =
     let t = turned y in
     let short = rw (x .span-in .ensures) at (y .before .if1 .left) in
     let m = rw (x .span-in .ensures) at (c .if2 .left) in
-    let e = stands-on (a .card .now) (a .shapes .now) (a .spans .now) (a .k) (start .pre .0) (a .a) (at .i) (x .before .loop-test .taken) short (sym (t .mark-is) ∙ m) in
+    let e = stands-on (a .card .now) (a .shapes .now) (a .spans .now) (a .k) (start .pre .0) (a .a) (at .i)
+    (x .before .loop-test .taken) short (sym (t .mark-is) ∙ m) in
     (omega arith, omega arith, t .beside, t .first ∙ at .inv .3, sym e ∙ at .inv .4)
 
 returns-3 : tie.Need-returns-3 Inv-loop μ-loop

@@ -1,7 +1,6 @@
--- `list_starts` goes from common page to common page; fewer of the first word's are left each time.
-use mathlib.Core.Path.{_≡_, refl, sym, _∙_}
+-- `list_starts` goes from common page to common page; fewer of the lead's are left each time.
+use mathlib.Core.Path.{refl, sym, _∙_}
 use lib.ListN.{length-set}
-use Prim.Native.Nat.{_-_}
 use native.Mathlib.Omega.{arith}
 use borrow.Author.Needs.{needs}
 use Rattle.commonlaws.specs.Readers.{leftIn}
@@ -12,19 +11,13 @@ use Rattle.phrases.proofs.PageLaws.{turned-least, turned-on}
 use Rattle.phrases.proofs.PairLaws.{laid-zero, Going, going-start, going-few, going-end, going-on}
 use Rattle.phrases.proofs.list_starts.Statement.{statement}
 use Rattle.phrases.proofs.list_starts.Tie as tie
-use Rattle.phrases.proofs.list_starts.Reads as reads
-use Rattle.phrases.proofs.list_starts.Lts as lts
-use Rattle.phrases.proofs.page_starts.Reads as page-starts-reads
-use Rattle.phrases.proofs.put_pair.Reads as put-pair-reads
-use Rattle.query.proofs.Query.new.Reads as new-reads
-use Rattle.query.proofs.next_common.Reads as next-common-reads
 
 abbrev Inv-loop : tie.InvT-loop
-Inv-loop card terms pages counts positions room₀ q₀ at₀ b₀ found₀ room q at b found =
-    (a : Asked card terms pages counts positions) × Going card terms pages counts positions room₀ a q at b found room
+Inv-loop card terms lead pages counts positions room₀ q₀ at₀ b₀ found₀ room q at b found =
+    (a : Asked card terms lead pages counts positions) × Going card terms lead pages counts positions room₀ a q at b found room
 
 abbrev μ-loop : tie.MeasureT-loop
-μ-loop card terms pages counts positions room₀ q₀ at₀ b₀ found₀ room q at b found = leftIn b (leadIn card pages q)
+μ-loop card terms lead pages counts positions room₀ q₀ at₀ b₀ found₀ room q at b found = leftIn b (leadIn card pages q)
 
 slice-write-room : tie.Need-slice-write-room Inv-loop μ-loop
 slice-write-room c = c .before .before .before .before .before .before .pre .1
@@ -38,7 +31,7 @@ new-requires-2 c κs = search needs
 loop-holds : tie.Need-loop-holds Inv-loop μ-loop
 loop-holds c =
     let b = c .before .before .before .before .before .before .before .before in
-    rw (c .before .new .ensures, c .new2 .ensures) (b .pre .0, going-start _ _ _ _ _ _ (b .pre .0) (b .args .room .now) refl (b .pre .1))
+    rw (c .before .new .ensures, c .new2 .ensures) (b .pre .0, going-start _ _ _ _ _ _ _ (b .pre .0) (b .args .room .now) refl (b .pre .1))
 
 next-common-requires : tie.Need-next-common-requires Inv-loop μ-loop
 next-common-requires c κs = c .loop .inv .1 .partway .running
@@ -51,8 +44,8 @@ returns c =
     let l = c .before .before .before .loop in
     let n = c .before .before .next-common in
     let room = c .before .before .before .before .before .before .before .before .before .before .before .before .args .room .now in
-    let e = going-end _ _ _ _ _ _ (l .inv .0) (l .q) (l .at) (l .b) (l .found) (l .room) (l .inv .1) (n .result) (n .ensures) (c .if1 .taken) in
-    (e .0, omega (arith, going-few _ _ _ _ _ _ (l .inv .0) (l .q) (l .at) (l .b) (l .found) (l .room) (l .inv .1)), λ h. e .1 (rw (← e .0, length-set room 0 0) h) ∙ laid-zero _ room)
+    let e = going-end _ _ _ _ _ _ _ (l .inv .0) (l .q) (l .at) (l .b) (l .found) (l .room) (l .inv .1) (n .result) (n .ensures) (c .if1 .taken) in
+    (e .0, omega (arith, going-few _ _ _ _ _ _ _ (l .inv .0) (l .q) (l .at) (l .b) (l .found) (l .room) (l .inv .1)), λ h. e .1 (rw (← e .0, length-set room 0 0) h) ∙ laid-zero _ room)
 
 cast-page-starts : tie.Need-cast-page-starts Inv-loop μ-loop
 cast-page-starts c = search needs
@@ -83,7 +76,7 @@ cast-put-pair c = omega (arith, c .before .before .before .page-starts .ensures 
 put-pair-requires : tie.Need-put-pair-requires Inv-loop μ-loop
 put-pair-requires c κs =
     let l = c .before .before .before .before .before .before .before .before .loop in
-    omega (arith, going-few _ _ _ _ _ _ (l .inv .0) (l .q) (l .at) (l .b) (l .found) (l .room) (l .inv .1))
+    omega (arith, going-few _ _ _ _ _ _ _ (l .inv .0) (l .q) (l .at) (l .b) (l .found) (l .room) (l .inv .1))
 
 cast-b : tie.Need-cast-b Inv-loop μ-loop
 cast-b c = search needs
@@ -102,7 +95,7 @@ loop-again c =
     let g = l .inv .1 in
     let put = c .before .before .before .before .before .put-pair .ensures _ (sym (g .found-is)) in (
       l .inv .0,
-      going-on _ _ _ _ _ _ (l .inv .0) (l .q) (l .at) (l .b) (l .found) (l .room) g (n .result) (n .ensures) (c .before .before .before .before .before .before .before .before .before .before .before .if1 .left)
+      going-on _ _ _ _ _ _ _ (l .inv .0) (l .q) (l .at) (l .b) (l .found) (l .room) g (n .result) (n .ensures) (c .before .before .before .before .before .before .before .before .before .before .before .if1 .left)
           (p .result .count) (p .result .q) (p .ensures .0) (p .ensures .2) _ _ put,
     )
 

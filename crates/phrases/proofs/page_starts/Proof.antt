@@ -8,12 +8,12 @@ count-starts-requires : tie.Need-count-starts-requires
 count-starts-requires c κs =
     let b = c .before .before .before .before .before .before .before .before .before in
     let f = c .before .before .put-spans .ensures in
-    (spanned-words _ _ _ _ _ (b .pre .0) _ _ f, spanned-paged _ _ _ _ _ (b .pre .0) _ _ f _ (b .pre .2))
+    (spanned-words _ _ _ _ _ _ (b .pre .0) _ _ f, spanned-paged _ _ _ _ _ _ (b .pre .0) _ _ f _ (b .pre .2))
 
 returns : tie.Need-returns
 returns c =
     let b = c .before .before .before .before .before .before .before .before .before .before in
-    page-counted _ _ _ _ _ (b .pre .0) _ _ (c .before .before .before .put-spans .ensures) (c .count-starts .result) (c .count-starts .ensures)
+    page-counted _ _ _ _ _ _ (b .pre .0) _ _ (c .before .before .before .put-spans .ensures) (c .count-starts .result) (c .count-starts .ensures)
 
 pub page-starts-spec : {M : Type 1} → statement M
 page-starts-spec =

@@ -2,34 +2,43 @@
 use mathlib.Core.Path.{_≡_, sym, _∙_}
 use Prim.Native.Nat.{_-_, _≤_}
 use native.Mathlib.Omega.{arith}
+use borrow.Author.Needs.{needs}
 use lib.ListN.{length, length-set}
 use Rattle.phrases.specs.Asked.{Spanned}
-use Rattle.phrases.proofs.RankLaws.{asked-word, ranked, spanned-more}
+use Rattle.phrases.proofs.RankLaws.{asked-list, asked-word, asked-rank, rank-counted, spanned-more}
 use Rattle.phrases.proofs.put_spans.Statement.{statement}
 use Rattle.phrases.proofs.put_spans.Tie as tie
 
 abbrev Inv-loop : tie.InvT-loop
-Inv-loop card terms pages counts positions q page spans₀ i₀ spans i = (i ≤ length terms) × (length terms ≤ 8) × (length spans ≡ 16) × Spanned card terms positions page i spans
+Inv-loop card terms lead pages counts positions q page spans₀ i₀ spans i = (i ≤ length terms) × (length terms ≤ 8) × (length spans ≡ 16) × Spanned card terms positions page i spans
 
 abbrev μ-loop : tie.MeasureT-loop
-μ-loop card terms pages counts positions q page spans₀ i₀ spans i = length terms - i
+μ-loop card terms lead pages counts positions q page spans₀ i₀ spans i = length terms - i
 
 loop-holds : tie.Need-loop-holds Inv-loop μ-loop
 loop-holds c =
     let b = c .before .before .before .before .before .before in
-    (omega arith, b .pre .0 .few, b .pre .2, record { room = b .pre .2; each = λ i h. absurd (omega arith) })
+    (omega arith, b .pre .0 .pages .lists .few, b .pre .2, record { room = b .pre .2; each = λ i h. absurd (omega arith) })
 
-rank-at-requires : tie.Need-rank-at-requires Inv-loop μ-loop
-rank-at-requires c κs =
-    let b = c .before .before .before .before .before .before .before .before in
-    let r = ranked _ _ _ _ _ (b .pre .0) (c .before .loop .i) (c .loop-test .taken) _ _ (b .pre .1) in
-    (b .pre .0 .pages .room, omega arith, b .pre .1 .eight, r .wide, r .marked, r .behind)
+slot-of-requires : tie.Need-slot-of-requires Inv-loop μ-loop
+slot-of-requires c κs = search needs
+
+rank-in-requires : tie.Need-rank-in-requires Inv-loop μ-loop
+rank-in-requires c κs =
+    let b = c .before .before .before .before .before .before .before .before .before in
+    let i = c .before .before .loop .i in
+    let h = c .before .loop-test .taken in
+    let r = asked-rank _ _ _ _ _ _ (b .pre .0) i h _ _ (b .pre .1) in
+    let l = asked-list _ _ _ _ _ _ (b .pre .0) i h in
+    rw (c .slot-of .ensures) (l .room, l .few, b .pre .1 .eight, r .on-element)
 
 span-at-requires : tie.Need-span-at-requires Inv-loop μ-loop
 span-at-requires c κs =
-    let b = c .before .before .before .before .before .before .before .before .before in
-    let h = c .before .loop-test .taken in
-    (asked-word _ _ _ _ _ (b .pre .0) (c .before .before .loop .i) h, rw (c .rank-at .ensures) (ranked _ _ _ _ _ (b .pre .0) (c .before .before .loop .i) h _ _ (b .pre .1) .counted))
+    let b = c .before .before .before .before .before .before .before .before .before .before in
+    let i = c .before .before .before .loop .i in
+    let h = c .before .before .loop-test .taken in
+    let r = rank-counted _ _ _ _ _ _ (b .pre .0) i h _ _ (b .pre .1) in
+    (asked-word _ _ _ _ _ _ (b .pre .0) i h, rw (c .rank-in .ensures, c .before .slot-of .ensures) r)
 
 mul-spans : tie.Need-mul-spans Inv-loop μ-loop
 mul-spans c = omega arith
@@ -60,10 +69,10 @@ loop-less c = omega arith
 
 loop-again : tie.Need-loop-again Inv-loop μ-loop
 loop-again c =
-    let b = c .before .before .before .before .before .before .before .before .before .before in
-    let at = c .before .before .before .loop in
-    let is = rw (c .before .rank-at .ensures) at (c .span-at .ensures) in
-    let f = spanned-more _ _ _ _ _ (b .pre .0) _ _ (b .pre .1) (at .i) (c .before .before .loop-test .taken) (at .spans) (at .inv .3) (c .span-at .result) is in
+    let b = c .before .before .before .before .before .before .before .before .before .before .before in
+    let at = c .before .before .before .before .loop in
+    let is = rw (c .before .rank-in .ensures, c .before .before .slot-of .ensures) at (c .span-at .ensures) in
+    let f = spanned-more _ _ _ _ _ _ (b .pre .0) _ _ (b .pre .1) (at .i) (c .before .before .before .loop-test .taken) (at .spans) (at .inv .3) (c .span-at .result) is in
     (omega arith, at .inv .1, f .room, f)
 
 same-length : tie.Need-same-length Inv-loop μ-loop
@@ -82,7 +91,8 @@ put-spans-spec =
     Inv-loop
     μ-loop
     loop-holds
-    rank-at-requires
+    slot-of-requires
+    rank-in-requires
     span-at-requires
     mul-spans
     mul-spans-2

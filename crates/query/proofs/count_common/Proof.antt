@@ -31,7 +31,8 @@ returns : tie.Need-returns Inv-loop μ-loop
 returns c =
     let l = c .before .before .before .before .before .loop in
     let n = c .before .before .before .before .next-common in
-    partway-end _ _ _ _ (l .q) (l .b) (l .found) (l .inv .0) (l .inv .1) (n .result) (n .ensures) (c .before .if1 .taken) (c .totals .result) (c .totals .ensures) .1
+    partway-end _ _ _ _ (l .q) (l .b) (l .found) (l .inv .0) (l .inv .1) (n .result) (n .ensures)
+    (c .before .if1 .taken) (c .totals .result) (c .totals .ensures) .1
 
 add-found : tie.Need-add-found Inv-loop μ-loop
 add-found c =
@@ -47,8 +48,11 @@ loop-less c =
 loop-again : tie.Need-loop-again Inv-loop μ-loop
 loop-again c =
     let l = c .before .before .before .before .before .loop in
-    let n = c .before .before .before .before .next-common in
-    (l .inv .0 ++ (n .result .mark - 1) ∷ [], partway-step _ _ _ _ (l .q) (l .b) (l .found) (l .inv .0) (l .inv .1) (n .result) (n .ensures) (c .before .if1 .left))
+    let n = c .before .before .before .before .next-common in (
+      l .inv .0 ++ (n .result .mark - 1) ∷ [],
+      partway-step _ _ _ _ (l .q) (l .b) (l .found) (l .inv .0) (l .inv .1) (n .result) (n .ensures)
+          (c .before .if1 .left),
+    )
 
 pub count-common-spec : {M : Type 1} → statement M
 count-common-spec =

@@ -1,9 +1,9 @@
 -- `list_after` goes back to the lead behind a larger page alone.
+use mathlib.Core.Bool.{and-false}
 use mathlib.Core.Logic.{inl, inr}
 use borrow.Author.Needs.{needs}
 use borrow.Author.Tests.{lt-ltb, le-ltb}
 use lib.Dec.{ltb}
-use Rattle.seeklaws.proofs.FirstLaws.{and-false}
 use Rattle.query.specs.Queries.{listAfter}
 use Rattle.query.proofs.list_after.Statement.{statement}
 use Rattle.query.proofs.list_after.Tie as tie

@@ -9,7 +9,8 @@ use Rattle.rules.specs.Write.{laid}
 use Rattle.commonlaws.specs.Readers.{leftIn}
 use Rattle.query.specs.Queries.{leadIn}
 use Rattle.query.proofs.TurnLaws.{turned-page, turned-fewer}
-use Rattle.query.proofs.ListingLaws.{laid-more, Partway, partway-start, partway-few, partway-step, partway-room, partway-end}
+use Rattle.query.proofs.ListingLaws.{laid-more, Partway, partway-start, partway-few}
+use Rattle.query.proofs.ListingLaws.{partway-step, partway-room, partway-end}
 use Rattle.query.proofs.list_common.Statement.{statement}
 use Rattle.query.proofs.list_common.Tie as tie
 
@@ -39,14 +40,18 @@ returns : tie.Need-returns Inv-loop μ-loop
 returns c =
     let l = c .before .before .before .before .before .loop in
     let n = c .before .before .before .before .next-common in
-    let e = partway-end _ _ _ _ (l .q) (l .b) (l .found) (l .inv .0) (l .inv .1) (n .result) (n .ensures) (c .before .if1 .taken) (c .totals .result) (c .totals .ensures) in
+    let e = partway-end _ _ _ _ (l .q) (l .b) (l .found) (l .inv .0) (l .inv .1) (n .result) (n .ensures)
+    (c .before .if1 .taken) (c .totals .result) (c .totals .ensures) in
     (e .1, rw (e .0) (l .inv .2))
 
 sub-room : tie.Need-sub-room Inv-loop μ-loop
 sub-room c =
     let l = c .before .before .before .before .before .loop in
     let n = c .before .before .before .before .next-common in
-    omega (arith, turned-page _ _ _ (l .q) (l .b) (l .inv .1 .running .apt) (n .result) (n .ensures) (c .before .if1 .left) .2)
+    omega (
+      arith,
+      turned-page _ _ _ (l .q) (l .b) (l .inv .1 .running .apt) (n .result) (n .ensures) (c .before .if1 .left) .2,
+    )
 
 mul-room : tie.Need-mul-room Inv-loop μ-loop
 mul-room c =
@@ -57,7 +62,8 @@ slice-write-room : tie.Need-slice-write-room Inv-loop μ-loop
 slice-write-room c =
     let l = c .before .before .before .before .before .loop in
     let n = c .before .before .before .before .next-common in
-    let inside = partway-room _ _ _ _ (l .q) (l .b) (l .found) (l .inv .0) (l .inv .1) (n .result) (n .ensures) (c .before .if1 .left) in
+    let inside = partway-room _ _ _ _ (l .q) (l .b) (l .found) (l .inv .0) (l .inv .1) (n .result) (n .ensures)
+    (c .before .if1 .left) in
     omega (arith, l .inv .3, c .before .before .before .before .before .before .before .before .before .before .pre .1)
 
 add-found : tie.Need-add-found Inv-loop μ-loop
@@ -78,10 +84,15 @@ loop-again c =
     let p = l .inv .1 in
     let h = c .before .before .if1 .left in
     let inside = partway-room _ _ _ _ (l .q) (l .b) (l .found) (l .inv .0) p (n .result) (n .ensures) h in
-    let room = c .before .before .before .before .before .before .before .before .before .before .before .args .room .now in (
+    let room =
+    c .before .before .before .before .before .before .before .before .before .before .before .args .room .now in (
       l .inv .0 ++ (n .result .mark - 1) ∷ [],
       partway-step _ _ _ _ (l .q) (l .b) (l .found) (l .inv .0) p (n .result) (n .ensures) h,
-      rw (l .inv .2, ← p .sized) (laid-more (l .inv .0) room (n .result .mark - 1) (omega (arith, p .sized, c .before .before .before .before .before .before .before .before .before .before .before .pre .1))),
+      rw (l .inv .2, ← p .sized) (laid-more (l .inv .0) room (n .result .mark - 1) (omega (
+        arith,
+        p .sized,
+        c .before .before .before .before .before .before .before .before .before .before .before .pre .1,
+      ))),
       length-set (l .room) (l .found) (n .result .mark - 1) ∙ l .inv .3,
     )
 

@@ -1,9 +1,10 @@
--- `next_common` comes to the rule's next page: what is left of it from here on is, with the counts so far, what it was at the
--- start. The measure is the seeks that are left.
+-- `next_common` comes to the rule's next page: what is left of it from here on is, with the
+-- counts so far, what it was at the start. The measure is the seeks that are left.
 use native.Mathlib.Omega.{arith}
 use borrow.Author.Needs.{needs}
 use Rattle.query.proofs.QueryLaws.{mark-some}
-use Rattle.query.proofs.RunLaws.{Midst, midst-start, seeksLeft, midst-seekable, midst-step, midst-less, midst-none, midst-end}
+use Rattle.query.proofs.RunLaws.{Midst, midst-start, seeksLeft, midst-seekable}
+use Rattle.query.proofs.RunLaws.{midst-step, midst-less, midst-none, midst-end}
 use Rattle.query.proofs.next_common.Statement.{statement}
 use Rattle.query.proofs.next_common.Tie as tie
 
@@ -25,26 +26,30 @@ returns : tie.Need-returns Inv-loop μ-loop
 returns c =
     let l = c .before .before .before .before .loop in
     let h = c .before .before .before .loop-test .taken in
-    midst-none _ _ _ _ _ (l .q) (l .b) (l .i) (l .inv) h (c .before .before .advance .result) (c .before .before .advance .ensures) (c .if1 .taken)
+    midst-none _ _ _ _ _ (l .q) (l .b) (l .i) (l .inv) h (c .before .before .advance .result)
+    (c .before .before .advance .ensures) (c .if1 .taken)
 
 sub-page : tie.Need-sub-page Inv-loop μ-loop
 sub-page c =
     let l = c .before .before .before .before .before .loop in
-    rw (c .before .before .before .advance .ensures) (mark-some _ _ _ (l .q) (l .b) (l .inv .apt) (l .i) (c .before .before .before .before .loop-test .taken))
+    rw (c .before .before .before .advance .ensures)
+    (mark-some _ _ _ (l .q) (l .b) (l .inv .apt) (l .i) (c .before .before .before .before .loop-test .taken))
 
 loop-less : tie.Need-loop-less Inv-loop μ-loop
 loop-less c =
     let l = c .before .before .before .before .before .before .loop in
     let h = c .before .before .before .before .before .loop-test .taken in
     let a = c .before .before .before .before .advance in
-    midst-less _ _ _ _ _ (l .q) (l .b) (l .i) (l .inv) h (a .result) (a .ensures) (c .before .before .if1 .left) (omega arith)
+    midst-less _ _ _ _ _ (l .q) (l .b) (l .i) (l .inv) h (a .result) (a .ensures)
+    (c .before .before .if1 .left) (omega arith)
 
 loop-again : tie.Need-loop-again Inv-loop μ-loop
 loop-again c =
     let l = c .before .before .before .before .before .before .loop in
     let h = c .before .before .before .before .before .loop-test .taken in
     let a = c .before .before .before .before .advance in
-    rw (c .list-after .ensures) (midst-step _ _ _ _ _ (l .q) (l .b) (l .i) (l .inv) h (a .result) (a .ensures) (c .before .before .if1 .left) (omega arith))
+    rw (c .list-after .ensures) (midst-step _ _ _ _ _ (l .q) (l .b) (l .i) (l .inv) h (a .result) (a .ensures)
+    (c .before .before .if1 .left) (omega arith))
 
 add-t18 : tie.Need-add-t18 Inv-loop μ-loop
 add-t18 c =

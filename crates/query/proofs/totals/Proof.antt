@@ -27,13 +27,19 @@ add-seeks : tie.Need-add-seeks Inv-loop μ-loop
 unfolding unused
 add-seeks c =
     let l = c .before .before .before .loop in
-    omega (arith, total-drop (λ c. c .seeks) (c .before .before .before .before .args .t1 .cursors) (l .i) (omega arith))
+    omega (
+      arith,
+      total-drop (λ c. c .seeks) (c .before .before .before .before .args .t1 .cursors) (l .i) (omega arith),
+    )
 
 add-looks : tie.Need-add-looks Inv-loop μ-loop
 unfolding unused
 add-looks c =
     let l = c .before .before .before .before .loop in
-    omega (arith, total-drop (λ c. c .looks) (c .before .before .before .before .before .args .t1 .cursors) (l .i) (omega arith))
+    omega (
+      arith,
+      total-drop (λ c. c .looks) (c .before .before .before .before .before .args .t1 .cursors) (l .i) (omega arith),
+    )
 
 loop-again : tie.Need-loop-again Inv-loop μ-loop
 unfolding unused

@@ -1,4 +1,5 @@
--- `one_from` finds the one: word k is reached with at most `rank` ones below it, and holds the one wanted when it is left.
+-- `one_from` finds the one:
+-- word k is reached with at most `rank` ones below it, and holds the one wanted when it is left.
 use mathlib.Core.Path.{_≡_, refl}
 use mathlib.Core.List.{List}
 use Prim.Native.Nat.{ℕ, _+_, _-_, _*_, _/_, _^_, _≤_, _<_}
@@ -32,7 +33,9 @@ add-next : tie.Need-add-next Inv-loop μ-loop
 add-next c =
     let a = c .before .before .args in
     let w : ℕ = length (a .run .now) / 8 in
-    record { fits = omega (arith, ones-below-le (a .run .now) 0 (64 * w), ones-le 64 (c .run-word .result) (omega arith)) }
+    record {
+      fits = omega (arith, ones-below-le (a .run .now) 0 (64 * w), ones-le 64 (c .run-word .result) (omega arith));
+    }
 
 loop-holds : tie.Need-loop-holds Inv-loop μ-loop
 loop-holds c =
@@ -43,13 +46,15 @@ loop-holds c =
 
 -- the next word, and the ones below it
 left : (c : tie.In-loop Inv-loop μ-loop)
-    → (c .before .loop .k + 1 < length (c .before .before .before .before .args .run .now) / 8)
-    × (c .before .loop .next ≡ onesBelow (c .before .before .before .before .args .run .now) 0 (64 * (c .before .loop .k + 1)))
+    → let l = c .before .loop in
+    let a = c .before .before .before .before .args in
+    (l .k + 1 < length (a .run .now) / 8) × (l .next ≡ onesBelow (a .run .now) 0 (64 * (l .k + 1)))
 left c =
     let at = c .before .loop in
     let start = c .before .before .before .before in
     let s : List ℕ = start .args .run .now in
-    let e : at .next ≡ onesBelow s 0 (64 * (at .k + 1)) = omega (arith, next-word s 0 (at .k) (at .x) (at .inv .3) (at .inv .4)) in
+    let e : at .next ≡ onesBelow s 0 (64 * (at .k + 1)) =
+    omega (arith, next-word s 0 (at .k) (at .x) (at .inv .3) (at .inv .4)) in
     let l = count-lt s 0 (64 * (at .k + 1)) (64 * (length s / 8)) (omega (arith, start .pre)) in
     (omega arith, e)
 
@@ -63,7 +68,9 @@ add-next-2 c =
     let l = left (c .before) in
     let a = c .before .before .before .before .before .args in
     let w : ℕ = length (a .run .now) / 8 in
-    record { fits = omega (arith, ones-below-le (a .run .now) 0 (64 * w), ones-le 64 (c .run-word2 .result) (omega arith)) }
+    record {
+      fits = omega (arith, ones-below-le (a .run .now) 0 (64 * w), ones-le 64 (c .run-word2 .result) (omega arith));
+    }
 
 loop-again : tie.Need-loop-again Inv-loop μ-loop
 loop-again c =

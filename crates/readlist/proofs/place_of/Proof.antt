@@ -1,4 +1,5 @@
--- `place_of` finds the one: the last pointer's ones are at most `rank`, and those below its word are its own less the word's.
+-- `place_of` finds the one:
+-- the last pointer's ones are at most `rank`, and those below its word are its own less the word's.
 use mathlib.Core.Path.{_≡_, sym, _∙_}
 use mathlib.Core.List.{List}
 use Prim.Native.Nat.{ℕ, _*_, _/_, _<_}
@@ -7,7 +8,8 @@ use borrow.Author.Needs.{needs}
 use lib.ListN.{length}
 use Rattle.rules.specs.Runs.{wordsFor}
 use Rattle.readlist.proofs.ReadLaws.{open-reads}
-use Rattle.readlist.proofs.PartLaws.{run-length, run-counts, run-bits, run-total, Split, start-word, start-splits}
+use Rattle.readlist.proofs.PartLaws.{run-length, run-counts, run-bits, run-total}
+use Rattle.readlist.proofs.PartLaws.{Split, start-word, start-splits}
 use Rattle.readlist.proofs.place_of.Statement.{statement}
 use Rattle.readlist.proofs.place_of.Tie as tie
 
@@ -26,13 +28,15 @@ run-word-requires c κs =
 
 split : (c : tie.After-ones-below)
     → Split (c .before .before .upper-of .result .now) (c .before .before .before .before .pointer-before .result)
-    (c .before .before .before .before .before .before .args .rank) (c .before .before .before .pointer-at .result) (c .ones-below .result)
+    (c .before .before .before .before .before .before .args .rank) (c .before .before .before .pointer-at .result)
+    (c .ones-below .result)
 split c =
     let u = c .before .before in
     let b = u .before .before in
     let a = b .before .before .args in
     let p = b .before .before .pre in
-    start-splits (a .block .now) (a .g) (p .0) (u .upper-of .result .now) (u .upper-of .ensures) (b .pointer-before .result) (a .rank)
+    start-splits (a .block .now) (a .g) (p .0) (u .upper-of .result .now) (u .upper-of .ensures)
+    (b .pointer-before .result) (a .rank)
     (u .before .pointer-at .result) (u .before .pointer-at .ensures) (b .pointer-before .ensures) (p .1)
     (c .before .run-word .result) (c .ones-below .result) (c .before .run-word .ensures) (c .ones-below .ensures .0)
 
@@ -66,7 +70,9 @@ returns c =
     let l : c .one-from .result < 64 * wordsFor (a .g .bits) = omega (arith, e .1) in
     record {
       set = sym (run-bits (a .block .now) (a .g) (p .0) run (u .upper-of .ensures) (c .one-from .result) l) ∙ e .0 .set;
-      below = sym (run-counts (a .block .now) (a .g) (p .0) run (u .upper-of .ensures) (c .one-from .result) (omega arith)) ∙ e .0 .below;
+      below =
+          sym (run-counts (a .block .now) (a .g) (p .0) run (u .upper-of .ensures) (c .one-from .result) (omega arith))
+          ∙ e .0 .below;
     }
 
 pub place-of-spec : {M : Type 1} → statement M

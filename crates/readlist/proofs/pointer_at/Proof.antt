@@ -10,7 +10,8 @@ returns : tie.Need-returns
 returns c =
     let start = c .before .before in
     let a = start .args in
-    pointer-reads (a .block .now) (a .g) (start .pre .0) (a .i) 0 (start .pre .1) (λ e. refl) (λ h. absurd (omega arith))
+    pointer-reads (a .block .now) (a .g) (start .pre .0) (a .i) 0 (start .pre .1) (λ e. refl)
+    (λ h. absurd (omega arith))
 
 read-u32-requires : tie.Need-read-u32-requires
 read-u32-requires c κs =

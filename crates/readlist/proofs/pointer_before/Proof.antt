@@ -26,7 +26,8 @@ loop-holds : tie.Need-loop-holds Inv-loop μ-loop
 loop-holds c =
     let start = c .before .before in
     let a = start .args in
-    let p = pointer-reads (a .block .now) (a .g) (start .pre .0) 0 0 (omega arith) (λ e. refl) (λ h. absurd (omega arith)) in
+    let p =
+    pointer-reads (a .block .now) (a .g) (start .pre .0) 0 0 (omega arith) (λ e. refl) (λ h. absurd (omega arith)) in
     (omega arith, omega arith, omega (arith, p .defined), λ h. absurd (omega arith))
 
 pointer-at-requires : tie.Need-pointer-at-requires Inv-loop μ-loop

@@ -11,8 +11,10 @@ shape-of-requires : tie.Need-shape-of-requires
 unfolding listU listN
 shape-of-requires c κs =
     let start = c .before .before .before in
-    let f = accepted-framed (start .args .block .now) (start .pre) .0 in
-    (omega (arith, f .below, c .read-u322 .ensures .0, c .before .read-u32 .ensures .0), omega (arith, f .within, c .before .read-u32 .ensures .0))
+    let f = accepted-framed (start .args .block .now) (start .pre) .0 in (
+      omega (arith, f .below, c .read-u322 .ensures .0, c .before .read-u32 .ensures .0),
+      omega (arith, f .within, c .before .read-u32 .ensures .0),
+    )
 
 returns : tie.Need-returns
 unfolding listU listN

@@ -17,7 +17,8 @@ returns c =
     let start = c .before .before .before in
     let a = start .args in
     let o = start .pre .0 in
-    landing-stays (listU (a .s .now)) (decode (a .s .now)) (open-rising (a .s .now) (a .g) o) (open-within (a .s .now) (a .g) o) (a .c) (start .pre .1) (a .b) _ (c .if1 .taken) refl refl refl
+    landing-stays (listU (a .s .now)) (decode (a .s .now)) (open-rising (a .s .now) (a .g) o)
+    (open-within (a .s .now) (a .g) o) (a .c) (start .pre .1) (a .b) _ (c .if1 .taken) refl refl refl
 
 returns-2 : tie.Need-returns-2
 returns-2 c =
@@ -27,8 +28,12 @@ returns-2 c =
     let e = c .none .ensures in
     let n = open-length (a .s .now) (a .g) o in
     let u = open-U (a .s .now) (a .g) o in
-    landing-none (listU (a .s .now)) (decode (a .s .now)) (open-rising (a .s .now) (a .g) o) (open-within (a .s .now) (a .g) o) (a .c) (start .pre .1) (a .b)
-    (c .before .before .before .if1 .left) _ (elim (c .before .if2 .came) [ inl w ↦ inl (omega arith) | inr w ↦ inr (omega (arith, leb-true)) ]) (e .0) (e .1) (e .2)
+    landing-none (listU (a .s .now)) (decode (a .s .now)) (open-rising (a .s .now) (a .g) o)
+    (open-within (a .s .now) (a .g) o) (a .c) (start .pre .1) (a .b)
+    (c .before .before .before .if1 .left) _ (elim (c .before .if2 .came) [
+      | inl w ↦ inl (omega arith)
+      | inr w ↦ inr (omega (arith, leb-true))
+    ]) (e .0) (e .1) (e .2)
 
 -- past the first tests the cursor moves
 moving : (c : tie.Else3) →
@@ -57,19 +62,23 @@ returns-3 c =
     let m = moving (c .before .before .before .before .before) in
     let e = c .before .before .before .before .start .ensures in
     let some : 0 < a .g .n = omega (arith, m .some, open-n (a .s .now) (a .g) o) in
-    landing-end (listU (a .s .now)) (decode (a .s .now)) (open-rising (a .s .now) (a .g) o) (open-within (a .s .now) (a .g) o) (a .c) (start .pre .1) (a .b)
-    (m .ahead) (m .below) (rw (open-length (a .s .now) (a .g) o) some) _ (sym (e .1) ∙ c .before .if4 .taken ∙ sym (open-ruled (a .s .now) (a .g) o some .bits-is)) (n .0) (n .1) (n .2)
+    landing-end (listU (a .s .now)) (decode (a .s .now)) (open-rising (a .s .now) (a .g) o)
+    (open-within (a .s .now) (a .g) o) (a .c) (start .pre .1) (a .b)
+    (m .ahead) (m .below) (rw (open-length (a .s .now) (a .g) o) some) _
+    (sym (e .1) ∙ c .before .if4 .taken ∙ sym (open-ruled (a .s .now) (a .g) o some .bits-is)) (n .0) (n .1) (n .2)
 
 returns-4 : tie.Need-returns-4
 returns-4 c =
-    let start = c .before .before .before .before .before .before .before .before .before .before .before .before .before in
+    let start =
+    c .before .before .before .before .before .before .before .before .before .before .before .before .before in
     let a = start .args in
     let o = start .pre .0 in
     let m = moving (c .before .before .before .before .before .before) in
     let e = c .before .before .before .before .before .start .ensures in
     let l = c .land .ensures in
     let some : 0 < a .g .n = omega (arith, m .some, open-n (a .s .now) (a .g) o) in
-    landing-walked (listU (a .s .now)) (decode (a .s .now)) (open-rising (a .s .now) (a .g) o) (open-within (a .s .now) (a .g) o) (a .c) (start .pre .1) (a .b)
+    landing-walked (listU (a .s .now)) (decode (a .s .now)) (open-rising (a .s .now) (a .g) o)
+    (open-within (a .s .now) (a .g) o) (a .c) (start .pre .1) (a .b)
     (m .ahead) (m .below) (rw (open-length (a .s .now) (a .g) o) some) _
     (omega (arith, e .1, e .0 .within, open-ruled (a .s .now) (a .g) o some .bits-is)) (l .mark-is) (l .bit-is)
     (rw (← e .1) (omega (arith, l .counted, c .before .pass .ensures .counted)))

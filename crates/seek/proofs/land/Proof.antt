@@ -22,7 +22,8 @@ use Rattle.seek.proofs.land.Tie as tie
 
 abbrev Inv-loop : tie.InvT-loop
 Inv-loop s g b at₀ at =
-    Walking s g at × (at .left ≡ 0 → at .k + 1 ≡ wordsFor (g .bits)) × Before s b (at .rank) × (at .looks + at₀ .k ≡ at₀ .looks + at .k)
+    Walking s g at × (at .left ≡ 0 → at .k + 1 ≡ wordsFor (g .bits)) × Before s b (at .rank)
+    × (at .looks + at₀ .k ≡ at₀ .looks + at .k)
 
 abbrev μ-loop : tie.MeasureT-loop
 μ-loop s g b at₀ at = g .n - at .rank
@@ -98,8 +99,10 @@ returns c =
     let start = c .before .before .before .before .before .before .before .before .before in
     let first = c .before .before .before .before .before .before .before .to-one in
     let at = c .before .before .before .before .before .before .loop in
-    let m = mark-some (decode (start .args .s .now)) (start .args .b) (at .at .rank) (c .before .mark-from .result) (c .before .mark-from .ensures) (c .if2 .taken) in
-    landed-on (start .args .s .now) (start .args .g) (start .pre .0) (start .args .b) (start .args .from) (at .at) (at .inv .0) (at .inv .2)
+    let m = mark-some (decode (start .args .s .now)) (start .args .b) (at .at .rank) (c .before .mark-from .result)
+    (c .before .mark-from .ensures) (c .if2 .taken) in
+    landed-on (start .args .s .now) (start .args .g) (start .pre .0) (start .args .b) (start .args .from) (at .at)
+    (at .inv .0) (at .inv .2)
     (omega (arith, at .inv .3, first .ensures .counted)) _ refl (omega arith) (m .0) (m .1) refl
 
 sub-t14 : tie.Need-sub-t14 Inv-loop μ-loop
@@ -115,23 +118,33 @@ add-t12 c =
 to-one-requires-2 : tie.Need-to-one-requires-2 Inv-loop μ-loop
 to-one-requires-2 c κs =
     let start = c .before .before .before .before .before .before .before .before .before .before .before .before in
-    let at = c .before .before .before .before .before .before .before .before .before .loop in
-    (start .pre .0, walking-drop (start .args .s .now) (start .args .g) (start .pre .0) (at .at) (at .inv .0) (omega arith) _ refl refl refl refl)
+    let at = c .before .before .before .before .before .before .before .before .before .loop in (
+      start .pre .0,
+      walking-drop (start .args .s .now) (start .args .g) (start .pre .0) (at .at) (at .inv .0)
+          (omega arith) _ refl refl refl refl,
+    )
 
 loop-less : tie.Need-loop-less Inv-loop μ-loop
 loop-less c =
-    let start = c .before .before .before .before .before .before .before .before .before .before .before .before .before in
+    let start =
+    c .before .before .before .before .before .before .before .before .before .before .before .before .before in
     let at = c .before .before .before .before .before .before .before .before .before .before .loop in
     let t = turn (start .args .s .now) (start .args .g) (start .pre .0) (at .at) (at .inv .0) (omega arith) in
     omega (arith, c .to-one2 .ensures .rank-kept, t .number)
 
 loop-again : tie.Need-loop-again Inv-loop μ-loop
 loop-again c =
-    let start = c .before .before .before .before .before .before .before .before .before .before .before .before .before in
+    let start =
+    c .before .before .before .before .before .before .before .before .before .before .before .before .before in
     let at = c .before .before .before .before .before .before .before .before .before .before .loop in
     let t = c .to-one2 .ensures in
-    let m = mark-none (decode (start .args .s .now)) (start .args .b) (at .at .rank) _ (c .before .before .before .before .before .mark-from .ensures) (c .before .before .before .before .if2 .left) in
-    (t .at, t .some, λ j h. below-more _ _ (at .inv .2) m j (omega (arith, t .rank-kept)), omega (arith, at .inv .3, t .counted))
+    let m = mark-none (decode (start .args .s .now)) (start .args .b) (at .at .rank) _
+    (c .before .before .before .before .before .mark-from .ensures) (c .before .before .before .before .if2 .left) in (
+      t .at,
+      t .some,
+      λ j h. below-more _ _ (at .inv .2) m j (omega (arith, t .rank-kept)),
+      omega (arith, at .inv .3, t .counted),
+    )
 
 returns-2 : tie.Need-returns-2 Inv-loop μ-loop
 returns-2 c =
@@ -140,7 +153,8 @@ returns-2 c =
     let at = c .before .before .before .loop in
     let n = c .none .ensures in
     let e : at .at .left ≡ 0 = omega arith in
-    landed-none (start .args .s .now) (start .args .g) (start .pre .0) (start .args .b) (start .args .from) (at .at) (at .inv .0) (at .inv .2)
+    landed-none (start .args .s .now) (start .args .g) (start .pre .0) (start .args .b) (start .args .from) (at .at)
+    (at .inv .0) (at .inv .2)
     (omega (arith, at .inv .3, first .ensures .counted)) _ (n .2) e (at .inv .1 e) (n .0) (n .1)
 
 pub land-spec : {M : Type 1} → statement M

@@ -42,7 +42,12 @@ value-lt c =
     let o = start .pre .0 in
     let r = open-reads (a .s .now) (a .g) o in
     let l = one-ranks (a .s .now) (a .g) o (a .bit) (a .rank) (start .pre .1) .number in
-    omega (arith, c .before .value-at .ensures, open-U (a .s .now) (a .g) o, rising-below 0 _ _ (open-rising (a .s .now) (a .g) o) (a .rank) (omega (arith, open-length (a .s .now) (a .g) o)))
+    omega (
+      arith,
+      c .before .value-at .ensures,
+      open-U (a .s .now) (a .g) o,
+      rising-below 0 _ _ (open-rising (a .s .now) (a .g) o) (a .rank) (omega (arith, open-length (a .s .now) (a .g) o)),
+    )
 
 add-result : tie.Need-add-result
 add-result c = record { fits = omega (arith, value-lt c) }

@@ -20,7 +20,8 @@ look-requires c κs =
     let start = c .before .before .before .before in
     let a = start .args in
     let p = start .pre in
-    look-fits (a .s .now) (a .g) (p .0) (a .from .bit / 64) (a .looks) (start-word (a .s .now) (a .g) (p .0) (a .b) (a .from) (p .2) (p .3)) (omega arith)
+    look-fits (a .s .now) (a .g) (p .0) (a .from .bit / 64) (a .looks)
+    (start-word (a .s .now) (a .g) (p .0) (a .b) (a .from) (p .2) (p .3)) (omega arith)
 
 add-if1 : tie.Need-add-if1
 add-if1 c =
@@ -29,11 +30,6 @@ add-if1 c =
     let r = open-reads (start .args .s .now) (start .args .g) (start .pre .0) in
     record { fits = omega (arith, t .counted) }
 
-sub-t14 : tie.Need-sub-t14
-sub-t14 c =
-    let start = c .before .before .before .before .before .before .before .before .before in
-    omega (arith, start .pre .2 .counted)
-
 returns : tie.Need-returns
 returns c =
     let start = c .before .before .before .before .before .before .before .before .before in
@@ -41,7 +37,8 @@ returns c =
     let p = start .pre in
     let e = c .before .before .before .before .look .ensures in
     passed-start (a .s .now) (a .g) (p .0) (a .b) (a .from) (p .2) (p .3) (a .looks) _ (p .4)
-    (c .before .from-place .ensures ∙ ap (λ (x : ℕ). x / 2 ^ (a .from .bit % 64) * 2 ^ (a .from .bit % 64)) (e .0)) refl refl (e .1)
+    (c .before .from-place .ensures ∙ ap (λ (x : ℕ). x / 2 ^ (a .from .bit % 64) * 2 ^ (a .from .bit % 64)) (e .0))
+    refl refl (e .1)
 
 skip-requires : tie.Need-skip-requires
 skip-requires c κs =
@@ -51,7 +48,8 @@ skip-requires c κs =
     let e = c .before .before .before .before .look .ensures in (
       p .0,
       open-ruled (a .s .now) (a .g) (p .0) (open-some (a .s .now) (a .g) (p .0) (omega arith)) .zeros-is (a .b) (p .1),
-      skipping-start (a .s .now) (a .g) (p .0) (a .b) (a .from) (p .2) (p .3) _ (a .looks) _ (p .4) (e .0) (c .from-place2 .ensures) refl refl (e .1) (omega arith),
+      skipping-start (a .s .now) (a .g) (p .0) (a .b) (a .from) (p .2) (p .3) _ (a .looks) _ (p .4) (e .0)
+          (c .from-place2 .ensures) refl refl (e .1) (omega arith),
     )
 
 returns-2 : tie.Need-returns-2

@@ -26,7 +26,8 @@ wide c =
     let start = c .before .before .before in
     let a = start .args in
     let h = held-on (listU (a .s .now)) (decode (a .s .now)) (a .c) (start .pre .1) (start .pre .2) (start .pre .3) in
-    open-ruled (a .s .now) (a .g) (start .pre .0) (omega (arith, h .0, open-length (a .s .now) (a .g) (start .pre .0))) .wide
+    open-ruled (a .s .now) (a .g) (start .pre .0)
+    (omega (arith, h .0, open-length (a .s .now) (a .g) (start .pre .0))) .wide
 
 sub-result : tie.Need-sub-result
 sub-result c =

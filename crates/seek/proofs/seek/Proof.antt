@@ -11,7 +11,12 @@ returns : tie.Need-returns
 unfolding movedTo held landing
 returns c =
     let a = c .before .before .before .args in
-    ap (λ (l : Landing). record { mark = l .mark; bit = l .bit; seeks = a .c .seeks + 1; looks = l .looks }) (c .before .find .ensures)
+    ap (λ (l : Landing). record {
+      mark = l .mark;
+      bit = l .bit;
+      seeks = a .c .seeks + 1;
+      looks = l .looks;
+    }) (c .before .find .ensures)
 
 pub seek-spec : {M : Type 1} → statement M
 seek-spec = tie.close (tie.spec (λ c κs. search needs) (λ c. search needs) returns)

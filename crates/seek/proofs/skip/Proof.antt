@@ -36,15 +36,23 @@ add-k : tie.Need-add-k Inv-loop μ-loop
 add-k c =
     let start = c .before .before .before .before .before in
     let at = c .before .before .before .loop in
-    record { fits = omega (arith, words-few (start .args .s .now) (start .args .g) (start .pre .0) (at .at .k) (at .inv .0 .within)) }
+    record {
+      fits = omega (
+        arith,
+        words-few (start .args .s .now) (start .args .g) (start .pre .0) (at .at .k) (at .inv .0 .within),
+      );
+    }
 
 look-requires : tie.Need-look-requires Inv-loop μ-loop
 look-requires c κs =
     let start = c .before .before .before .before .before in
     let at = c .before .before .before .loop in
     let z = at .inv .0 in
-    let more = skipping-inside (start .args .s .now) (start .args .g) (start .pre .0) (start .args .h) (at .at) z (start .pre .1) (omega (arith, c .before .before .zeros-through .ensures)) in
-    look-fits (start .args .s .now) (start .args .g) (start .pre .0) (at .at .k + 1) (at .at .looks) more (omega (arith, z .room))
+    let more =
+    skipping-inside (start .args .s .now) (start .args .g) (start .pre .0) (start .args .h) (at .at) z (start .pre .1)
+    (omega (arith, c .before .before .zeros-through .ensures)) in
+    look-fits (start .args .s .now) (start .args .g) (start .pre .0) (at .at .k + 1) (at .at .looks) more
+    (omega (arith, z .room))
 
 zeros-through-requires-2 : tie.Need-zeros-through-requires-2 Inv-loop μ-loop
 zeros-through-requires-2 c κs =
@@ -63,8 +71,13 @@ loop-again c =
     let start = c .before .before .before .before .before .before .before .before in
     let at = c .before .before .before .before .before .before .loop in
     let e = c .before .before .look .ensures in
-    let l : at .at .before + ones (at .at .left) < start .args .h = omega (arith, c .before .before .before .before .before .zeros-through .ensures, c .before .before .before .before .if1 .taken) in
-    let next = skipping-next (start .args .s .now) (start .args .g) (start .pre .0) (start .args .h) (at .at) (at .inv .0) (start .pre .1) _ l refl (e .0) refl (c .zeros-through2 .ensures) (e .1) in
+    let l : at .at .before + ones (at .at .left) < start .args .h = omega (
+      arith,
+      c .before .before .before .before .before .zeros-through .ensures,
+      c .before .before .before .before .if1 .taken,
+    ) in
+    let next = skipping-next (start .args .s .now) (start .args .g) (start .pre .0) (start .args .h) (at .at)
+    (at .inv .0) (start .pre .1) _ l refl (e .0) refl (c .zeros-through2 .ensures) (e .1) in
     (next, omega (arith, at .inv .1, e .1))
 
 sub-select-one : tie.Need-sub-select-one Inv-loop μ-loop
@@ -87,12 +100,14 @@ pub record Zero (s : List ℕ) (g : Shape) (h k place : ℕ) : Type 0 where
 
 zero-found : (c : tie.After-select-one Inv-loop μ-loop) →
     let start = c .before .before .before .before .before .before in
-    Zero (start .args .s .now) (start .args .g) (start .args .h) (c .before .before .before .before .loop .at .k) (c .select-one .result)
+    Zero (start .args .s .now) (start .args .g) (start .args .h) (c .before .before .before .before .loop .at .k)
+    (c .select-one .result)
 zero-found c =
     let start = c .before .before .before .before .before .before in
     let at = c .before .before .before .before .loop in
     let z = at .inv .0 in
-    let l : start .args .h ≤ at .at .before + ones (at .at .left) = omega (arith, c .before .before .before .zeros-through .ensures, c .before .before .if1 .left) in
+    let l : start .args .h ≤ at .at .before + ones (at .at .left) =
+    omega (arith, c .before .before .before .zeros-through .ensures, c .before .before .if1 .left) in
     rw (c .select-one .ensures .0) (record {
       inside = zero-lt (start .args .s .now) (start .args .g) (start .pre .0) (start .args .h) (at .at) z l;
       rank-is = zero-rank (start .args .s .now) (start .args .g) (start .pre .0) (start .args .h) (at .at) z l;
@@ -106,13 +121,24 @@ mul-t14 : tie.Need-mul-t14 Inv-loop μ-loop
 mul-t14 c =
     let start = c .before .before .before .before .before .before .before .before in
     let at = c .before .before .before .before .before .before .loop in
-    record { fits = omega (arith, words-few (start .args .s .now) (start .args .g) (start .pre .0) (at .at .k) (at .inv .0 .within)) }
+    record {
+      fits = omega (
+        arith,
+        words-few (start .args .s .now) (start .args .g) (start .pre .0) (at .at .k) (at .inv .0 .within),
+      );
+    }
 
 add-t15 : tie.Need-add-t15 Inv-loop μ-loop
 add-t15 c =
     let start = c .before .before .before .before .before .before .before .before in
     let at = c .before .before .before .before .before .before .loop in
-    record { fits = omega (arith, words-few (start .args .s .now) (start .args .g) (start .pre .0) (at .at .k) (at .inv .0 .within), zero-found (c .before .before) .inside) }
+    record {
+      fits = omega (
+        arith,
+        words-few (start .args .s .now) (start .args .g) (start .pre .0) (at .at .k) (at .inv .0 .within),
+        zero-found (c .before .before) .inside,
+      );
+    }
 
 sub-t18 : tie.Need-sub-t18 Inv-loop μ-loop
 sub-t18 c = omega (arith, c .before .before .before .before .before .before .loop .inv .0 .short)
@@ -127,11 +153,13 @@ returns c =
     let z = at .inv .0 in
     let f = zero-found (c .before .before) in
     let p : ℕ = c .before .before .select-one .result in
-    let e : suc (64 * at .at .k + p) ≡ 64 * at .at .k + p - (start .args .h - 1) + start .args .h = omega (arith, f .rank-is, z .short) in
+    let e : suc (64 * at .at .k + p) ≡ 64 * at .at .k + p - (start .args .h - 1) + start .args .h =
+    omega (arith, f .rank-is, z .short) in
     record {
       at =
           walking-from (start .args .s .now) (start .args .g) (start .pre .0) p _ (f .inside) (z .within)
-          (c .before .from-place .ensures ∙ ap (λ (x : ℕ). x / 2 ^ p * 2 ^ p) (z .word-is)) (omega (arith, f .rank-is, z .short)) (z .room);
+          (c .before .from-place .ensures ∙ ap (λ (x : ℕ). x / 2 ^ p * 2 ^ p) (z .word-is))
+          (omega (arith, f .rank-is, z .short)) (z .room);
       passed = rw e at (f .after);
       counted = at .inv .1;
     }

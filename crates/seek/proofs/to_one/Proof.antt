@@ -14,7 +14,8 @@ use Rattle.seek.proofs.to_one.Tie as tie
 
 abbrev Inv-loop : tie.InvT-loop
 Inv-loop s g last at₀ at =
-    (last + 1 ≡ wordsFor (g .bits)) × Walking s g at × (at .rank ≡ at₀ .rank) × (at .looks + at₀ .k ≡ at₀ .looks + at .k)
+    (last + 1 ≡ wordsFor (g .bits)) × Walking s g at × (at .rank ≡ at₀ .rank)
+    × (at .looks + at₀ .k ≡ at₀ .looks + at .k)
 
 abbrev μ-loop : tie.MeasureT-loop
 μ-loop s g last at₀ at = last - at .k
@@ -43,7 +44,8 @@ look-requires c κs =
     let start = c .before .before .before .before .before .before .before .before in
     let at = c .before .before .before .before .before .loop in
     let w = at .inv .1 in
-    look-fits (start .args .s .now) (start .args .g) (start .pre .0) (at .at .k + 1) (at .at .looks) (omega (arith, at .inv .0, ltb-true)) (omega (arith, w .room))
+    look-fits (start .args .s .now) (start .args .g) (start .pre .0) (at .at .k + 1) (at .at .looks)
+    (omega (arith, at .inv .0, ltb-true)) (omega (arith, w .room))
 
 loop-less : tie.Need-loop-less Inv-loop μ-loop
 loop-less c =
@@ -55,14 +57,20 @@ loop-again c =
     let start = c .before .before .before .before .before .before .before .before .before in
     let at = c .before .before .before .before .before .before .loop in
     let e = c .look .ensures in
-    let next = walking-next (start .args .s .now) (start .args .g) (start .pre .0) (at .at) (at .inv .1) _ (c .before .before .before .before .if1 .taken) refl (omega (arith, at .inv .0, ltb-true)) (e .0) refl (e .1) in
+    let next = walking-next (start .args .s .now) (start .args .g) (start .pre .0) (at .at) (at .inv .1) _
+    (c .before .before .before .before .if1 .taken) refl (omega (arith, at .inv .0, ltb-true)) (e .0) refl (e .1) in
     (at .inv .0, next, at .inv .2, omega (arith, at .inv .3, e .1))
 
 returns : tie.Need-returns Inv-loop μ-loop
 returns c =
     let at = c .before .before .before .before .loop in
     let w = at .inv .1 in
-    record { at = w; some = λ e. omega (arith, at .inv .0, w .within, ltb-false); rank-kept = at .inv .2; counted = at .inv .3 }
+    record {
+      at = w;
+      some = λ e. omega (arith, at .inv .0, w .within, ltb-false);
+      rank-kept = at .inv .2;
+      counted = at .inv .3;
+    }
 
 returns-2 : tie.Need-returns-2 Inv-loop μ-loop
 returns-2 c =

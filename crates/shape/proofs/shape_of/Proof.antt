@@ -9,13 +9,6 @@ use Rattle.listlaws.proofs.BlockLaws.{size-is}
 use Rattle.shape.proofs.ShapeLaws.{shape-none, shape-some, bounded}
 use Rattle.shape.proofs.shape_of.Statement.{statement}
 use Rattle.shape.proofs.shape_of.Tie as tie
-use Rattle.shape.proofs.shape_of.Reads as reads
-use Rattle.shape.proofs.shape_of.Lts as lts
-use Rattle.bits.proofs.width.Reads as width-reads
-
--- where the width is known
-abbrev Wide : Type 0
-Wide = lts.After-width (width-reads.Asked, width-reads.Learnt) reads.Pre reads.Post
 
 -- the zeros and the product of n and the width, as the code has them
 record Small (u n w : ℕ) : Type 0 where
@@ -24,7 +17,7 @@ record Small (u n w : ℕ) : Type 0 where
   within : u ≤ 16777216
   below : n ≤ u
 
-small : (c : Wide) → Small (c .before .before .args .u) (c .before .before .args .n) (c .width .result)
+small : (c : tie.After-width) → Small (c .before .before .args .u) (c .before .before .args .n) (c .width .result)
 unfolding zeros
 small c =
     let a = c .before .before .args in

@@ -23,14 +23,23 @@ add-result c =
     let g = start .args .g in
     let o = start .pre .0 in
     let r = open-reads s g o in
-    omega (arith, c .element-at .ensures, open-U s g o, rising-below 0 (listU s) (decode s) (open-rising s g o) (start .args .i - 1) (omega (arith, open-length s g o)))
+    omega (
+      arith,
+      c .element-at .ensures,
+      open-U s g o,
+      rising-below 0 (listU s) (decode s) (open-rising s g o) (start .args .i - 1) (omega (arith, open-length s g o)),
+    )
 
 returns-2 : tie.Need-returns-2
 returns-2 c =
     let start = c .before .before .before in
     let s = start .args .block .now in
     let g = start .args .g in
-    omega (arith, c .element-at .ensures, past-some (decode s) (start .args .i) (omega arith) (omega (arith, open-length s g (start .pre .0))))
+    omega (
+      arith,
+      c .element-at .ensures,
+      past-some (decode s) (start .args .i) (omega arith) (omega (arith, open-length s g (start .pre .0))),
+    )
 
 pub past-spec : {M : Type 1} → statement M
 past-spec = tie.close (tie.spec returns (λ c. search needs) (λ c κs. search needs) add-result returns-2)

@@ -1,5 +1,7 @@
 -- `open_pages` places the words' pages, and opens the lists there.
-use Rattle.wordlists.proofs.OpenLaws.{pages-places, pages-alike, pages-opened}
+use mathlib.Core.Path.{ap, _∙_}
+use Rattle.rules.specs.Common.{leadOf}
+use Rattle.wordlists.proofs.OpenLaws.{pages-places, pages-alike, placed-lists, pages-opened}
 use borrow.Author.Needs.{needs}
 use Rattle.wordlists.proofs.open_pages.Statement.{statement}
 use Rattle.wordlists.proofs.open_pages.Tie as tie
@@ -15,7 +17,10 @@ returns c =
     let o = c .before .before in
     let p = o .before .before .before .before .place-lists in
     let b = c .before .before .before .before .before .before .before .before .before .before .before in
-    pages-opened (b .args .card .now) (b .args .terms .now) (p .last .1 .1 .1 .0) (b .pre .0) (b .pre .1) (p .kept .1 .1 .1 .0) (p .ensures) (o .open-lists .last .1 .1 .1 .0) (o .open-lists .ensures)
+    let lists = placed-lists (b .args .card .now) (b .args .terms .now) (p .last .1 .1 .1 .0) (b .pre .0) (b .pre .1) (p .kept .1 .1 .1 .0) (p .ensures) in (
+      o .open-lists .ensures .0 ∙ ap leadOf lists,
+      pages-opened (b .args .card .now) (b .args .terms .now) (p .last .1 .1 .1 .0) (b .pre .0) (b .pre .1) (p .kept .1 .1 .1 .0) (p .ensures) (o .open-lists .last .1 .1 .1 .0) (o .open-lists .ensures .1),
+    )
 
 pub open-pages-spec : {M : Type 1} → statement M
 open-pages-spec =

@@ -42,7 +42,8 @@ returns c =
     let s = w .before .before .before in
     let a = s .args in
     partly-none (a .g) (a .room .now) (n .write-u323 .last .0)
-    (framed-none (a .g) (a .room .now) (s .pre) (w .write-u32 .last .0) (set (w .write-u32 .last .0) 4 1) (u .write-u322 .last .0) (n .write-u323 .last .0)
+    (framed-none (a .g) (a .room .now) (s .pre) (w .write-u32 .last .0)
+    (set (w .write-u32 .last .0) 4 1) (u .write-u322 .last .0) (n .write-u323 .last .0)
     (w .write-u32 .ensures) refl (u .write-u322 .ensures) (n .write-u323 .ensures))
 
 pub begin-spec : {M : Type 1} → statement M

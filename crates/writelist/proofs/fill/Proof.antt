@@ -1,4 +1,5 @@
--- `fill` lays the elements one by one: after i of them the block of the first i is laid, over whatever was there before.
+-- `fill` lays the elements one by one:
+-- after i of them the block of the first i is laid, over whatever was there before.
 use mathlib.Core.Path.{_≡_, refl}
 use mathlib.Core.List.{List, [], _∷_, _++_}
 use Prim.Native.Nat.{ℕ, _+_, _-_, _≤_}
@@ -10,11 +11,6 @@ use Rattle.writelist.specs.Filling.{Partly}
 use Rattle.writelist.proofs.RiseLaws.{next-of}
 use Rattle.writelist.proofs.fill.Statement.{statement}
 use Rattle.writelist.proofs.fill.Tie as tie
-use Rattle.writelist.proofs.fill.Reads as reads
-use Rattle.writelist.proofs.fill.Lts as lts
-use Rattle.writelist.proofs.begin.Reads as begin-reads
-use Rattle.writelist.proofs.finish.Reads as finish-reads
-use Rattle.writelist.proofs.put.Reads as put-reads
 
 abbrev Inv-loop : tie.InvT-loop
 Inv-loop room₀ g list f₀ i₀ i-end room f i =
@@ -25,7 +21,7 @@ abbrev μ-loop : tie.MeasureT-loop
 μ-loop room₀ g list f₀ i₀ i-end room f i = length list - i
 
 -- the elements laid before a turn, over the room at entry
-so-far : (l : lts.At-loop (begin-reads.Asked, begin-reads.Learnt, put-reads.Asked, put-reads.Learnt, finish-reads.Asked, finish-reads.Learnt) reads.Pre reads.Post Inv-loop μ-loop)
+so-far : (l : tie.At-loop Inv-loop μ-loop)
     → let a = l .before .before .before .before .before .before .before .args in
     Partly (a .g) (take (l .loop .i) (a .list .now)) (l .loop .f) (a .room .now) (l .loop .room)
 so-far l =
@@ -64,7 +60,8 @@ loop-again c =
       omega arith,
       omega arith,
       λ before q.
-          rw e (p .put .ensures (take i xs) before (l .loop .inv .3 before q) (next-of (a .g) xs (s .pre .1) (s .pre .2) i (omega arith))),
+          rw e (p .put .ensures (take i xs) before (l .loop .inv .3 before q)
+          (next-of (a .g) xs (s .pre .1) (s .pre .2) i (omega arith))),
     )
 
 finish-requires : tie.Need-finish-requires Inv-loop μ-loop
@@ -87,7 +84,8 @@ returns c =
     let xs = s .args .list .now in
     let n : l .loop .i ≡ length xs = omega arith in
     rw (n, take-length xs) at
-    (f .finish .ensures (take (l .loop .i) xs) (s .args .room .now) (so-far l) (all-laid xs (l .loop .i) (s .args .g .n) (s .pre .1) n))
+    (f .finish .ensures (take (l .loop .i) xs) (s .args .room .now) (so-far l)
+    (all-laid xs (l .loop .i) (s .args .g .n) (s .pre .1) n))
 
 pub fill-spec : {M : Type 1} → statement M
 fill-spec =

@@ -1,4 +1,5 @@
--- `put` lays one element: its steps lie within the block's parts, and what they leave is that block with one element more.
+-- `put` lays one element:
+-- its steps lie within the block's parts, and what they leave is that block with one element more.
 use Prim.Native.Nat.{ℕ, _+_, _/_, _%_, _^_}
 use native.Mathlib.Omega.{arith}
 use borrow.Author.Needs.{needs}
@@ -11,26 +12,29 @@ use Rattle.writelist.proofs.FillLaws.{raised-lt}
 use Rattle.writelist.proofs.PartLaws.{ready-step, partly-more}
 use Rattle.writelist.proofs.put.Statement.{statement}
 use Rattle.writelist.proofs.put.Tie as tie
-use Rattle.writelist.proofs.put.Reads as reads
-use Rattle.writelist.proofs.put.Lts as lts
-use Rattle.writelist.proofs.put_low.Reads as put-low-reads
-use Rattle.writelist.proofs.put_pointers.Reads as put-pointers-reads
-use Rattle.writelist.proofs.put_words.Reads as put-words-reads
 
--- where all three parts are written
-abbrev Last : Type 0
-Last =
-    lts.After-struct-known3
-    (put-low-reads.Asked, put-low-reads.Learnt, put-pointers-reads.Asked, put-pointers-reads.Learnt, put-words-reads.Asked, put-words-reads.Learnt) reads.Pre reads.Post
+-- the start, seen from where all three parts are written
+abbrev start : tie.After-struct-known3 → tie.Start
+start c =
+    let q = c .before .before .before .before .before .before .before .before in
+    q .before .before .before .before .before .before .before .before
 
-laid-more : (c : Last) (xs before : List ℕ)
-    → let a = c .before .before .before .before .before .before .before .before .before .before .before .before .before .before .before .before .args in
+laid-more : (c : tie.After-struct-known3) (xs before : List ℕ)
+    → let a = start c .args in
     let w = c .before .before .before in
     let low = w .before .before .before .before .before .before .before .before .before .before in
     let place : ℕ = a .x / 2 ^ a .g .w + a .f .count in
     Partly (a .g) xs (a .f) before (a .room .now) → Next (a .g) xs (a .x)
     → Partly (a .g) (xs ++ (a .x ∷ []))
-    (record { count = a .f .count + 1; lows = low .put-low .result; ups = record { acc = w .put-words .result + 2 ^ (place % 64); words = place / 64; next = a .x / 2 ^ a .g .w / 256 + 1 } })
+    (record {
+      count = a .f .count + 1;
+      lows = low .put-low .result;
+      ups = record {
+        acc = w .put-words .result + 2 ^ (place % 64);
+        words = place / 64;
+        next = a .x / 2 ^ a .g .w / 256 + 1;
+      };
+    })
     before (w .put-words .last .0)
 laid-more c xs before p m =
     let w = c .before .before .before in
@@ -58,17 +62,20 @@ put-pointers-requires c κs =
 
 add-place : tie.Need-add-place
 add-place c =
-    let s = ready-step (c .before .before .before .before .before .before .before .before .before .before .before .pre) in
+    let q = c .before .before .before .before in
+    let s = ready-step (q .before .before .before .before .before .before .before .pre) in
     omega arith
 
 put-words-requires : tie.Need-put-words-requires
 put-words-requires c κs =
-    let s = ready-step (c .before .before .before .before .before .before .before .before .before .before .before .before .pre) in
+    let q = c .before .before .before .before .before in
+    let s = ready-step (q .before .before .before .before .before .before .before .pre) in
     (s .words-le, omega arith)
 
 add-t16 : tie.Need-add-t16
 add-t16 c =
-    let s = ready-step (c .before .before .before .before .before .before .before .before .before .before .before .before .before .before .before .before .pre) in
+    let q = c .before .before .before .before .before .before .before .before .before in
+    let s = ready-step (q .before .before .before .before .before .before .before .pre) in
     omega arith
 
 add-t20 : tie.Need-add-t20
@@ -79,8 +86,13 @@ add-t20 c =
     let r = q .before .before .before .before .before .before .before .before .pre in
     let place : ℕ = a .x / 2 ^ a .g .w + a .f .count in
     let p = laid-more c (r .xs) (r .before) (r .partly) (r .next) in
-    let h = raised-lt (w .put-words .last .0) (a .g .upper) (high (a .g .w) (r .xs ++ (a .x ∷ []))) (length (r .xs ++ (a .x ∷ []))) (upper (a .g .w) 0 (r .xs ++ (a .x ∷ [])))
-    (record { acc = w .put-words .result + 2 ^ (place % 64); words = place / 64; next = a .x / 2 ^ a .g .w / 256 + 1 }) (p .ups) in
+    let h = raised-lt (w .put-words .last .0) (a .g .upper) (high (a .g .w) (r .xs ++ (a .x ∷ [])))
+    (length (r .xs ++ (a .x ∷ []))) (upper (a .g .w) 0 (r .xs ++ (a .x ∷ [])))
+    (record {
+      acc = w .put-words .result + 2 ^ (place % 64);
+      words = place / 64;
+      next = a .x / 2 ^ a .g .w / 256 + 1;
+    }) (p .ups) in
     let o = one-shl (place % 64) (omega arith) in
     rw o (record { fits = h })
 

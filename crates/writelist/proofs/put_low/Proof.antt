@@ -24,12 +24,14 @@ place-requires c κs =
     (p .0, p .1, rw (masked (a .x) (a .w) (omega arith)) (mod-lt (a .x) (pow-pos (a .w))), p .2)
 
 -- the bits that `place` gives
-laid-bits : (x w b acc hi lo : ℕ) → w ≤ 32 → hi * 2 ^ 64 + lo ≡ bitAnd x ((1 * 2 ^ w) % 2 ^ 64 - 1) * 2 ^ b + acc → hi * 2 ^ 64 + lo ≡ acc + x % 2 ^ w * 2 ^ b
+laid-bits : (x w b acc hi lo : ℕ) → w ≤ 32 → hi * 2 ^ 64 + lo ≡ bitAnd x ((1 * 2 ^ w) % 2 ^ 64 - 1) * 2 ^ b + acc
+    → hi * 2 ^ 64 + lo ≡ acc + x % 2 ^ w * 2 ^ b
 laid-bits x w b acc hi lo h e = e ∙ rw (masked x w (omega arith)) (omega arith)
 
 laid-lt : (x w b acc : ℕ) → acc < 2 ^ b → b + w ≤ 64 → acc + x % 2 ^ w * 2 ^ b < 2 ^ 64
 laid-lt x w b acc h l =
-    let d : x % 2 ^ w * 2 ^ b + acc < 2 ^ w * 2 ^ b = digits-lt {q = x % 2 ^ w} {m = 2 ^ w} {r = acc} {c = 2 ^ b} (mod-lt x (pow-pos w)) h in
+    let d : x % 2 ^ w * 2 ^ b + acc < 2 ^ w * 2 ^ b =
+    digits-lt {q = x % 2 ^ w} {m = 2 ^ w} {r = acc} {c = 2 ^ b} (mod-lt x (pow-pos w)) h in
     let g : w + b ≤ 64 = omega arith in
     omega (arith, lt-of-lt-of-le (rw (← pow-add) at d) (pow-mono g))
 
@@ -42,10 +44,12 @@ returns c =
     let s = k .before .before in
     let a = s .args in
     let lows = a .a in
-    let l = laid-bits (a .x) (a .w) (lows .have) (lows .acc) (k .place .result .hi) (k .place .result .lo) (s .pre .1) (k .place .ensures) in
+    let l = laid-bits (a .x) (a .w) (lows .have) (lows .acc) (k .place .result .hi) (k .place .result .lo) (s .pre .1)
+    (k .place .ensures) in
     let t = laid-lt (a .x) (a .w) (lows .have) (lows .acc) (s .pre .2) (omega arith) in
     record {
-      flushed = flushed-none (a .at) (lows .words) (lows .acc + a .x % 2 ^ a .w * 2 ^ lows .have) (a .room .now) ((lows .have + a .w) / 64) (k .place .result .lo) (omega arith) (omega arith);
+      flushed = flushed-none (a .at) (lows .words) (lows .acc + a .x % 2 ^ a .w * 2 ^ lows .have) (a .room .now)
+          ((lows .have + a .w) / 64) (k .place .result .lo) (omega arith) (omega arith);
       have = omega arith;
       words = omega arith;
     }
@@ -57,10 +61,14 @@ returns-2 c =
     let s = k .before .before in
     let a = s .args in
     let lows = a .a in
-    let l = laid-bits (a .x) (a .w) (lows .have) (lows .acc) (k .place .result .hi) (k .place .result .lo) (s .pre .1) (k .place .ensures) in
-    let p = parted (k .place .result .hi) (k .place .result .lo) (lows .acc + a .x % 2 ^ a .w * 2 ^ lows .have) (k .place .ok .1 .1 .0 .1) l in
+    let l = laid-bits (a .x) (a .w) (lows .have) (lows .acc) (k .place .result .hi) (k .place .result .lo) (s .pre .1)
+    (k .place .ensures) in
+    let p = parted (k .place .result .hi) (k .place .result .lo) (lows .acc + a .x % 2 ^ a .w * 2 ^ lows .have)
+    (k .place .ok .1 .1 .0 .1) l in
     record {
-      flushed = flushed-one (a .at) (lows .words) (lows .acc + a .x % 2 ^ a .w * 2 ^ lows .have) (a .room .now) ((lows .have + a .w) / 64) (k .place .result .hi) (k .place .result .lo) (u .write-u64 .last .0) (omega arith) (omega arith) (u .write-u64 .ensures) (p .0) (p .1);
+      flushed = flushed-one (a .at) (lows .words) (lows .acc + a .x % 2 ^ a .w * 2 ^ lows .have) (a .room .now)
+          ((lows .have + a .w) / 64) (k .place .result .hi) (k .place .result .lo) (u .write-u64 .last .0) (omega arith)
+          (omega arith) (u .write-u64 .ensures) (p .0) (p .1);
       have = omega arith;
       words = omega arith;
     }

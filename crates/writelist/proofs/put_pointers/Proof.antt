@@ -13,7 +13,8 @@ pointer-at count q = 256 * q + count
 
 abbrev Inv-loop : tie.InvT-loop
 Inv-loop room₀ next high count end q₀ room q =
-    (next ≤ q) × (q ≤ end) × (end ≡ high / 256 + 1) × (length room ≡ length room₀) × Stored 4 9 (pointer-at count) next q room₀ room
+    (next ≤ q) × (q ≤ end) × (end ≡ high / 256 + 1) × (length room ≡ length room₀)
+    × Stored 4 9 (pointer-at count) next q room₀ room
 
 abbrev μ-loop : tie.MeasureT-loop
 μ-loop room₀ next high count end q₀ room q = end - q
@@ -27,15 +28,19 @@ loop-again : tie.Need-loop-again Inv-loop μ-loop
 loop-again c =
     let l = c .before .before .before .before .before in
     let a = l .before .before .args in
-    let t = stored-more 4 9 (pointer-at (a .count)) (a .next) (l .loop .q) (a .room .now) (l .loop .room) (l .loop .inv .4) (omega arith) (omega arith) (omega arith) (c .before .before .write-u32 .last .0) (c .before .before .write-u32 .ensures) in
+    let t = stored-more 4 9 (pointer-at (a .count)) (a .next) (l .loop .q) (a .room .now)
+    (l .loop .room) (l .loop .inv .4) (omega arith) (omega arith) (omega arith) (c .before .before .write-u32 .last .0)
+    (c .before .before .write-u32 .ensures) in
     (omega arith, omega arith, omega arith, t .long, t)
 
 returns : tie.Need-returns Inv-loop μ-loop
 returns c =
     let l = c .before in
     let a = l .before .before .args in
-    let e : l .loop .q ≡ a .high / 256 + 1 = omega arith in
-    (l .loop .inv .2, subst (λ n. Stored 4 9 (pointer-at (a .count)) (a .next) n (a .room .now) (l .loop .room)) e (l .loop .inv .4))
+    let e : l .loop .q ≡ a .high / 256 + 1 = omega arith in (
+      l .loop .inv .2,
+      subst (λ n. Stored 4 9 (pointer-at (a .count)) (a .next) n (a .room .now) (l .loop .room)) e (l .loop .inv .4),
+    )
 
 pub put-pointers-spec : {M : Type 1} → statement M
 put-pointers-spec =

@@ -10,7 +10,8 @@ use Rattle.writelist.proofs.rises.Statement.{statement}
 use Rattle.writelist.proofs.rises.Tie as tie
 
 abbrev Inv-loop : tie.InvT-loop
-Inv-loop u list lo₀ i₀ i-end lo i = (i ≤ length list) × (i-end ≡ length list) × (lo ≤ 2 ^ 32) × (rising 0 u list ≡ climbsBelow u lo (drop i list))
+Inv-loop u list lo₀ i₀ i-end lo i =
+    (i ≤ length list) × (i-end ≡ length list) × (lo ≤ 2 ^ 32) × (rising 0 u list ≡ climbsBelow u lo (drop i list))
 
 abbrev μ-loop : tie.MeasureT-loop
 μ-loop u list lo₀ i₀ i-end lo i = length list - i
@@ -34,8 +35,12 @@ add-lo c = omega (arith, c .before .shared-slice-known .given (c .before .before
 loop-again : tie.Need-loop-again Inv-loop μ-loop
 loop-again c =
     let l = c .before .before .before in
-    let a = l .before .args in
-    (omega arith, omega arith, omega (arith, c .before .shared-slice-known .given (l .loop .i)), l .loop .inv .3 ∙ climbs-on (a .u) (a .list .now) (l .loop .lo) (l .loop .i) (omega arith) (c .if1 .left))
+    let a = l .before .args in (
+      omega arith,
+      omega arith,
+      omega (arith, c .before .shared-slice-known .given (l .loop .i)),
+      l .loop .inv .3 ∙ climbs-on (a .u) (a .list .now) (l .loop .lo) (l .loop .i) (omega arith) (c .if1 .left),
+    )
 
 returns-2 : tie.Need-returns-2 Inv-loop μ-loop
 returns-2 c =

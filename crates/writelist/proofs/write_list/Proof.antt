@@ -6,7 +6,8 @@ use lib.ListN.{length}
 use Rattle.rules.specs.declared.Refusal.the-variants.{Accepted}
 use Rattle.rules.specs.Write.{Made}
 use Rattle.listlaws.proofs.RisingLaws.{rising-length}
-use Rattle.writelist.proofs.WriteLaws.{write-limit, write-lists, write-room, write-laid, u-of, n-of, end-of, fitting-of}
+use Rattle.writelist.proofs.WriteLaws.{write-limit, write-lists, write-room}
+use Rattle.writelist.proofs.WriteLaws.{write-laid, u-of, n-of, end-of, fitting-of}
 use Rattle.writelist.proofs.write_list.Statement.{statement}
 use Rattle.writelist.proofs.write_list.Tie as tie
 
@@ -19,7 +20,8 @@ returns-2 : tie.Need-returns-2
 returns-2 c =
     let k = c .before in
     let a = k .before .before .before .before .args in
-    sym (write-lists (a .u) (a .list .now) (a .room .now) (omega arith) (sym (k .rises .ensures) ∙ not-true (k .rises .result) (c .if2 .taken)))
+    sym (write-lists (a .u) (a .list .now) (a .room .now) (omega arith)
+    (sym (k .rises .ensures) ∙ not-true (k .rises .result) (c .if2 .taken)))
 
 shape-of-requires : tie.Need-shape-of-requires
 shape-of-requires c κs =
@@ -46,7 +48,8 @@ fill-requires c κs =
     let xs = a .list .now in
     let r = sym (k .rises .ensures) ∙ not-false (k .rises .result) (g .before .if2 .left) in
     let e = g .shape-of .ensures in (
-      fitting-of (a .u) (length xs) (g .shape-of .result) e (a .room .now) (omega (arith, rising-length 0 (a .u) xs r (omega arith))) (omega arith) (omega arith),
+      fitting-of (a .u) (length xs) (g .shape-of .result) e (a .room .now)
+          (omega (arith, rising-length 0 (a .u) xs r (omega arith))) (omega arith) (omega arith),
       sym (n-of (a .u) (length xs) (g .shape-of .result) e),
       rw (u-of (a .u) (length xs) (g .shape-of .result) e) r,
     )
@@ -61,7 +64,11 @@ returns-4 c =
     let r = sym (k .rises .ensures) ∙ not-false (k .rises .result) (g .before .if2 .left) in
     let e = end-of (a .u) (length xs) (g .shape-of .result) (g .shape-of .ensures) in
     let room = rw (u-of (a .u) (length xs) (g .shape-of .result) (g .shape-of .ensures)) at (f .fill .ensures) in
-    ap₂ {C = Made} (λ n l. record { refusal = Accepted; size = n; room = l }) e room ∙ sym (write-laid (a .u) xs (a .room .now) (omega arith) r (omega arith))
+    ap₂ {C = Made} (λ n l. record {
+      refusal = Accepted;
+      size = n;
+      room = l;
+    }) e room ∙ sym (write-laid (a .u) xs (a .room .now) (omega arith) r (omega arith))
 
 pub write-list-spec : {M : Type 1} → statement M
 write-list-spec =

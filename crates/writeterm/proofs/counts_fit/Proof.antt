@@ -10,7 +10,8 @@ use Rattle.writeterm.proofs.counts_fit.Statement.{statement}
 use Rattle.writeterm.proofs.counts_fit.Tie as tie
 
 abbrev Inv-loop : tie.InvT-loop
-Inv-loop counts n left₀ i₀ i-end left i = (i ≤ length counts) × (i-end ≡ length counts) × (left ≤ n) × (summing n counts ≡ summing left (drop i counts))
+Inv-loop counts n left₀ i₀ i-end left i =
+    (i ≤ length counts) × (i-end ≡ length counts) × (left ≤ n) × (summing n counts ≡ summing left (drop i counts))
 
 abbrev μ-loop : tie.MeasureT-loop
 μ-loop counts n left₀ i₀ i-end left i = length counts - i
@@ -37,8 +38,12 @@ loop-again : tie.Need-loop-again Inv-loop μ-loop
 loop-again c =
     let l = c .before .before .before .before in
     let a = l .before .args in
-    let some : 0 < getD (a .counts .now) (l .loop .i) 0 = omega arith in
-    (omega arith, omega arith, omega arith, l .loop .inv .3 ∙ summing-on (l .loop .left) (a .counts .now) (l .loop .i) (omega arith) some (c .if2 .left))
+    let some : 0 < getD (a .counts .now) (l .loop .i) 0 = omega arith in (
+      omega arith,
+      omega arith,
+      omega arith,
+      l .loop .inv .3 ∙ summing-on (l .loop .left) (a .counts .now) (l .loop .i) (omega arith) some (c .if2 .left),
+    )
 
 returns-3 : tie.Need-returns-3 Inv-loop μ-loop
 returns-3 c =

@@ -17,7 +17,8 @@ use Rattle.writeterm.proofs.fill_page.Tie as tie
 abbrev Inv-loop : tie.InvT-loop
 Inv-loop room₀ g base page f₀ i₀ i-end room f i =
     (i ≤ length page) × (i-end ≡ length page) × (length room ≡ length room₀)
-    × ((xs before : List ℕ) → Partly g xs f₀ before room₀ → Follows g xs (raised base page) → Partly g (xs ++ take i (raised base page)) f before room)
+    × ((xs before : List ℕ) → Partly g xs f₀ before room₀ → Follows g xs (raised base page)
+    → Partly g (xs ++ take i (raised base page)) f before room)
 
 abbrev μ-loop : tie.MeasureT-loop
 μ-loop room₀ g base page f₀ i₀ i-end room f i = length page - i
@@ -62,7 +63,8 @@ loop-again c =
       omega arith,
       λ xs before p f.
           rw (raised-more (a .g) xs (a .base) (a .page .now) f i h)
-          (k .ensures (xs ++ take i (raised (a .base) (a .page .now))) before (l .loop .inv .3 xs before p f) (raised-next (a .g) xs (a .base) (a .page .now) f i h)),
+          (k .ensures (xs ++ take i (raised (a .base) (a .page .now))) before (l .loop .inv .3 xs before p f)
+          (raised-next (a .g) xs (a .base) (a .page .now) f i h)),
     )
 
 returns : tie.Need-returns Inv-loop μ-loop
@@ -70,7 +72,8 @@ returns c =
     let l = c .before in
     let a = l .before .before .before .args in
     let ys = raised (a .base) (a .page .now) in
-    let e : take (l .loop .i) ys ≡ ys = take-all (l .loop .i) ys (omega (arith, length-raised (a .base) (a .page .now))) in
+    let e : take (l .loop .i) ys ≡ ys =
+    take-all (l .loop .i) ys (omega (arith, length-raised (a .base) (a .page .now))) in
     λ xs before p f. rw e at (l .loop .inv .3 xs before p f)
 
 pub fill-page-spec : {M : Type 1} → statement M

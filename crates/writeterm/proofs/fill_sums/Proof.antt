@@ -103,7 +103,8 @@ returns c =
     let a = s .args in
     let ss = sums 0 (a .counts .now) in
     let e : take (l .loop .i) ss ≡ ss = take-all (l .loop .i) ss (omega (arith, length-sums 0 (a .counts .now))) in
-    c .before .before .finish .ensures ss (a .room .now) (rw e at (l .loop .inv .4 (a .room .now) (l .before .before .before .begin .ensures)))
+    c .before .before .finish .ensures ss (a .room .now)
+    (rw e at (l .loop .inv .4 (a .room .now) (l .before .before .before .begin .ensures)))
     (sums-long (a .g) (a .counts .now) (a .room .now) (s .pre))
 
 pub fill-sums-spec : {M : Type 1} → statement M

@@ -12,153 +12,165 @@ use Rattle.rules.specs.Term.{sums, placed, termBlock}
 use Rattle.laws.proofs.RoomLaws.{length-laid}
 use Rattle.writeterm.specs.Reach.{wordOf}
 use Rattle.writeterm.proofs.PieceLaws.{part-long, piece-laid, header-laid}
-use Rattle.writeterm.proofs.ShapedLaws.{headOf, head-long, pages-ask, counts-ask, places-ask, pages-long, counts-long, block-long, pieces-are}
+use Rattle.writeterm.proofs.ShapedLaws.{headOf, head-long, pages-ask, counts-ask, places-ask}
+use Rattle.writeterm.proofs.ShapedLaws.{pages-long, counts-long, block-long, pieces-are}
 use Rattle.writeterm.proofs.fill_term.Statement.{statement}
 use Rattle.writeterm.proofs.fill_term.Tie as tie
 
--- the room behind the header, the pages and the counts
+-- the start, seen from behind each piece
+abbrev from-head : tie.After-slice-known2 → tie.Start
+from-head c = c .before .before .before .before .before .before .before .before .before .before .before
+
+abbrev from-pages : tie.After-slice-known3 → tie.Start
+from-pages c = from-head (c .before .before .before .before)
+
+abbrev from-counts : tie.After-slice-known4 → tie.Start
+from-counts c = from-pages (c .before .before .before .before)
+
+abbrev from-places : tie.After-slice-known5 → tie.Start
+from-places c = from-counts (c .before .before .before .before)
+
+-- the pieces, and those that lie before the counts and before the positions
+abbrev head : tie.Start → List ℕ
+head s = headOf (s .args .p) (s .args .c) (s .args .q)
+
+abbrev pages : tie.Start → List ℕ
+pages s = block (s .args .p .u) (s .args .pages .now)
+
+abbrev counts : tie.Start → List ℕ
+counts s = block (s .args .c .u) (sums 0 (s .args .counts .now))
+
+abbrev places : tie.Start → List ℕ
+places s = block (s .args .q .u) (placed 0 (s .args .counts .now) (s .args .positions .now))
+
+abbrev front : tie.Start → List ℕ
+front s = head s ++ pages s
+
+abbrev middle : tie.Start → List ℕ
+middle s = front s ++ counts s
+
+abbrev whole : tie.Start → List ℕ
+whole s = termBlock (s .args .p .u) (wordOf (s .args .pages .now) (s .args .counts .now) (s .args .positions .now))
+
+-- the room behind the header, the pages, the counts and the positions
 abbrev headed : tie.After-slice-known2 → List ℕ
 headed c = set (c .before .before .write-u32 .last .0) 4 1
 
 abbrev paged : tie.After-slice-known3 → List ℕ
-paged c = let r = headed (c .before .before .before .before) in putMid 5 (length r - 5) r (c .before .before .fill .last .0)
+paged c =
+    let r = headed (c .before .before .before .before) in
+    putMid 5 (length r - 5) r (c .before .before .fill .last .0)
 
 abbrev counted : tie.After-slice-known4 → List ℕ
 counted c =
     let r = paged (c .before .before .before .before) in
-    let u = 5 + c .before .before .before .before .before .before .before .before .before .before .before .before .before .before .before .before .before .before .before .args .p .end in
+    let u = 5 + from-counts c .args .p .end in
     putMid u (length r - u) r (c .before .before .fill-sums .last .0)
 
-head-laid : (c : tie.After-slice-known2) → let a = c .before .before .before .before .before .before .before .before .before .before .before .args in headed c ≡ laid (headOf (a .p) (a .c) (a .q)) (a .room .now)
-head-laid c =
-    let a = c .before .before .before .before .before .before .before .before .before .before .before .args in
-    ap (λ l. set l 4 1) (c .before .before .write-u32 .ensures)
-    ∙ header-laid (5 + a .p .end + a .c .end + a .q .end) 1 (a .room .now) (omega (arith, c .before .before .before .before .before .before .before .before .before .before .before .pre .1))
-
-pages-laid : (c : tie.After-slice-known3) → let a = c .before .before .before .before .before .before .before .before .before .before .before .before .before .before .before .args in paged c ≡ laid (headOf (a .p) (a .c) (a .q) ++ block (a .p .u) (a .pages .now)) (a .room .now)
-pages-laid c =
-    let s = c .before .before .before .before .before .before .before .before .before .before .before .before .before .before .before in
-    let a = s .args in
-    let r = headed (c .before .before .before .before) in
-    piece-laid (headOf (a .p) (a .c) (a .q)) (block (a .p .u) (a .pages .now)) (a .room .now) 5 r (c .before .before .fill .last .0)
-    (head-long (s .pre .0)) (head-laid (c .before .before .before .before)) (c .before .before .fill .ensures)
-
-behind-pages : (c : tie.After-slice-known3) → let a = c .before .before .before .before .before .before .before .before .before .before .before .before .before .before .before .args in length (headOf (a .p) (a .c) (a .q) ++ block (a .p .u) (a .pages .now)) ≡ 5 + a .p .end
-behind-pages c =
-    let s = c .before .before .before .before .before .before .before .before .before .before .before .before .before .before .before in
-    let a = s .args in
-    length-append (headOf (a .p) (a .c) (a .q)) (block (a .p .u) (a .pages .now))
-    ∙ omega (
-      arith,
-      head-long (s .pre .0),
-      pages-long (s .pre .0),
-    )
-
-counts-laid : (c : tie.After-slice-known4)
-    → let a = c .before .before .before .before .before .before .before .before .before .before .before .before .before .before .before .before .before .before .before .args in
-    counted c ≡ laid ((headOf (a .p) (a .c) (a .q) ++ block (a .p .u) (a .pages .now)) ++ block (a .c .u) (sums 0 (a .counts .now))) (a .room .now)
-counts-laid c =
-    let s = c .before .before .before .before .before .before .before .before .before .before .before .before .before .before .before .before .before .before .before in
-    let a = s .args in
-    let r = paged (c .before .before .before .before) in
-    piece-laid (headOf (a .p) (a .c) (a .q) ++ block (a .p .u) (a .pages .now)) (block (a .c .u) (sums 0 (a .counts .now))) (a .room .now) (5 + a .p .end) r (c .before .before .fill-sums .last .0)
-    (behind-pages (c .before .before .before .before)) (pages-laid (c .before .before .before .before)) (c .before .before .fill-sums .ensures)
-
-behind-counts : (c : tie.After-slice-known4)
-    → let a = c .before .before .before .before .before .before .before .before .before .before .before .before .before .before .before .before .before .before .before .args in
-    length ((headOf (a .p) (a .c) (a .q) ++ block (a .p .u) (a .pages .now)) ++ block (a .c .u) (sums 0 (a .counts .now))) ≡ 5 + a .p .end + a .c .end
-behind-counts c =
-    let s = c .before .before .before .before .before .before .before .before .before .before .before .before .before .before .before .before .before .before .before in
-    let a = s .args in
-    length-append (headOf (a .p) (a .c) (a .q) ++ block (a .p .u) (a .pages .now)) (block (a .c .u) (sums 0 (a .counts .now)))
-    ∙ omega (
-      arith,
-      behind-pages (c .before .before .before .before),
-      counts-long (s .pre .0),
-    )
-
--- it keeps its length
-headed-long : (c : tie.After-slice-known2) → length (headed c) ≡ length (c .before .before .before .before .before .before .before .before .before .before .before .args .room .now)
-headed-long c =
-    let s = c .before .before .before .before .before .before .before .before .before .before .before in
-    let a = s .args in
-    ap length (head-laid c) ∙ length-laid (headOf (a .p) (a .c) (a .q)) (a .room .now)
-    (omega (arith, head-long (s .pre .0), s .pre .1))
-
-paged-long : (c : tie.After-slice-known3) → length (paged c) ≡ length (c .before .before .before .before .before .before .before .before .before .before .before .before .before .before .before .args .room .now)
-paged-long c =
-    let s = c .before .before .before .before .before .before .before .before .before .before .before .before .before .before .before in
-    let a = s .args in
-    ap length (pages-laid c) ∙ length-laid (headOf (a .p) (a .c) (a .q) ++ block (a .p .u) (a .pages .now)) (a .room .now)
-    (omega (arith, behind-pages c, s .pre .1))
-
-counted-long : (c : tie.After-slice-known4) → length (counted c) ≡ length (c .before .before .before .before .before .before .before .before .before .before .before .before .before .before .before .before .before .before .before .args .room .now)
-counted-long c =
-    let s = c .before .before .before .before .before .before .before .before .before .before .before .before .before .before .before .before .before .before .before in
-    let a = s .args in
-    ap length (counts-laid c) ∙ length-laid ((headOf (a .p) (a .c) (a .q) ++ block (a .p .u) (a .pages .now)) ++ block (a .c .u) (sums 0 (a .counts .now))) (a .room .now)
-    (omega (arith, behind-counts c, s .pre .1))
-
-term-laid : (c : tie.After-slice-known5)
-    → let a = c .before .before .before .before .before .before .before .before .before .before .before .before .before .before .before .before .before .before .before .before .before .before .before .args in
+abbrev filled : tie.After-slice-known5 → List ℕ
+filled c =
+    let a = from-places c .args in
     let r = counted (c .before .before .before .before) in
     let u = 5 + a .p .end + a .c .end in
     putMid u (length r - u) r (c .before .before .fill-places .last .0)
-    ≡ laid (termBlock (a .p .u) (wordOf (a .pages .now) (a .counts .now) (a .positions .now))) (a .room .now)
-term-laid c =
-    let s = c .before .before .before .before .before .before .before .before .before .before .before .before .before .before .before .before .before .before .before .before .before .before .before in
+
+-- it holds the pieces, each behind those before it
+head-laid : (c : tie.After-slice-known2) → headed c ≡ laid (head (from-head c)) (from-head c .args .room .now)
+head-laid c =
+    let s = from-head c in
     let a = s .args in
-    let r = counted (c .before .before .before .before) in
-    let h = (headOf (a .p) (a .c) (a .q) ++ block (a .p .u) (a .pages .now)) ++ block (a .c .u) (sums 0 (a .counts .now)) in
-    piece-laid h (block (a .q .u) (placed 0 (a .counts .now) (a .positions .now))) (a .room .now) (5 + a .p .end + a .c .end) r (c .before .before .fill-places .last .0)
-    (behind-counts (c .before .before .before .before)) (counts-laid (c .before .before .before .before)) (c .before .before .fill-places .ensures)
+    ap (λ l. set l 4 1) (c .before .before .write-u32 .ensures)
+    ∙ header-laid (5 + a .p .end + a .c .end + a .q .end) 1 (a .room .now) (omega (arith, s .pre .1))
+
+pages-laid : (c : tie.After-slice-known3) → paged c ≡ laid (front (from-pages c)) (from-pages c .args .room .now)
+pages-laid c =
+    let s = from-pages c in
+    let b = c .before .before .before .before in
+    piece-laid (head s) (pages s) (s .args .room .now) 5 (headed b) (c .before .before .fill .last .0)
+    (head-long (s .pre .0)) (head-laid b) (c .before .before .fill .ensures)
+
+behind-pages : (s : tie.Start) → length (front s) ≡ 5 + s .args .p .end
+behind-pages s = length-append (head s) (pages s) ∙ omega (arith, head-long (s .pre .0), pages-long (s .pre .0))
+
+counts-laid : (c : tie.After-slice-known4) → counted c ≡ laid (middle (from-counts c)) (from-counts c .args .room .now)
+counts-laid c =
+    let s = from-counts c in
+    let b = c .before .before .before .before in
+    piece-laid (front s) (counts s) (s .args .room .now) (5 + s .args .p .end) (paged b)
+    (c .before .before .fill-sums .last .0) (behind-pages s) (pages-laid b) (c .before .before .fill-sums .ensures)
+
+behind-counts : (s : tie.Start) → length (middle s) ≡ 5 + s .args .p .end + s .args .c .end
+behind-counts s = length-append (front s) (counts s) ∙ omega (arith, behind-pages s, counts-long (s .pre .0))
+
+term-laid : (c : tie.After-slice-known5) → filled c ≡ laid (whole (from-places c)) (from-places c .args .room .now)
+term-laid c =
+    let s = from-places c in
+    let a = s .args in
+    let b = c .before .before .before .before in
+    piece-laid (middle s) (places s) (a .room .now) (5 + a .p .end + a .c .end) (counted b)
+    (c .before .before .fill-places .last .0) (behind-counts s) (counts-laid b)
+    (c .before .before .fill-places .ensures)
     ∙ ap (λ l. laid l (a .room .now)) (pieces-are (s .pre .0))
 
+-- and keeps its length
+headed-long : (c : tie.After-slice-known2) → length (headed c) ≡ length (from-head c .args .room .now)
+headed-long c =
+    let s = from-head c in
+    ap length (head-laid c)
+    ∙ length-laid (head s) (s .args .room .now) (omega (arith, head-long (s .pre .0), s .pre .1))
+
+paged-long : (c : tie.After-slice-known3) → length (paged c) ≡ length (from-pages c .args .room .now)
+paged-long c =
+    let s = from-pages c in
+    ap length (pages-laid c) ∙ length-laid (front s) (s .args .room .now) (omega (arith, behind-pages s, s .pre .1))
+
+counted-long : (c : tie.After-slice-known4) → length (counted c) ≡ length (from-counts c .args .room .now)
+counted-long c =
+    let s = from-counts c in
+    ap length (counts-laid c) ∙ length-laid (middle s) (s .args .room .now) (omega (arith, behind-counts s, s .pre .1))
+
 sub-fill : tie.Need-sub-fill
-sub-fill c = omega (arith, headed-long c, c .before .before .before .before .before .before .before .before .before .before .before .pre .1)
+sub-fill c = omega (arith, headed-long c, from-head c .pre .1)
 
 part-fill-start : tie.Need-part-fill-start
-part-fill-start c = omega (arith, headed-long c, c .before .before .before .before .before .before .before .before .before .before .before .pre .1)
+part-fill-start c = omega (arith, headed-long c, from-head c .pre .1)
 
 fill-requires : tie.Need-fill-requires
 fill-requires c κs =
-    let s = c .before .before .before .before .before .before .before .before .before .before .before .before in
-    let a = s .args in
+    let s = from-head (c .before) in
     pages-ask (s .pre .0) _
     (omega (arith, part-long 5 (headed (c .before)), headed-long (c .before), s .pre .1))
 
 sub-fill-sums : tie.Need-sub-fill-sums
-sub-fill-sums c = omega (arith, paged-long c, c .before .before .before .before .before .before .before .before .before .before .before .before .before .before .before .pre .1)
+sub-fill-sums c = omega (arith, paged-long c, from-pages c .pre .1)
 
 part-fill-sums-start : tie.Need-part-fill-sums-start
-part-fill-sums-start c = omega (arith, paged-long c, c .before .before .before .before .before .before .before .before .before .before .before .before .before .before .before .pre .1)
+part-fill-sums-start c = omega (arith, paged-long c, from-pages c .pre .1)
 
 fill-sums-requires : tie.Need-fill-sums-requires
 fill-sums-requires c κs =
-    let s = c .before .before .before .before .before .before .before .before .before .before .before .before .before .before .before .before in
-    let a = s .args in
+    let s = from-pages (c .before) in
     counts-ask (s .pre .0) _
-    (omega (arith, part-long (5 + a .p .end) (paged (c .before)), paged-long (c .before), s .pre .1))
+    (omega (arith, part-long (5 + s .args .p .end) (paged (c .before)), paged-long (c .before), s .pre .1))
 
 sub-fill-places : tie.Need-sub-fill-places
-sub-fill-places c = omega (arith, counted-long c, c .before .before .before .before .before .before .before .before .before .before .before .before .before .before .before .before .before .before .before .pre .1)
+sub-fill-places c = omega (arith, counted-long c, from-counts c .pre .1)
 
 part-fill-places-start : tie.Need-part-fill-places-start
-part-fill-places-start c = omega (arith, counted-long c, c .before .before .before .before .before .before .before .before .before .before .before .before .before .before .before .before .before .before .before .pre .1)
+part-fill-places-start c = omega (arith, counted-long c, from-counts c .pre .1)
 
 fill-places-requires : tie.Need-fill-places-requires
 fill-places-requires c κs =
-    let s = c .before .before .before .before .before .before .before .before .before .before .before .before .before .before .before .before .before .before .before .before in
-    let a = s .args in
+    let s = from-counts (c .before) in
+    let u = 5 + s .args .p .end + s .args .c .end in
     places-ask (s .pre .0) _
-    (omega (arith, part-long (5 + a .p .end + a .c .end) (counted (c .before)), counted-long (c .before), s .pre .1))
+    (omega (arith, part-long u (counted (c .before)), counted-long (c .before), s .pre .1))
 
 same-length : tie.Need-same-length
 same-length c =
-    let s = c .before .before .before .before .before .before .before .before .before .before .before .before .before .before .before .before .before .before .before .before .before .before .before in
-    let a = s .args in
-    ap length (term-laid c) ∙ length-laid (termBlock (a .p .u) (wordOf (a .pages .now) (a .counts .now) (a .positions .now))) (a .room .now)
-    (omega (arith, block-long (s .pre .0), s .pre .1))
+    let s = from-places c in
+    ap length (term-laid c)
+    ∙ length-laid (whole s) (s .args .room .now) (omega (arith, block-long (s .pre .0), s .pre .1))
 
 returns : tie.Need-returns
 returns c = term-laid c

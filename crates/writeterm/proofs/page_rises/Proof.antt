@@ -12,7 +12,8 @@ use Rattle.writeterm.proofs.page_rises.Statement.{statement}
 use Rattle.writeterm.proofs.page_rises.Tie as tie
 
 abbrev Inv-loop : tie.InvT-loop
-Inv-loop page lo₀ i₀ i-end lo i = (i ≤ length page) × (i-end ≡ length page) × (lo ≤ 2 ^ 32) × (inOrder 0 page ≡ inOrder lo (drop i page)) × (next 0 page ≡ next lo (drop i page))
+Inv-loop page lo₀ i₀ i-end lo i = (i ≤ length page) × (i-end ≡ length page) × (lo ≤ 2 ^ 32)
+    × (inOrder 0 page ≡ inOrder lo (drop i page)) × (next 0 page ≡ next lo (drop i page))
 
 abbrev μ-loop : tie.MeasureT-loop
 μ-loop page lo₀ i₀ i-end lo i = length page - i
@@ -28,7 +29,8 @@ returns c =
     let l = c .before .before .before in
     let a = l .before .args in
     record {
-      says = sym (l .loop .inv .3 ∙ order-falls (l .loop .lo) (a .page .now) (l .loop .i) (omega arith) (c .if1 .taken));
+      says =
+          sym (l .loop .inv .3 ∙ order-falls (l .loop .lo) (a .page .now) (l .loop .i) (omega arith) (c .if1 .taken));
       ends = λ e. absurd (false≢true e);
       small = omega arith;
     }

@@ -16,7 +16,8 @@ use Rattle.writeterm.proofs.positions_rise.Tie as tie
 
 abbrev Inv-loop : tie.InvT-loop
 Inv-loop counts positions base₀ from₀ i₀ i-end base from i =
-    (i ≤ length counts) × (i-end ≡ length counts) × (from + total (drop i counts) ≡ length positions) × (base ≤ limit + 1)
+    (i ≤ length counts) × (i-end ≡ length counts) × (from + total (drop i counts) ≡ length positions)
+    × (base ≤ limit + 1)
     × (inOrderByPage counts positions ≡ inOrderByPage (drop i counts) (drop from positions))
     × (capped (spanned counts positions) ≡ capped (base + spanned (drop i counts) (drop from positions)))
 
@@ -53,7 +54,8 @@ returns c =
     let l = c .before .before .before .before .before .before in
     let a = l .before .before .before .args in
     record {
-      says = sym (l .loop .inv .4 ∙ page-falls (a .counts .now) (a .positions .now) (l .loop .i) (l .loop .from) (omega arith) (k .result) (k .ensures) (not-true (k .result .ok) (c .if1 .taken)));
+      says = sym (l .loop .inv .4 ∙ page-falls (a .counts .now) (a .positions .now) (l .loop .i) (l .loop .from)
+          (omega arith) (k .result) (k .ensures) (not-true (k .result .ok) (c .if1 .taken)));
       ends = λ e. absurd (false≢true e);
     }
 
@@ -66,12 +68,15 @@ loop-again c =
     let l = c .before .before .before .before .before .before .before .before in
     let a = l .before .before .before .args in
     let ok = not-false (k .result .ok) (c .before .before .if1 .left) in
-    let s = page-spans (a .counts .now) (a .positions .now) (l .loop .i) (l .loop .from) (omega arith) (k .result) (k .ensures) ok in (
+    let s = page-spans (a .counts .now) (a .positions .now) (l .loop .i) (l .loop .from) (omega arith) (k .result)
+    (k .ensures) ok in (
       omega arith,
       omega arith,
       omega (arith, total-on (a .counts .now) (l .loop .i) (omega arith)),
       omega (arith, c .capped .ensures),
-      l .loop .inv .4 ∙ page-on (a .counts .now) (a .positions .now) (l .loop .i) (l .loop .from) (omega arith) (k .result) (k .ensures) ok,
+      l .loop .inv .4
+          ∙ page-on (a .counts .now) (a .positions .now) (l .loop .i) (l .loop .from) (omega arith) (k .result)
+          (k .ensures) ok,
       omega (arith, s, c .capped .ensures),
     )
 
@@ -80,7 +85,8 @@ unfolding inOrderByPage spanned
 returns-2 c =
     let l = c .before in
     let a = l .before .before .before .args in
-    let d : drop (l .loop .i) (a .counts .now) ≡ [] = drop-of-length-le (a .counts .now) {i = l .loop .i} (omega arith) in
+    let d : drop (l .loop .i) (a .counts .now) ≡ [] =
+    drop-of-length-le (a .counts .now) {i = l .loop .i} (omega arith) in
     let s = rw d at (l .loop .inv .5) in
     record {
       says = sym (l .loop .inv .4 ∙ rw d);

@@ -1,0 +1,195 @@
+-- The answers to questions on the card of the words ts: what each kind reads of the words that it names, and the counts
+-- of common pages, which fit the numbers that carry them.
+use mathlib.Core.Bool.{true}
+use mathlib.Core.Path.{_≡_, refl, sym, ap, _∙_}
+use mathlib.Core.List.{List, [], _∷_}
+use Prim.Native.Nat.{ℕ, zero, suc, _+_, _*_, _^_, _≤_, _<_}
+use native.Mathlib.Nat.{div-le-self, mul-le-mul-left}
+use native.Mathlib.Omega.{arith}
+use native.Mathlib.Decide.{ℕ-discrete}
+use borrow.Author.Tests.{ltb-true, le-leb, ne-eqb}
+use lib.Dec.{ltb}
+use lib.ListN.{length, getD}
+use Rattle.rules.specs.Limits.{limit}
+use Rattle.rules.specs.Runs.{wordsFor}
+use Rattle.rules.specs.List.{rising, zeros}
+use Rattle.rules.specs.Term.{Word}
+use Rattle.rules.specs.Index.{card, validCard, indexN, indexT, wordOf}
+use Rattle.rules.specs.Seek.{widthOf, bitsOf, upperWords}
+use Rattle.rules.specs.Common.{common}
+use Rattle.rules.specs.Questions.{commonPages, numbered, pagesIn, listsIn, wordsIn, byCommon, answer, allBelow, goodQuestion, replies}
+use Rattle.listlaws.proofs.RisingLaws.{and-parts, rising-length}
+use Rattle.termlaws.proofs.WordLaws.{valid-agreeing}
+use Rattle.cardlaws.proofs.PassedLaws.{card-valid}
+use Rattle.cardlaws.proofs.CardLaws.{card-N, card-T}
+use Rattle.cardlaws.proofs.Theorems.{card-accepted, card-wordOf, accepted-word}
+use Rattle.commonlaws.specs.Readers.{Rise, wordsOf}
+use Rattle.commonlaws.proofs.CommonLaws as laws
+use Rattle.questions.specs.Formed.{answersTo, wordsGood}
+use Rattle.questions.proofs.FrontLaws.{answers-front}
+use Rattle.questions.proofs.GoodLaws.{good-pair, good-words, pair-parts, good-rest, words-parts}
+use Rattle.demands.specs.Asking.{Query, written, Good, wordAt, pagesAt, named, pagesNamed, plain, plainAll, upperRuns}
+use Rattle.demands.proofs.AskLaws.{front-kind, front-args, front-behind, front-some}
+
+-- ---- the words that a question names
+
+below-front : (T t : ℕ) (terms : List ℕ) → allBelow T (t ∷ terms) ≡ true → (t < T) × (allBelow T terms ≡ true)
+unfolding allBelow
+below-front T t terms e =
+    let p = and-parts (ltb t T) (allBelow T terms) e in
+    (ltb-true t T (p .0), p .1)
+
+pub length-lists : (ts : List Word) (terms : List ℕ) → length (pagesNamed ts terms) ≡ length terms
+unfolding pagesNamed
+length-lists ts [] = refl
+length-lists ts (t ∷ terms) = ap suc (length-lists ts terms)
+
+module _ (N : ℕ) (ts : List Word) (v : validCard N ts ≡ true) where
+  pub states-N : indexN (card N ts) ≡ N
+  states-N = card-N N ts (card-valid N ts v)
+
+  pub states-T : indexT (card N ts) ≡ length ts
+  states-T = card-T N ts (card-valid N ts v)
+
+  holds-word : (t : ℕ) → t < length ts → wordOf t (card N ts) ≡ wordAt ts t
+  holds-word t h = card-wordOf N ts v _ t h
+
+  holds-pages : (t : ℕ) → t < length ts → pagesIn (card N ts) t ≡ pagesAt ts t
+  unfolding pagesIn
+  holds-pages t h = ap (λ (w : Word). w .pages) (holds-word t h)
+
+  holds-words : (terms : List ℕ) → allBelow (length ts) terms ≡ true → wordsIn (card N ts) terms ≡ named ts terms
+  unfolding wordsIn named
+  holds-words [] b = refl
+  holds-words (t ∷ terms) b =
+      let p = below-front (length ts) t terms b in
+      rw (holds-word t (p .0), holds-words terms (p .1))
+
+  holds-lists : (terms : List ℕ) → allBelow (length ts) terms ≡ true → listsIn (card N ts) terms ≡ pagesNamed ts terms
+  unfolding listsIn pagesNamed
+  holds-lists [] b = refl
+  holds-lists (t ∷ terms) b =
+      let p = below-front (length ts) t terms b in
+      rw (holds-pages t (p .0), holds-lists terms (p .1))
+
+  pages-rise : (t : ℕ) → t < length ts → rising 0 N (pagesAt ts t) ≡ true
+  pages-rise t h =
+      let w = accepted-word (card N ts) (card-accepted N ts v) t (rw states-T h) in
+      valid-agreeing N (wordAt ts t) (rw (states-N, holds-word t h) at (w .valid)) .rises
+
+  lists-rise : (terms : List ℕ) → allBelow (length ts) terms ≡ true → Rise N (pagesNamed ts terms)
+  unfolding pagesNamed
+  lists-rise [] b = tt
+  lists-rise (t ∷ terms) b =
+      let p = below-front (length ts) t terms b in
+      (pages-rise t (p .0), lists-rise terms (p .1))
+
+  -- ---- the answers
+
+  pub plain-answer : (q : Query) → goodQuestion (length ts) (q .kind) (q .numbers) ≡ true
+      → answer (card N ts) (q .kind) (q .numbers) ≡ plain N ts q
+  unfolding answer plain
+  plain-answer q g =
+      elim (ℕ-discrete (q .kind) 1) [
+        | yes e ↦ rw (e, holds-pages (getD (q .numbers) 0 0) (of-pair (omega arith) (omega arith)))
+        | no a ↦ elim (ℕ-discrete (q .kind) 2) [
+          | yes e ↦ rw (e, holds-pages (getD (q .numbers) 0 0) (of-pair (omega arith) (omega arith)))
+          | no b ↦
+              let w = words-parts (length ts) (q .numbers) (good-rest (length ts) (q .kind) (q .numbers) a b g) .2 in
+              let e = ne-eqb (q .kind) 1 a in
+              let f = ne-eqb (q .kind) 2 b in
+              rw (e, f, states-N, holds-lists (q .numbers) w, holds-words (q .numbers) w)
+        ]
+      ]
+    where
+      of-pair : 0 < q .kind → q .kind < 3 → getD (q .numbers) 0 0 < length ts
+      of-pair h k = pair-parts (length ts) (q .numbers) (sym (good-pair (length ts) (q .kind) (q .numbers) h k) ∙ g) .1
+
+  pub plain-answers : (qs : List Query) → Good (length ts) qs → answersTo (card N ts) (written qs) ≡ plainAll N ts qs
+  unfolding answersTo replies written plainAll
+  plain-answers [] g = refl
+  plain-answers (q ∷ qs) g =
+      answers-front (card N ts) (written (q ∷ qs)) (front-some q qs)
+      ∙ rw (front-kind q qs, front-args q qs, front-behind q qs, plain-answer q (g .0), plain-answers qs (g .1))
+
+pub length-plain : (N : ℕ) (ts : List Word) (qs : List Query) → length (plainAll N ts qs) ≡ length qs
+unfolding plainAll
+length-plain N ts [] = refl
+length-plain N ts (q ∷ qs) = ap suc (length-plain N ts qs)
+
+-- one to eight words may be asked in kinds 3 and 4
+pub may-ask : (T : ℕ) (terms : List ℕ) → 1 ≤ length terms → length terms ≤ 8 → allBelow T terms ≡ true
+    → (kind : ℕ) → 2 < kind → kind < 5 → goodQuestion T kind terms ≡ true
+unfolding wordsGood
+may-ask T terms some few below kind h k =
+    good-words T kind terms h k ∙ rw (le-leb 1 (length terms) some, le-leb (length terms) 8 few) below
+
+-- an answer with its number in front
+pub common-told : (N : ℕ) (ls : List (List ℕ))
+    → byCommon N ls ≡ (length (commonPages ls) + 2) ∷ (common N ls .seeks ∷ (common N ls .looks ∷ commonPages ls))
+unfolding byCommon numbered
+common-told N ls =
+    let e : suc (suc (length (commonPages ls))) ≡ length (commonPages ls) + 2 = omega arith in
+    rw e
+
+-- ---- the counts of common pages
+
+pub upper-words : (N : ℕ) (ls : List (List ℕ)) → upperRuns N ls ≡ wordsOf N ls
+unfolding upperRuns wordsOf
+upper-words N [] = refl
+upper-words N (l ∷ ls) = ap (λ (n : ℕ). upperWords N l + n) (upper-words N ls)
+
+pub named-at : (ts : List Word) (terms : List ℕ) (j : ℕ) → j < length terms
+    → getD (pagesNamed ts terms) j [] ≡ pagesAt ts (getD terms j 0)
+unfolding pagesNamed
+named-at ts [] j h = absurd (omega arith)
+named-at ts (t ∷ terms) zero h = refl
+named-at ts (t ∷ terms) (suc j) h = named-at ts terms j (omega arith)
+
+module _ (N : ℕ) (within : N ≤ limit) where
+  run-few : (l : List ℕ) → rising 0 N l ≡ true → upperWords N l ≤ 524289
+  unfolding upperWords wordsFor bitsOf zeros
+  run-few [] r = omega arith
+  run-few (x ∷ xs) r =
+      omega (arith, rising-length 0 N (x ∷ xs) r (omega arith), div-le-self N (2 ^ widthOf N (x ∷ xs)))
+
+  runs-few : (ls : List (List ℕ)) → Rise N ls → upperRuns N ls ≤ length ls * 524289
+  unfolding upperRuns
+  runs-few [] r = omega arith
+  runs-few (l ∷ ls) r = omega (arith, run-few l (r .0), runs-few ls (r .1))
+
+module _ (N : ℕ) (ts : List Word) (v : validCard N ts ≡ true) (terms : List ℕ) where
+  abbrev lists : List (List ℕ)
+  lists = pagesNamed ts terms
+
+  module _ (some : 0 < length terms) (few : length terms ≤ 8) (below : allBelow (length ts) terms ≡ true) where
+    named-some : 0 < length lists
+    named-some = rw (length-lists ts terms) some
+
+    pub common-lists : common N lists .listed ≡ commonPages lists
+    common-lists = laws.common-listed N lists named-some (lists-rise N ts v terms below)
+
+    pub seeks-most : (j : ℕ) → j < length terms
+        → common N lists .seeks ≤ length terms * length (pagesAt ts (getD terms j 0)) + 1
+    seeks-most j h =
+        let l = length-lists ts terms in
+        let s = laws.common-seeks N lists named-some (lists-rise N ts v terms below) j (omega arith) in
+        rw (l, named-at ts terms j h) at s
+
+    pub looks-most : common N lists .looks ≤ common N lists .seeks + upperRuns N lists
+    looks-most = rw (upper-words N lists) (laws.common-looks N lists named-some (lists-rise N ts v terms below))
+
+    pub counts-fit : (common N lists .seeks < 2 ^ 32) × (common N lists .looks < 2 ^ 32)
+    counts-fit =
+        let within = card-valid N ts v .within in
+        let pages = pagesAt ts (getD terms 0 0) in
+        let rise = pages-rise N ts v (getD terms 0 0) (first-below terms some below) in
+        let short : length pages ≤ limit = omega (arith, rising-length 0 N pages rise (omega arith)) in
+        let m : length terms * length pages ≤ length terms * limit = mul-le-mul-left (length terms) short in
+        let seeks : common N lists .seeks ≤ 134217729 = omega (arith, seeks-most 0 some, m) in
+        let runs = runs-few N within lists (lists-rise N ts v terms below) in
+        (omega arith, omega (arith, looks-most, length-lists ts terms))
+      where
+        first-below : (ns : List ℕ) → 0 < length ns → allBelow (length ts) ns ≡ true → getD ns 0 0 < length ts
+        first-below [] h b = absurd (omega arith)
+        first-below (t ∷ ns) h b = below-front (length ts) t ns b .0

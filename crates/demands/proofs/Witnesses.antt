@@ -1,0 +1,139 @@
+-- The premises of Demands.antt can be met: every input has a result that the promise allows, and S9's card, its
+-- question and small rooms meet the others, by computation.
+use mathlib.Core.Bool.{true}
+use mathlib.Core.Path.{_≡_, refl}
+use mathlib.Core.List.{List, [], _∷_}
+use Prim.Native.Nat.{ℕ, zero, suc}
+use native.Mathlib.Omega.{arith}
+use borrow.Author.Tests.{ltb-true}
+use lib.Dec.{ltb}
+use lib.ListN.{length, replicate}
+use Rattle.rules.specs.Refusal.{number, accepted, andThen}
+use Rattle.rules.specs.Bytes.{be, beAt, sized, same}
+use Rattle.rules.specs.Runs.{bit, runWord, runBit, field, wordsFor, words}
+use Rattle.rules.specs.List.{rising, validList, greatest, width, zeros, upper, lower, afterZero, pointer, pointers, lowerAt, upperAt, size, runs, body, block}
+use Rattle.rules.specs.ReadList.{stated, listU, listN, elements, readList, decode, isBlock, listRefusal}
+use Rattle.rules.specs.Write.{laid, stored, writeList}
+use Rattle.rules.specs.Term.{Word, total, sums, next, raised, placed, places, positive, inOrder, inOrderByPage, validWord, termBlock, writeTerm}
+use Rattle.rules.specs.Parts.{after, part, inside}
+use Rattle.rules.specs.ReadTerm.{listsOf, pagesOf, countsOf, positionsOf, gaps, less, lowered, readWord, disagree, termRefusal}
+use Rattle.rules.specs.Index.{indexFront, terms, card, validWords, validCard, indexN, indexT, termPart, wordOf, termsRefusal, indexRefusal, closeRefusal, closeIndex}
+use Rattle.rules.specs.Seek.{placeOf, bitsOf, cursorBit, startOf, looksTo, walk, gone, arrived, walked, walkFrom, move, seek}
+use Rattle.rules.specs.Common.{leadFrom, leadOf, readersOf, before, stopped, agree, counted, nothing, rounds, common}
+use Rattle.rules.specs.Questions.{firstFrom, member, inAll, sharedBy, commonPages, positionsAmong, positionsOn, stands, startsAmong, starts, withStarts, numbered, pagesIn, listsIn, wordsIn, byRank, byBound, byCommon, byPhrase, answer, allBelow, goodQuestion, kindOf, countOf, argsOf, behind, wellFormed, replies}
+use Rattle.rules.specs.Ask.{fitting, fitted, reply, joined, put, ask}
+use Rattle.rules.specs.Samples.{s9, s9Word}
+use Rattle.laws.proofs.ByteLaws.{Bytes}
+use Rattle.listlaws.proofs.RisingLaws.{and-parts}
+use Rattle.jundefola.specs.declared.HostWritten.{HostWritten}
+use Rattle.jundefola.specs.declared.HostAsked.{HostAsked}
+use Rattle.jundefola.specs.Host.{HostListChecked, HostListWritten, HostTermChecked, HostTermWritten, HostIndexChecked, HostIndexClosed, HostAnswered}
+use Rattle.demands.specs.Asking.{ValidWord, Query, Good, named, pagesNamed, plain, plainAll}
+
+-- ---- the promises, for every input
+
+pub list-checked-met : (s : List ℕ) → (r : ℕ) × HostListChecked s r
+list-checked-met s = (number (listRefusal s), refl)
+
+pub term-checked-met : (s : List ℕ) → (r : ℕ) × HostTermChecked s r
+term-checked-met s = (number (termRefusal s), refl)
+
+pub index-checked-met : (s : List ℕ) → (r : ℕ) × HostIndexChecked s r
+index-checked-met s = (number (indexRefusal s), refl)
+
+pub list-written-met : (U : ℕ) (xs room : List ℕ)
+    → (r : HostWritten) × (after : List ℕ) × HostListWritten U xs room r after
+list-written-met U xs room =
+    let m = writeList U xs room in
+    (record { refusal = number (m .refusal); length = m .size }, m .room, refl)
+
+pub term-written-met : (N : ℕ) (t : Word) (room : List ℕ)
+    → (r : HostWritten) × (after : List ℕ) × HostTermWritten N t room r after
+term-written-met N t room =
+    let m = writeTerm N t room in
+    (record { refusal = number (m .refusal); length = m .size }, m .room, refl)
+
+pub index-closed-met : (buffer : List ℕ) (used N T : ℕ)
+    → (r : HostWritten) × (after : List ℕ) × HostIndexClosed buffer used N T r after
+index-closed-met buffer used N T =
+    let m = closeIndex buffer used N T in
+    (record { refusal = number (m .refusal); length = m .size }, m .room, refl)
+
+pub answered-met : (s qs room : List ℕ) → (r : HostAsked) × (after : List ℕ) × HostAnswered s qs room r after
+answered-met s qs room =
+    let a = ask s qs room in
+    (record { refusal = number (a .refusal); answered = a .answered; used = a .used }, a .room, refl)
+
+-- ---- a valid list, word and card
+
+pub list-met : validList 3 (1 ∷ []) ≡ true
+unfolding validList rising
+list-met = refl
+
+pub word-met : ValidWord 3 s9Word
+unfolding validWord rising positive total inOrder inOrderByPage next places placed raised s9Word
+word-met = (refl, omega arith, omega arith)
+
+pub card-met : validCard 3 (s9Word ∷ []) ≡ true
+unfolding validCard validWords validWord rising positive total inOrder inOrderByPage next places placed raised s9Word terms termBlock sums sized be block body runs pointers pointer afterZero bit words wordsFor upper lower zeros width greatest
+card-met = refl
+
+-- numbers that are all below 256 are bytes
+below-bytes : (s : List ℕ) → allBelow 256 s ≡ true → Bytes s
+unfolding allBelow
+below-bytes [] b i = omega arith
+below-bytes (x ∷ s) b zero = ltb-true x 256 (and-parts (ltb x 256) (allBelow 256 s) b .0)
+below-bytes (x ∷ s) b (suc i) = below-bytes s (and-parts (ltb x 256) (allBelow 256 s) b .1) i
+
+pub bytes-met : Bytes s9
+unfolding s9 be allBelow
+bytes-met = below-bytes s9 refl
+
+-- ---- S9's card and its questions
+
+pub s9-card : s9 ≡ card 3 (s9Word ∷ [])
+unfolding s9 s9Word card indexFront terms termBlock sums sized be block body runs pointers pointer afterZero bit words wordsFor upper lower zeros width greatest next places placed raised total
+s9-card = refl
+
+-- one to eight numbers of words
+pub terms-met : allBelow (length (s9Word ∷ [])) (0 ∷ []) ≡ true
+unfolding allBelow
+terms-met = refl
+
+-- a run of two questions, of kinds 3 and 4, and the room that its answers take
+abbrev run : List Query
+run = record { kind = 3; numbers = 0 ∷ [] } ∷ (record { kind = 4; numbers = 0 ∷ (0 ∷ []) } ∷ [])
+
+pub run-met : Good 1 run
+unfolding goodQuestion allBelow
+run-met = (refl, (refl, tt))
+
+pub run-fits-met : length (joined (plainAll 3 (s9Word ∷ []) run)) ≡ 5
+unfolding joined plainAll plain byCommon byPhrase numbered named pagesNamed s9Word commonPages sharedBy inAll withStarts starts startsAmong stands positionsOn positionsAmong member
+run-fits-met = refl
+
+-- what a run that answers so many questions reports
+abbrev reports : ℕ → ℕ → ℕ → HostAsked
+reports refusal answered used = record { refusal = refusal; answered = answered; used = used }
+
+-- S9's question answers 3 2 2 1 into a room of four numbers; with one number fewer it is 9, and of a word that is not
+-- there 8
+pub asked-met : HostAnswered s9 (3 ∷ (1 ∷ (0 ∷ []))) (replicate 4 0) (reports 0 1 4) (3 ∷ (2 ∷ (2 ∷ (1 ∷ []))))
+    × HostAnswered s9 (3 ∷ (1 ∷ (0 ∷ []))) (replicate 3 0) (reports 9 0 0) (replicate 3 0)
+    × HostAnswered s9 (3 ∷ (1 ∷ (1 ∷ []))) (replicate 3 0) (reports 8 0 0) (replicate 3 0)
+unfolding accepted andThen be beAt sized same bit runWord runBit field wordsFor words rising validList greatest width zeros upper lower afterZero pointer pointers lowerAt upperAt size runs body block stated listU listN elements readList decode isBlock listRefusal laid total sums next raised placed places positive inOrder inOrderByPage validWord termBlock after part inside listsOf pagesOf countsOf positionsOf gaps less lowered readWord disagree termRefusal indexFront terms card validWords validCard indexN indexT termPart wordOf termsRefusal indexRefusal placeOf bitsOf cursorBit startOf looksTo walk gone arrived walked walkFrom move seek leadFrom leadOf readersOf before stopped agree counted nothing rounds common firstFrom member inAll sharedBy commonPages positionsAmong positionsOn stands startsAmong starts withStarts numbered pagesIn listsIn wordsIn byRank byBound byCommon byPhrase answer allBelow goodQuestion kindOf countOf argsOf behind wellFormed replies fitting fitted reply joined put ask s9
+asked-met = (refl, refl, refl)
+
+-- ---- writing and closing, done and refused
+
+pub list-done-met : HostListWritten 5 [] (replicate 13 0) (record { refusal = 0; length = 13 }) (block 5 [])
+unfolding writeList rising stored laid block sized body be
+list-done-met = refl
+
+pub list-refused-met : HostListWritten 5 (5 ∷ []) [] (record { refusal = 10; length = 0 }) []
+unfolding writeList rising
+list-refused-met = refl
+
+pub close-done-met : HostIndexClosed s9 95 3 1 (record { refusal = 0; length = 95 }) s9
+unfolding closeIndex closeRefusal s9 accepted andThen be beAt bit runWord runBit field wordsFor words sized rising greatest width zeros upper lower afterZero pointer pointers lowerAt upperAt size runs body block same stated listU listN elements readList decode isBlock listRefusal laid next after part inside listsOf pagesOf countsOf positionsOf disagree termRefusal indexFront termsRefusal
+close-done-met = refl

@@ -1,0 +1,68 @@
+-- A word that may be written, questions as a host writes them, and the words of a card that they name.
+--
+--   ValidWord N t     a valid word, with N and the reach of its positions within the limit
+--   Query             one question: its kind and its numbers
+--   written qs        the questions one after the other: kind, count, numbers
+--   Good T qs         each of them may be asked of T words
+--   wordAt ts t       word number t of the words ts; the word on no page where there is none
+--   pagesAt ts t      its pages
+--   named ts terms    the words that the numbers name, a word named twice standing there twice
+--   pagesNamed ts terms  the pages of each
+--   plain N ts q      the answer to q by plain reading of the words ts of N pages; only the seeks and looks of kind 3
+--                     are the step rule's
+--   plainAll N ts qs  the answer to each, in their order
+--   upperRuns N ls    the 64-bit words of the lists' upper runs, a list counted as often as it stands there
+use mathlib.Core.Bool.{true, cond}
+use mathlib.Core.Path.{_≡_}
+use mathlib.Core.List.{List, [], _∷_, _++_}
+use Prim.Native.Nat.{ℕ, _+_, _≤_}
+use lib.Dec.{eqb}
+use lib.ListN.{length, getD}
+use Rattle.rules.specs.Limits.{limit}
+use Rattle.rules.specs.Term.{Word, next, places, validWord}
+use Rattle.rules.specs.Seek.{upperWords}
+use Rattle.rules.specs.Questions.{goodQuestion, byRank, byBound, byCommon, byPhrase}
+
+abbrev pub ValidWord : ℕ → Word → Type 0
+ValidWord N t = (validWord N t ≡ true) × (N ≤ limit) × (next 0 (places t) ≤ limit)
+
+pub record Query : Type 0 where
+  pub kind : ℕ
+  pub numbers : List ℕ
+
+unfoldable pub written : List Query → List ℕ
+written [] = []
+written (q ∷ qs) = q .kind ∷ (length (q .numbers) ∷ (q .numbers ++ written qs))
+
+abbrev pub Good : ℕ → List Query → Type 0
+Good T [] = Unit {0}
+Good T (q ∷ qs) = (goodQuestion T (q .kind) (q .numbers) ≡ true) × Good T qs
+
+abbrev pub wordAt : List Word → ℕ → Word
+wordAt ts t = getD ts t (record { pages = []; counts = []; positions = [] })
+
+abbrev pub pagesAt : List Word → ℕ → List ℕ
+pagesAt ts t = wordAt ts t .pages
+
+unfoldable pub named : List Word → List ℕ → List Word
+named ts [] = []
+named ts (t ∷ terms) = wordAt ts t ∷ named ts terms
+
+unfoldable pub pagesNamed : List Word → List ℕ → List (List ℕ)
+pagesNamed ts [] = []
+pagesNamed ts (t ∷ terms) = pagesAt ts t ∷ pagesNamed ts terms
+
+unfoldable pub plain : ℕ → List Word → Query → List ℕ
+plain N ts q =
+    cond (eqb (q .kind) 1) (byRank (pagesAt ts (getD (q .numbers) 0 0)) (getD (q .numbers) 1 0))
+    (cond (eqb (q .kind) 2) (byBound (pagesAt ts (getD (q .numbers) 0 0)) (getD (q .numbers) 1 0))
+    (cond (eqb (q .kind) 3) (byCommon N (pagesNamed ts (q .numbers)))
+    (byPhrase (named ts (q .numbers)))))
+
+unfoldable pub plainAll : ℕ → List Word → List Query → List (List ℕ)
+plainAll N ts [] = []
+plainAll N ts (q ∷ qs) = plain N ts q ∷ plainAll N ts qs
+
+unfoldable pub upperRuns : ℕ → List (List ℕ) → ℕ
+upperRuns N [] = 0
+upperRuns N (l ∷ ls) = upperWords N l + upperRuns N ls

@@ -1,0 +1,1 @@
+// The customer's demands, proved of what the exported calls promise; this crate has no function.

@@ -1,0 +1,49 @@
+-- What the promises of the exported calls leave open: nothing. Each theorem is of the predicate that the call's
+-- contract cites; a result is the answer and, where room is lent, the room after the call.
+use mathlib.Core.Path.{_≡_, refl}
+use mathlib.Core.List.{List}
+use Prim.Native.Nat.{ℕ}
+use Rattle.rules.specs.Term.{Word}
+use Rattle.rules.specs.Promises.{Determined}
+use Rattle.rules.proofs.Unique.{by-equation}
+use Rattle.jundefola.specs.declared.HostWritten.{HostWritten}
+use Rattle.jundefola.specs.declared.HostAsked.{HostAsked}
+use Rattle.jundefola.specs.Host.{Told, toldOf, heardOf, HostListChecked, HostListWritten, HostTermChecked, HostTermWritten, HostIndexChecked, HostIndexClosed, HostAnswered}
+
+pub check-list-unique : (s : List ℕ) → Determined {A = ℕ} (λ r. HostListChecked s r)
+check-list-unique s = by-equation (λ r. r) (λ r. r) (λ r. refl) _
+
+pub check-term-unique : (s : List ℕ) → Determined {A = ℕ} (λ r. HostTermChecked s r)
+check-term-unique s = by-equation (λ r. r) (λ r. r) (λ r. refl) _
+
+pub check-index-unique : (s : List ℕ) → Determined {A = ℕ} (λ r. HostIndexChecked s r)
+check-index-unique s = by-equation (λ r. r) (λ r. r) (λ r. refl) _
+
+-- what the writers and closing promise, of an answer and its room
+told-unique : (t : Told) → Determined {A = HostWritten × List ℕ} (λ p. toldOf (p .0) (p .1) ≡ t)
+told-unique =
+    by-equation
+    (λ p. toldOf (p .0) (p .1))
+    (λ t. (record { refusal = t .refusal; length = t .length }, t .room))
+    (λ p. refl)
+
+pub write-list-unique : (U : ℕ) (xs room : List ℕ)
+    → Determined {A = HostWritten × List ℕ} (λ p. HostListWritten U xs room (p .0) (p .1))
+write-list-unique U xs room = told-unique _
+
+pub write-term-unique : (N : ℕ) (t : Word) (room : List ℕ)
+    → Determined {A = HostWritten × List ℕ} (λ p. HostTermWritten N t room (p .0) (p .1))
+write-term-unique N t room = told-unique _
+
+pub close-index-unique : (buffer : List ℕ) (used N T : ℕ)
+    → Determined {A = HostWritten × List ℕ} (λ p. HostIndexClosed buffer used N T (p .0) (p .1))
+close-index-unique buffer used N T = told-unique _
+
+pub ask-unique : (s qs room : List ℕ)
+    → Determined {A = HostAsked × List ℕ} (λ p. HostAnswered s qs room (p .0) (p .1))
+ask-unique s qs room =
+    by-equation
+    (λ p. heardOf (p .0) (p .1))
+    (λ h. (record { refusal = h .refusal; answered = h .answered; used = h .used }, h .room))
+    (λ p. refl)
+    _

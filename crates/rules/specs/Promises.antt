@@ -1,0 +1,53 @@
+-- What each call promises, by name: its contract cites the predicate, and proofs/Unique.antt shows of the same
+-- predicate that it allows one result [01 Promises with no slack].
+--
+--   Determined P                    any two results that P allows are equal
+--   ListChecked s r                 r is the refusal of the bytes s as a list
+--   ListWritten U xs room r after   r answers writing the list xs below U, and leaves the room as `after`
+--   TermChecked s r                 r is the refusal of the bytes s as a term
+--   TermWritten N t room r after    r answers writing the word t of N pages, and leaves the room as `after`
+--   IndexChecked s r                r is the refusal of the bytes s as an index
+--   IndexClosed buffer used N T r after  r answers closing an index, and leaves the buffer as `after`
+--   Answered s qs room r after      r is the outcome of the questions qs on the card s, and leaves the room as `after`
+--   Printed s qs text r after       r is the length of what the program prints for two files, laid into the text
+use mathlib.Core.Path.{_≡_}
+use mathlib.Core.List.{List}
+use Prim.Native.Nat.{ℕ}
+use lib.ListN.{length}
+use Rattle.rules.specs.declared.Refusal.{Refusal}
+use Rattle.rules.specs.declared.Written.{Written}
+use Rattle.rules.specs.declared.Outcome.{Outcome}
+use Rattle.rules.specs.ReadList.{listRefusal}
+use Rattle.rules.specs.Write.{made, laid, writeList}
+use Rattle.rules.specs.Term.{Word, writeTerm}
+use Rattle.rules.specs.ReadTerm.{termRefusal}
+use Rattle.rules.specs.Index.{indexRefusal, closeIndex}
+use Rattle.rules.specs.Ask.{asked, ask}
+use Rattle.rules.specs.Program.{printed}
+
+abbrev pub Determined : {A : Type 0} → (A → Type 0) → Type 0
+Determined P = (p q : _) → P p → P q → p ≡ q
+
+abbrev pub ListChecked : List ℕ → Refusal → Type 0
+ListChecked s r = r ≡ listRefusal s
+
+abbrev pub ListWritten : ℕ → List ℕ → List ℕ → Written → List ℕ → Type 0
+ListWritten U xs room r after = made r after ≡ writeList U xs room
+
+abbrev pub TermChecked : List ℕ → Refusal → Type 0
+TermChecked s r = r ≡ termRefusal s
+
+abbrev pub TermWritten : ℕ → Word → List ℕ → Written → List ℕ → Type 0
+TermWritten N t room r after = made r after ≡ writeTerm N t room
+
+abbrev pub IndexChecked : List ℕ → Refusal → Type 0
+IndexChecked s r = r ≡ indexRefusal s
+
+abbrev pub IndexClosed : List ℕ → ℕ → ℕ → ℕ → Written → List ℕ → Type 0
+IndexClosed buffer used N T r after = made r after ≡ closeIndex buffer used N T
+
+abbrev pub Answered : List ℕ → List ℕ → List ℕ → Outcome → List ℕ → Type 0
+Answered s qs room r after = asked r after ≡ ask s qs room
+
+abbrev pub Printed : List ℕ → List ℕ → List ℕ → ℕ → List ℕ → Type 0
+Printed s qs text r after = (after ≡ laid (printed s qs) text) × (r ≡ length (printed s qs))
