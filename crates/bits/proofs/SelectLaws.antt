@@ -17,7 +17,7 @@ use lib.Pow.{split, pow-pos, pow-add, pow-mono, shr-lt, shr-shr, shl-shr, field,
 use Rattle.laws.proofs.BitLaws.{drop-low, shl-keeps, digit}
 use Rattle.laws.proofs.CountLaws.{ones-parts}
 use Rattle.bits.specs.Words.{placeOfOne}
-use Rattle.bits.specs.ByteCounts.{byteOnes, runningOnes}
+use Rattle.bits.specs.ByteCounts.{each, byteOnes, runningOnes, marked}
 use Rattle.bits.proofs.WordLaws.{place-past, place-here, place-next, place-shl, place-trailing}
 use Rattle.bits.proofs.WordLaws.{place-none, place-empty, place-mod, place-low, place-high}
 
@@ -47,11 +47,6 @@ place-drop (suc k) x j h =
     ]
 
 -- ---- the counts of the bytes
-
--- b in each of m bytes
-abbrev pub each : ℕ → ℕ → ℕ
-each zero b = 0
-each (suc m) b = each m b * 256 + b
 
 -- `(x >> s) & m` byte by byte, where m has no bit that a higher byte could bring
 shift-byte : (s t x l m M : ℕ) → s + t ≡ 8 → l < 2 ^ 8 → m < 2 ^ t
@@ -234,10 +229,6 @@ count-before x i h =
 
 -- ---- the byte that holds a one
 
--- the highest bit of each byte whose count passes j: `((s | 0x80..) - (j + 1) * 0x01..) & 0x80..`
-abbrev pub marked : ℕ → ℕ → ℕ → ℕ
-marked m s j = bitAnd (bitOr s (each m 128) - (j + 1) * each m 1) (each m 128)
-
 each-mul : (m b : ℕ) → each m b ≡ b * each m 1
 each-mul zero b = omega arith
 each-mul (suc m) b = omega (arith, each-mul m b, mul-add b (each m 1 * 256) 1, mul-assoc b (each m 1) 256)
@@ -327,6 +318,32 @@ searched (suc m) a x j h hj l =
 
 -- ---- within the byte
 
+-- each bit of b as a byte: `(((b * 0x01..) & 0x8040201008040201) + 0x7F..) >> 7) & 0x01..`
+abbrev pub spaced : ℕ → ℕ
+spaced b = bitAnd ((bitAnd (b * each 8 1) 9241421688590303745 + each 8 127) / 2 ^ 7) (each 8 1)
+
+pub spaced-fits : (b : ℕ) → bitAnd (b * each 8 1) 9241421688590303745 + each 8 127 < 2 ^ 64
+spaced-fits b = omega (arith, and-le-r (b * each 8 1) 9241421688590303745)
+
+-- the first byte above j of the sums of these
+abbrev firstAbove : ℕ → ℕ → ℕ
+firstAbove b j = trailingZeros 64 (marked 8 (spaced b * each 8 1 % 2 ^ 64) j) / 8
+
+sameByte : ℕ → ℕ → Bool
+sameByte b j = eqb (firstAbove b j) (placeOfOne 8 b j)
+
+byte-tests : T (every 256 (λ b. every 8 (sameByte b)))
+unfolding every sameByte trailingZeros placeOfOne
+byte-tests = tt
+
+byte-first : (b j : ℕ) → b < 256 → j < 8 → firstAbove b j ≡ placeOfOne 8 b j
+unfolding sameByte
+byte-first b j h l = eqb→eq (firstAbove b j) (placeOfOne 8 b j) (every-at 8 (sameByte b) (every-at 256 (λ i. every 8 (sameByte i)) byte-tests b h) j l)
+
+-- as `one_of_byte` has it, where s holds the sums and t the marks
+pub byte-place : (b j s t : ℕ) → b < 256 → j < 8 → s ≡ spaced b * each 8 1 % 2 ^ 64 → t ≡ marked 8 s j → trailingZeros 64 t / 8 ≡ placeOfOne 8 b j
+byte-place b j s t h l e f = ap (λ (n : ℕ). trailingZeros 64 n / 8) (f ∙ ap (λ (n : ℕ). marked 8 n j) e) ∙ byte-first b j h l
+
 -- the one number j of the word, as a one of the byte that holds it
 pub place-byte : (x j i : ℕ) → i < 8 → ones (x % 2 ^ (8 * i)) ≤ j → j < ones (x % 2 ^ (8 * i + 8))
     → 8 * i + placeOfOne 8 (x / 2 ^ (8 * i) % 2 ^ 8) (j - ones (x % 2 ^ (8 * i))) ≡ placeOfOne 64 x j
@@ -351,6 +368,7 @@ pub record Held (x j s t : ℕ) : Type 0 where
   pub least : 7 ≤ t
   pub most : t < 64
   pub below : before s t ≤ j
+  pub few : j - before s t < 8
   pub byte : bitAnd (x / 2 ^ (t - 7)) 255 < 256
   pub lands : (r : ℕ) → r ≡ placeOfOne 8 (bitAnd (x / 2 ^ (t - 7)) 255) (j - before s t) → t - 7 + r ≡ placeOfOne 64 x j
 
@@ -366,29 +384,27 @@ held-at x j t i e h b r =
       least = omega arith;
       most = omega arith;
       below = omega (arith, q);
+      few = omega (arith, q, ones-parts x (8 * i) 8, ones-le 8 (x / 2 ^ (8 * i) % 2 ^ 8) (mod-lt (x / 2 ^ (8 * i)) (pow-pos 8)));
       byte = omega (arith, and-le-r (x / 2 ^ (t - 7)) 255);
       lands = λ n u. ap₂ _+_ p (u ∙ ap₂ (placeOfOne 8) y (ap (λ (k : ℕ). j - k) q)) ∙ place-byte x j i h b r;
     }
 
-module _ (x j s : ℕ) (counts : s ≡ runningOnes 8 0 x) (small : j < 64) where
-  outcome : Search 8 0 x j (marked 8 s j)
-  outcome = subst (λ (n : ℕ). Search 8 0 x j (marked 8 n j)) (sym counts)
-      (searched 8 0 x j (omega arith) (omega arith) (lit< tt))
+module _ (x j s p : ℕ) (counts : s ≡ runningOnes 8 0 x) (marks : p ≡ marked 8 s j) (small : j < 64) where
+  outcome : Search 8 0 x j p
+  outcome = subst (Search 8 0 x j) (ap (λ (n : ℕ). marked 8 n j) (sym counts) ∙ sym marks) (searched 8 0 x j (omega arith) (omega arith) (lit< tt))
 
-  pub held : (marked 8 s j ≡ 0 → ⊥) → Held x j s (trailingZeros 64 (marked 8 s j))
+  pub held : (p ≡ 0 → ⊥) → Held x j s (trailingZeros 64 p)
   held some =
       elim outcome [
         | inl n ↦ absurd (some (n .0))
-        | inr f ↦ subst (λ (n : ℕ). Held x j n (trailingZeros 64 (marked 8 s j))) (sym counts)
-            (held-at x j (trailingZeros 64 (marked 8 s j)) (f .byte) (place-trailing 64 (marked 8 s j) ∙ f .place)
-            (f .within) (omega (arith, f .below)) (omega (arith, f .reach)))
+        | inr f ↦ subst (λ (n : ℕ). Held x j n (trailingZeros 64 p)) (sym counts) (held-at x j (trailingZeros 64 p) (f .byte) (place-trailing 64 p ∙ f .place) (f .within) (omega (arith, f .below)) (omega (arith, f .reach)))
       ]
 
-  pub none-held : marked 8 s j ≡ 0 → placeOfOne 64 x j ≡ 64
+  pub none-held : p ≡ 0 → placeOfOne 64 x j ≡ 64
   none-held e =
       elim outcome [
         | inl n ↦ place-none 64 x j (omega (arith, n .1))
         | inr f ↦
-            let z : placeOfOne 64 (marked 8 s j) 0 ≡ 64 = rw e (place-empty 64 0) in
+            let z : placeOfOne 64 p 0 ≡ 64 = rw e (place-empty 64 0) in
             absurd (omega (arith, z, f .place, f .within))
       ]

@@ -10,7 +10,7 @@ ghost use Rattle.rules.specs.Runs.{runWord, field, wordsFor};
 ghost use Rattle.rules.specs.Counts.{onesBelow};
 ghost use Rattle.rules.specs.List.{width};
 ghost use Rattle.bits.specs.Words.{nextOne, placeOfOne, placeOfZero};
-ghost use Rattle.bits.specs.ByteCounts.{byteOnes, runningOnes};
+ghost use Rattle.bits.specs.ByteCounts.{each, byteOnes, runningOnes, marked};
 use std::num::wrapping_add_u64;
 
 // ---- big-endian numbers
@@ -141,22 +141,6 @@ pub fn ones_below(x: u64, j: usize) -> u32
 
 // ---- places of ones and zeros
 
-// The place of the one number j, counted from 0, of a byte, or 8.
-fn one_of_byte(b: u8, j: u32) -> u32
-    ensures { λ r. ⌜ r ≡ placeOfOne 8 b j ⌝ }
-{
-    let mut x = b;
-    let mut left = j;
-    while 0 < left {
-        if x == 0 {
-            return 8;
-        }
-        x = x & (x - 1);
-        left -= 1;
-    }
-    u8::trailing_zeros(x)
-}
-
 // How many ones each byte has.
 fn byte_counts(x: u64) -> u64
     ensures { λ r. ⌜ r ≡ byteOnes 8 x ⌝ }
@@ -166,14 +150,38 @@ fn byte_counts(x: u64) -> u64
     (halves & 0x0F0F0F0F0F0F0F0F) + ((halves >> 4) & 0x0F0F0F0F0F0F0F0F)
 }
 
+// Each byte with those below it added.
+fn summed(counts: u64) -> u64
+    ensures { λ r. ⌜ r ≡ counts * each 8 1 % 2 ^ 64 ⌝ }
+{
+    let two = wrapping_add_u64(counts, counts << 8);
+    let four = wrapping_add_u64(two, two << 16);
+    wrapping_add_u64(four, four << 32)
+}
+
 // How many ones each byte has with the bytes below it.
 fn running_counts(x: u64) -> u64
     ensures { λ r. ⌜ r ≡ runningOnes 8 0 x ⌝ }
 {
-    let one = byte_counts(x);
-    let two = wrapping_add_u64(one, one << 8);
-    let four = wrapping_add_u64(two, two << 16);
-    wrapping_add_u64(four, four << 32)
+    summed(byte_counts(x))
+}
+
+// The highest bit of each byte that is above j.
+fn above(sums: u64, j: u32) -> u64
+    requires { ⌜ j < 64 ⌝ }
+    ensures { λ r. ⌜ r ≡ marked 8 sums j ⌝ }
+{
+    ((sums | 0x8080808080808080) - (j as u64 + 1) * 0x0101010101010101) & 0x8080808080808080
+}
+
+// The place of the one number j, counted from 0, of a byte, or 8: each bit is spread to a byte of its own.
+fn one_of_byte(b: u8, j: u32) -> u32
+    requires { ⌜ j < 8 ⌝ }
+    ensures { λ r. ⌜ r ≡ placeOfOne 8 b j ⌝ }
+{
+    let spread = (b as u64 * 0x0101010101010101) & 0x8040201008040201;
+    let ones = ((spread + 0x7F7F7F7F7F7F7F7F) >> 7) & 0x0101010101010101;
+    u64::trailing_zeros(above(summed(ones), j)) / 8
 }
 
 // The place of the one number j, counted from 0, or 64.
@@ -184,8 +192,7 @@ pub fn select_one(x: u64, j: u32) -> u32
         return 64;
     }
     let counts = running_counts(x);
-    let passed = ((counts | 0x8080808080808080) - (j as u64 + 1) * 0x0101010101010101)
-        & 0x8080808080808080;
+    let passed = above(counts, j);
     if passed == 0 {
         return 64;
     }

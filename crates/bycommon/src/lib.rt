@@ -36,7 +36,8 @@ pub fn by_common(card: &[u8], terms: &[u32], room: &mut [u32]) -> usize
     if query::number(&shapes, 0, 7) + 3 <= room.len() {
         return put_common(card, &shapes, k, room);
     }
-    let counted = query::count_common(card, &shapes, k, 0);
+    let mut none = [0u32; 0];
+    let counted = query::list_common(card, &shapes, k, 0, &mut none);
     if room.len() < counted.found + 3 {
         return 0;
     }

@@ -43,17 +43,16 @@ fn check_lists(block: &[u8]) -> Refusal
     Refusal::Accepted
 }
 
-// The last element plus 1, or 0 where there is none; it is read by its rank.
+// The last element plus 1, or 0 where there is none.
 fn next_of(list: &[u8]) -> usize
     requires { ⌜ listRefusal (now list) ≡ Accepted ⌝ }
     ensures { λ r. ⌜ r ≡ next 0 (decode (now (list .entry))) ⌝ }
 {
     let g = readlist::shape_at(list);
-    let n = g.n;
-    if n == 0 {
+    if g.n == 0 {
         return 0;
     }
-    readlist::element_at(list, g, n - 1) + 1
+    readlist::last_of(list, g) + 1
 }
 
 // Whether the three lists of a term disagree.

@@ -4,9 +4,10 @@ use mathlib.Core.Path.{_≡_, refl, sym, ap, _∙_}
 use mathlib.Core.List.{List, [], _∷_, _++_, append-assoc, append-nil}
 use Prim.Native.Nat.{ℕ, suc, _+_, _-_, _≤_, _<_}
 use native.Mathlib.Nat.{zero-add, add-assoc}
+use native.Mathlib.Decide.{decLt}
 use native.Mathlib.Omega.{arith}
-use lib.ListN.{length, getD, set, drop, length-append}
-use lib.Seq.{drop-cons, set-at, append-snoc}
+use lib.ListN.{length, getD, set, take, drop, length-append, length-drop}
+use lib.Seq.{length-take-le, take-all, take-nil, drop-cons, append-snoc, take-append-le, set-out, set-at}
 use Rattle.rules.specs.Limits.{limit}
 use Rattle.rules.specs.Seek.{none, page}
 use Rattle.rules.specs.Common.{Tally, counted, nothing}
@@ -21,7 +22,7 @@ use Rattle.query.specs.declared.Turn.{Turn}
 use Rattle.query.specs.declared.Listed.{Listed}
 use Rattle.query.specs.Lists.{pagesAt, boundIn, Lists}
 use Rattle.query.specs.Queries.{newQuery, readerAt, leadIn, othersIn, seeksOf, looksOf, nextFor, Running, Turned}
-use Rattle.query.specs.Listings.{wholeFrom, Tells}
+use Rattle.query.specs.Listings.{wholeFrom, fitted, Tells}
 use Rattle.query.proofs.ListLaws.{list-length}
 use Rattle.query.proofs.RunLaws.{lead-ready, others-ready}
 use Rattle.query.proofs.TurnLaws.{turned-none, turned-page, turned-fewer}
@@ -29,14 +30,36 @@ use Rattle.query.proofs.NewLaws.{new-seeks, new-looks, new-running, new
 
 -- ---- one number more in the room
 
-pub laid-more : (ps room : List ℕ) (p : ℕ) → length ps < length room
-    → set (laid ps room) (length ps) p ≡ laid (ps ++ p ∷ []) room
+laid-more : (ps room : List ℕ) (p : ℕ) → length ps < length room → set (laid ps room) (length ps) p ≡ laid (ps ++ p ∷ []) room
 unfolding laid
 laid-more ps room p h =
     let e : length (ps ++ p ∷ []) ≡ suc (length ps) = length-append ps (p ∷ []) ∙ omega arith in
     rw (e, drop-cons room (length ps) 0 h)
     (set-at ps (getD room (length ps) 0) (drop (suc (length ps)) room) p (length ps) refl
     ∙ sym (append-snoc ps p (drop (suc (length ps)) room)))
+
+pub fitted-none : (room : List ℕ) → fitted [] room ≡ room
+unfolding laid
+fitted-none room = rw (take-nil {A = ℕ} (length room))
+
+pub fitted-all : (ps room : List ℕ) → length ps ≤ length room → fitted ps room ≡ laid ps room
+fitted-all ps room h = rw (take-all (length room) ps h)
+
+-- a store behind the room's end changes nothing
+full : (ps room : List ℕ) (p : ℕ) → length room ≤ length ps → set (fitted ps room) (length ps) p ≡ fitted ps room
+unfolding laid
+full ps room p h =
+    let front = take (length room) ps in
+    let n : length front ≡ length room = length-take-le (length room) ps h in
+    let l : length (fitted ps room) ≤ length ps = omega (arith, length-append front (drop (length front) room), length-drop (length front) room) in
+    set-out (fitted ps room) (length ps) p l
+
+pub fitted-more : (ps room : List ℕ) (p : ℕ) → set (fitted ps room) (length ps) p ≡ fitted (ps ++ p ∷ []) room
+fitted-more ps room p = elim (decLt (length ps) (length room)) [
+  | yes h ↦
+      rw (fitted-all ps room (omega arith), fitted-all (ps ++ p ∷ []) room (omega (arith, length-append ps (p ∷ [])))) (laid-more ps room p h)
+  | no h ↦ full ps room p (omega arith) ∙ ap (λ (xs : List ℕ). laid xs room) (sym (take-append-le (length room) ps (p ∷ []) (omega arith)))
+]
 
 -- ---- tallies
 
@@ -117,18 +140,7 @@ module _ (s sh : List ℕ) (k b₀ : ℕ) where
           same = same-step (f .0) (f .1) (f .2) (f .3);
         }
 
-    -- a page found is one of the whole
-    pub partway-room : (t .mark ≡ spentMark → ⊥) → found < length (wholeFrom s sh k b₀ .listed)
-    unfolding counted
-    partway-room h =
-        let n = partway-step h in
-        let ps′ = ps ++ (t .mark - 1) ∷ [] in
-        let rest = restOf s sh k (t .q) (t .mark) .listed in
-        let l : wholeFrom s sh k b₀ .listed ≡ ps′ ++ rest = sym (ap (λ (x : Tally). x .listed) (n .same)) in
-        omega (arith, ap length l, length-append ps′ rest, n .sized)
-
-    pub partway-end : t .mark ≡ spentMark → (r : Listed)
-        → (r .found ≡ found) × (r .seeks ≡ seeksOf (t .q)) × (r .looks ≡ looksOf (t .q))
+    pub partway-end : t .mark ≡ spentMark → (r : Listed) → (r .found ≡ found) × (r .seeks ≡ seeksOf (t .q)) × (r .looks ≡ looksOf (t .q))
         → (wholeFrom s sh k b₀ .listed ≡ ps) × Tells (wholeFrom s sh k b₀) r
     unfolding counted nothing
     partway-end h r e =

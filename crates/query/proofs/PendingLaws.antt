@@ -1,4 +1,5 @@
 -- What is left of the next common page where list i is to be sought for b, and what one seek leaves of it.
+use mathlib.Core.Bool.{Bool, true, false, cond, _&&_}
 use mathlib.Core.Path.{_≡_, refl, sym, _∙_}
 use mathlib.Core.List.{[], _∷_, _++_}
 use Prim.Native.Nat.{ℕ, zero, suc, _+_, _-_, _≤_, _<_}
@@ -6,6 +7,7 @@ use native.Mathlib.Numerals.{add-one}
 use native.Mathlib.Decide.{decLt}
 use native.Mathlib.Omega.{arith}
 use borrow.Author.Tests.{lt-ltb, le-ltb}
+use lib.Dec.{ltb}
 use Rattle.rules.specs.Seek.{Cursor, fresh, on, spent, none, page, Sought, seek}
 use Rattle.rules.specs.Common.{Reader}
 use Rattle.seeklaws.proofs.SeekLaws.{seek-first, cursorAt-on}
@@ -14,7 +16,6 @@ use Rattle.commonlaws.specs.Next.{Next, stop, plus, nextCommon, midway}
 use Rattle.commonlaws.proofs.AgreeLaws.{sought-first, sought-least}
 use Rattle.commonlaws.proofs.LoopLaws.{next-none, next-page, midway-end, midway-none, midway-larger, midway-same}
 use Rattle.query.specs.Lists.{span}
-use Rattle.query.specs.Queries.{listAfter}
 use Rattle.query.proofs.SpanLaws.{span-none, span-cons, span-split, span-snoc, span-same, span-ready}
 
 -- the rank at which a cursor is
@@ -22,6 +23,30 @@ unfoldable pub rankOf : Cursor → ℕ
 rankOf fresh = 0
 rankOf (on i) = i
 rankOf spent = 0
+
+-- the list to be sought after number i was sought for b and found d: the lead again after a larger page, else the next
+unfoldable pub listAfter : ℕ → ℕ → ℕ → ℕ
+listAfter i b d = cond (ltb 0 i && ltb b d) 0 (i + 1)
+
+module _ (i b d : ℕ) where
+  pub listAfter-larger : 0 < i → b < d → listAfter i b d ≡ 0
+  unfolding listAfter
+  listAfter-larger h l = rw (lt-ltb 0 i h, lt-ltb b d l)
+
+  pub listAfter-same : (0 < i → b < d → ⊥) → listAfter i b d ≡ i + 1
+  unfolding listAfter
+  listAfter-same h = elim (decLt 0 i) [
+    | yes g ↦ rw (lt-ltb 0 i g, le-ltb b d (elim (decLt b d) [ yes l ↦ absurd (h g l) | no l ↦ omega arith ]))
+    | no g ↦ rw (le-ltb 0 i (omega arith))
+  ]
+
+  pub listAfter-le : (k : ℕ) → i < k → listAfter i b d ≤ k
+  unfolding listAfter
+  listAfter-le k h = go (ltb 0 i && ltb b d)
+    where
+      go : (t : Bool) → cond t 0 (i + 1) ≤ k
+      go true = omega arith
+      go false = omega arith
 
 -- k readers f 0, f 1, .., of which number i is to be sought for b: those before it are on b
 unfoldable pub pending : ℕ → ℕ → (ℕ → Reader) → ℕ → ℕ → Next
@@ -96,7 +121,7 @@ module _ (U k b : ℕ) (f g : ℕ → Reader) where
         let stands = seek-first U (f i .pages) (a .rises) (f i .cursor) b (a .placed) (a .behind) .cursor in
         rw (m .here) (unfold moved rankOf in rw (stands, t .0, cursorAt-on (f i .pages) r (t .1)))
 
-    -- a seek that finds page d leaves what list_after says
+    -- a seek that finds page d leaves what listAfter says
     pub pending-page : (i : ℕ) → i < k → Moves U b i f g → (d r : ℕ) → this i .found ≡ page d r
         → pending U k f i b ≡ plus 1 (this i .looks) (pending U k g (listAfter i b d) d)
     unfolding pending listAfter

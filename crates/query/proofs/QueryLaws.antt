@@ -21,9 +21,8 @@ use Rattle.seek.proofs.CursorLaws.{held-rule}
 use Rattle.seek.proofs.MoveLaws.{moved-held, moved-rule, moved-seeks, moved-looks, moved-found}
 use Rattle.query.specs.declared.Query.{Query}
 use Rattle.query.specs.Lists.{pagesAt, boundIn, ListAt}
-use Rattle.query.specs.Queries.{cursorIn, withCursor, readerAt, leadIn, othersIn}
-use Rattle.query.specs.Queries.{movedIn, total, seeksOf, looksOf, listAfter, Apt}
-use Rattle.query.proofs.PendingLaws.{pending, Moves, pending-none, pending-page}
+use Rattle.query.specs.Queries.{cursorIn, withCursor, readerAt, leadIn, othersIn, movedIn, total, seeksOf, looksOf, Apt}
+use Rattle.query.proofs.PendingLaws.{listAfter, pending, Moves, pending-none, pending-page}
 use Rattle.query.proofs.ListLaws.{list-within, list-rises}
 
 -- ---- totals
@@ -76,7 +75,7 @@ module _ (s sh : List ℕ) (k : ℕ) (q : Query) (b : ℕ) (a : Apt s sh k q b) 
   inside = omega (arith, a .eight, list .few)
 
   abbrev next : Cursor
-  next = movedIn s sh q i b
+  next = movedIn s sh i (cursorIn q i) b
 
   abbrev after : Query
   after = withCursor q i next

@@ -1,12 +1,9 @@
--- Laws of a run of seeks:
--- the counts stay narrow, and the loop that finds the next common page comes to what the rule has.
-use mathlib.Core.Bool.{Bool, true, false, cond, _&&_}
+-- Laws of a run of seeks: the counts stay narrow, and the loop that finds the next common page comes to what the rule has.
 use mathlib.Core.Path.{_≡_, refl, sym, ap, _∙_}
 use mathlib.Core.List.{List, _∷_}
 use Prim.Native.Nat.{ℕ, _+_, _-_, _*_, _^_, _≤_, _<_}
 use native.Mathlib.Nat.{mul-le-mul-left}
 use native.Mathlib.Omega.{arith}
-use lib.Dec.{ltb}
 use lib.ListN.{length}
 use Rattle.rules.specs.Seek.{Found, none, page}
 use Rattle.commonlaws.specs.Readers.{pagesOf, Ready, AllReady, wordsOf, leftIn}
@@ -20,12 +17,11 @@ use Rattle.seek.specs.Cursors.{spentMark}
 use Rattle.query.specs.declared.Query.{Query}
 use Rattle.query.specs.declared.Turn.{Turn}
 use Rattle.query.specs.Lists.{pagesAt, boundIn}
-use Rattle.query.specs.Queries.{withCursor, readerAt, leadIn, othersIn, movedIn, seeksOf, looksOf}
-use Rattle.query.specs.Queries.{markFound, nextFor, listAfter, Seekable, Apt, Running, Turned}
+use Rattle.query.specs.Queries.{cursorIn, withCursor, readerAt, leadIn, othersIn, movedIn, seeksOf, looksOf, markFound, nextFor, Seekable, Apt, Running, Turned}
 use Rattle.query.proofs.SpanLaws.{length-span, span-cons, span-ready, span-pages}
-use Rattle.query.proofs.PendingLaws.{rankOf, pending, pending-end}
+use Rattle.query.proofs.PendingLaws.{rankOf, listAfter, listAfter-larger, listAfter-same, listAfter-le, pending, pending-end}
 use Rattle.query.proofs.ListLaws.{list-within, list-length, span-words}
-use Rattle.query.proofs.QueryLaws.{total-at, left, seek-apt, seek-seeks, left-none, left-page, page-least}
+use Rattle.query.proofs.QueryLaws.{total-at, left, seek-apt, seek-seeks, mark-some, left-none, left-page, page-least}
 
 pub apt-more : (s sh : List ℕ) (k : ℕ) (q : Query) (b d : ℕ) → Apt s sh k q b → b ≤ d → Apt s sh k q d
 apt-more s sh k q b d a l = record {
@@ -62,14 +58,6 @@ module _ (s sh : List ℕ) (k : ℕ) (q : Query) (b : ℕ) (a : Apt s sh k q b) 
       (λ j l m. list-length s sh j (a .lists .each j (omega arith))) in
       rw (span-pages (readerAt s sh q) (k - 1) 1) (omega (arith, rw e at w, a .lists .few))
 
-listAfter-le : (i b d k : ℕ) → i < k → listAfter i b d ≤ k
-unfolding listAfter
-listAfter-le i b d k h = go (ltb 0 i && ltb b d)
-  where
-    go : (t : Bool) → cond t 0 (i + 1) ≤ k
-    go true = omega arith
-    go false = omega arith
-
 pub record Narrow (seeks looks : ℕ) : Type 0 where
   pub seeks-few : seeks ≤ 2 ^ 28
   pub looks-few : looks ≤ 2 ^ 29
@@ -103,17 +91,10 @@ module _ (s sh : List ℕ) (k : ℕ) (q₀ : Query) (b₀ : ℕ) where
     pub running : Running s sh k q₀ b₀
     pub apt : Apt s sh k q b
     pub within : i ≤ k
-    pub paged : 0 < i → b + 1 < 2 ^ 32
     pub same : left s sh k q i b ≡ left s sh k q₀ 0 b₀
 
   pub midst-start : Running s sh k q₀ b₀ → Midst q₀ b₀ 0
-  midst-start r = record {
-    running = r;
-    apt = r .apt;
-    within = omega arith;
-    paged = λ h. absurd (omega arith);
-    same = refl;
-  }
+  midst-start r = record { running = r; apt = r .apt; within = omega arith; same = refl }
 
   -- where it ends with the answer f
   module _ (f : Found) (t : Turn) (b : ℕ) (r : Running s sh k q₀ b₀) (a : Apt s sh k (t .q) b)
@@ -174,10 +155,6 @@ module _ (s sh : List ℕ) (k : ℕ) (q₀ : Query) (b₀ : ℕ) where
               let m : t .mark ≡ c + 1 = e ∙ ap markFound (sym g) ∙ (unfold markFound in refl) in
               running-from c j d (sym g) (omega (arith, h c j (sym g))) (omega arith)
 
-  -- the seeks that are left
-  abbrev pub seeksLeft : Query → ℕ
-  seeksLeft q = seeksOf q₀ + nextFor s sh k q₀ b₀ .seeks - seeksOf q
-
   so-far : (q : Query) (b i : ℕ) → Midst q b i
       → (seeksOf q ≤ seeksOf q₀ + nextFor s sh k q₀ b₀ .seeks) × (looksOf q ≤ looksOf q₀ + nextFor s sh k q₀ b₀ .looks)
   unfolding plus pending
@@ -186,8 +163,15 @@ module _ (s sh : List ℕ) (k : ℕ) (q₀ : Query) (b₀ : ℕ) where
     omega (arith, ap (λ (n : Next). n .looks) (m .same)),
   )
 
+  midst-end : (q : Query) (b i : ℕ) → Midst q b i → k ≤ i → Turned s sh k q₀ b₀ (record { q = q; mark = b + 1 })
+  midst-end q b i m h =
+      let e : i ≡ k = omega (arith, m .within) in
+      let end = ap (plus (seeksOf q) (looksOf q)) (pending-end (boundIn sh) k b (readerAt s sh q) (m .apt .lists .some)) in
+      turned-from (page b (rankOf (leadIn s sh q .cursor))) (record { q = q; mark = b + 1 }) b (m .running) (m .apt)
+      (sym end ∙ rw e at (m .same)) (unfold markFound in refl) (λ c j z. let x : b ≡ c = cc in omega arith)
+
   module _ (q : Query) (b i : ℕ) (m : Midst q b i) where
-    pub midst-seekable : i < k → Seekable s sh q i
+    pub midst-seekable : i < k → Seekable s sh i (cursorIn q i)
     unfolding seeksOf looksOf
     midst-seekable h =
         let n = next-narrow s sh k q₀ b₀ (m .running) in
@@ -195,40 +179,50 @@ module _ (s sh : List ℕ) (k : ℕ) (q₀ : Query) (b₀ : ℕ) where
         let f = so-far q b i m in
         let inside : i < length (q .cursors) = omega (arith, m .apt .eight, l .few) in record {
           list = l;
-          eight = m .apt .eight;
           held = m .apt .held i h;
           seeks = omega (arith, f .0, n .seeks-few, total-at (λ c. c .seeks) (q .cursors) i inside);
           looks = omega (arith, f .1, n .looks-few, total-at (λ c. c .looks) (q .cursors) i inside);
         }
 
-    module _ (h : i < k) (c : Cursor) (w : c ≡ movedIn s sh q i b) where
-      pub midst-step : (c .mark ≡ spentMark → ⊥) → c .mark < 2 ^ 32
-          → Midst (withCursor q i c) (c .mark - 1) (listAfter i b (c .mark - 1))
-      midst-step = rw w (λ e f. record {
-        running = m .running;
-        apt = seek-apt s sh k q b (m .apt) i h (movedIn s sh q i b .mark - 1) (page-least s sh k q b (m .apt) i h e);
-        within = listAfter-le i b (movedIn s sh q i b .mark - 1) k h;
-        paged = λ z. omega arith;
-        same = sym (left-page s sh k q b (m .apt) i h e) ∙ m .same;
-      })
-
-      pub midst-less : (c .mark ≡ spentMark → ⊥) → c .mark < 2 ^ 32 → seeksLeft (withCursor q i c) < seeksLeft q
-      midst-less e f =
-          let l = so-far (withCursor q i c) (c .mark - 1) (listAfter i b (c .mark - 1)) (midst-step e f) .0 in
-          omega (arith, rw (← w) at (seek-seeks s sh k q b (m .apt) i h))
-
-      pub midst-none : c .mark ≡ spentMark → Turned s sh k q₀ b₀ (record { q = withCursor q i c; mark = spentMark })
+    module _ (h : i < k) (c : Cursor) (w : c ≡ movedIn s sh i (cursorIn q i) b) where
+      pub midst-none : c .mark ≡ spentMark → Turned s sh k q₀ b₀ (record { q = withCursor q i c; mark = c .mark })
       midst-none =
           rw w
           (λ e.
-          turned-from none (record { q = withCursor q i (movedIn s sh q i b); mark = spentMark }) b (m .running)
+          turned-from none (record { q = withCursor q i (movedIn s sh i (cursorIn q i) b); mark = movedIn s sh i (cursorIn q i) b .mark }) b (m .running)
           (seek-apt s sh k q b (m .apt) i h b (omega arith)) (sym (left-none s sh k q b (m .apt) i h e) ∙ m .same)
-          (unfold markFound in refl) (λ c j z. let x : _≡_ {A = ℕ} 0 1 = cc in absurd (omega arith)))
+          (e ∙ (unfold markFound in refl)) (λ c j z. let x : _≡_ {A = ℕ} 0 1 = cc in absurd (omega arith)))
 
-    pub midst-end : k ≤ i → Turned s sh k q₀ b₀ (record { q = q; mark = b + 1 })
-    midst-end h =
-        let e : i ≡ k = omega (arith, m .within) in
-        let end =
-        ap (plus (seeksOf q) (looksOf q)) (pending-end (boundIn sh) k b (readerAt s sh q) (m .apt .lists .some)) in
-        turned-from (page b (rankOf (leadIn s sh q .cursor))) (record { q = q; mark = b + 1 }) b (m .running) (m .apt)
-        (sym end ∙ rw e at (m .same)) (unfold markFound in refl) (λ c j z. let x : b ≡ c = cc in omega arith)
+      pub midst-some : 0 < c .mark
+      midst-some = rw w (mark-some s sh k q b (m .apt) i h)
+
+      step-to : (c .mark ≡ spentMark → ⊥) → (j : ℕ) → listAfter i b (c .mark - 1) ≡ j → j ≤ k → Midst (withCursor q i c) (c .mark - 1) j
+      step-to = rw w (λ e j a l. record {
+        running = m .running;
+        apt = seek-apt s sh k q b (m .apt) i h (movedIn s sh i (cursorIn q i) b .mark - 1) (page-least s sh k q b (m .apt) i h e);
+        within = l;
+        same = rw (← a) (sym (left-page s sh k q b (m .apt) i h e) ∙ m .same);
+      })
+
+      -- a seek more, of as many as there may be
+      pub midst-counted : (c .mark ≡ spentMark → ⊥) → (seeksOf (withCursor q i c) ≡ seeksOf q + 1) × (seeksOf q < 2 ^ 28)
+      midst-counted e =
+          let n = next-narrow s sh k q₀ b₀ (m .running) in
+          let one = rw (← w) at (seek-seeks s sh k q b (m .apt) i h) in
+          let f = so-far (withCursor q i c) (c .mark - 1) (listAfter i b (c .mark - 1)) (step-to e (listAfter i b (c .mark - 1)) refl (listAfter-le i b (c .mark - 1) k h)) in
+          (one, omega (arith, f .0, n .seeks-few))
+
+      module _ (e : c .mark ≡ spentMark → ⊥) where
+        -- behind a larger page the lead is next
+        pub midst-larger : 0 < i → b < c .mark - 1 → Midst (withCursor q i c) (c .mark - 1) 0
+        midst-larger g l = step-to e 0 (listAfter-larger i b (c .mark - 1) g l) (omega arith)
+
+        -- else the list behind this one
+        pub midst-same : (0 < i → b < c .mark - 1 → ⊥) → Midst (withCursor q i c) (c .mark - 1) (i + 1)
+        midst-same g = step-to e (i + 1) (listAfter-same i b (c .mark - 1) g) (omega arith)
+
+        -- of which there is none where all share the page
+        pub midst-page : (0 < i → b < c .mark - 1 → ⊥) → k ≤ i + 1 → Turned s sh k q₀ b₀ (record { q = withCursor q i c; mark = c .mark })
+        midst-page g l =
+            let some : c .mark - 1 + 1 ≡ c .mark = omega (arith, midst-some) in
+            rw some at (midst-end (withCursor q i c) (c .mark - 1) (i + 1) (midst-same g) l)

@@ -6,21 +6,18 @@
 --   readerAt s sh q i   the rule's reader that cursor i is, on the lists that sh places in the card s
 --   leadIn s sh q       the first of them
 --   othersIn s sh k q   those behind it, of k in all
---   movedIn s sh q i b  cursor i after a seek for b
+--   movedIn s sh i c b  the cursor c of list i after a seek for b
 --   total f cs          f of each cursor, summed
 --   seeksOf q, looksOf q  the seeks and the looks of all cursors
 --   markFound a         the mark of an answer: page + 1, or spentMark
 --   nextFor s sh k q b  the next page at or above b that the k lists share, as the step rule finds it
---   listAfter i b d     the list to be sought after number i was sought for b and found d
---   Seekable s sh q i   cursor i is one that seeks on its list have made, and its counts have room for one more
+--   Seekable s sh i c   c is a cursor that seeks on list i have made, and its counts have room for one more
 --   Apt s sh k q b      the cursors on the k lists are such, and none has passed a page from b on
 --   Running s sh k q b  so, and no count will wrap
 --   Turned s sh k q b t t is the query after its next page at or above b, with the mark of that page
-use mathlib.Core.Bool.{cond, _&&_}
 use mathlib.Core.Path.{_≡_}
 use mathlib.Core.List.{List, [], _∷_}
 use Prim.Native.Nat.{ℕ, _+_, _-_, _*_, _^_, _≤_, _<_}
-use lib.Dec.{ltb}
 use lib.ListN.{length, getD, set, replicate}
 use Rattle.rules.specs.Seek.{Found, none, page}
 use Rattle.rules.specs.Common.{Reader}
@@ -50,8 +47,8 @@ leadIn s sh q = readerAt s sh q 0
 abbrev pub othersIn : List ℕ → List ℕ → ℕ → Query → List Reader
 othersIn s sh k q = span (readerAt s sh q) 1 (k - 1)
 
-abbrev pub movedIn : List ℕ → List ℕ → Query → ℕ → ℕ → Cursor
-movedIn s sh q i b = movedTo (boundIn sh) (pagesAt s sh i) (cursorIn q i) b
+abbrev pub movedIn : List ℕ → List ℕ → ℕ → Cursor → ℕ → Cursor
+movedIn s sh i c b = movedTo (boundIn sh) (pagesAt s sh i) c b
 
 unfoldable pub total : (Cursor → ℕ) → List Cursor → ℕ
 total f [] = 0
@@ -70,16 +67,11 @@ markFound (page c _) = c + 1
 abbrev pub nextFor : List ℕ → List ℕ → ℕ → Query → ℕ → Next
 nextFor s sh k q b = nextCommon (boundIn sh) (leadIn s sh q) (othersIn s sh k q) b
 
--- the lead again after a larger page, else the next
-unfoldable pub listAfter : ℕ → ℕ → ℕ → ℕ
-listAfter i b d = cond (ltb 0 i && ltb b d) 0 (i + 1)
-
-pub record Seekable (s sh : List ℕ) (q : Query) (i : ℕ) : Type 0 where
+pub record Seekable (s sh : List ℕ) (i : ℕ) (c : Cursor) : Type 0 where
   pub list : ListAt s sh i
-  pub eight : length (q .cursors) ≡ 8
-  pub held : Held (boundIn sh) (pagesAt s sh i) (cursorIn q i)
-  pub seeks : cursorIn q i .seeks < 2 ^ 31
-  pub looks : cursorIn q i .looks < 2 ^ 31
+  pub held : Held (boundIn sh) (pagesAt s sh i) c
+  pub seeks : c .seeks < 2 ^ 31
+  pub looks : c .looks < 2 ^ 31
 
 pub record Apt (s sh : List ℕ) (k : ℕ) (q : Query) (b : ℕ) : Type 0 where
   pub lists : Lists s sh k

@@ -1,13 +1,13 @@
 // Common pages of up to eight lists by the step rule: the cursors travel as one query by value, and the lists' numbers
 // are lent beside it.
 
+ghost use mathlib.Core.Bool.{true};
 ghost use mathlib.Core.Path.{_≡_};
 ghost use Prim.Native.Nat.{_^_, _≤_, _<_};
-ghost use lib.ListN.{length};
+ghost use lib.ListN.{length, set};
 ghost use Rattle.query.specs.Lists.{numberOf, shapeIn, Lists};
-ghost use Rattle.rules.specs.Write.{laid};
-ghost use Rattle.query.specs.Queries.{seeksOf, looksOf, withCursor, newQuery, movedIn, listAfter, Seekable, Running, Turned};
-ghost use Rattle.query.specs.Listings.{wholeFrom, Tells};
+ghost use Rattle.query.specs.Queries.{newQuery, movedIn, seeksOf, looksOf, Seekable, Running, Turned};
+ghost use Rattle.query.specs.Listings.{wholeFrom, fitted, Tells, Scanned};
 use seek::Cursor;
 use seek::SPENT;
 use shape::Shape;
@@ -55,26 +55,78 @@ pub fn shape_in(shapes: &[u32], i: usize) -> Shape
     }
 }
 
-// One seek of cursor i for b.
-fn seek_in(card: &[u8], shapes: &[u32], mut q: Query, i: usize, b: usize) -> Query
-    requires { ⌜ Seekable (now card) (now shapes) q i ⌝ }
-    ensures { λ r. ⌜ r ≡ withCursor q i (movedIn (now (card .entry)) (now (shapes .entry)) q i b) ⌝ }
+// The cursor c of list i after a seek for b.
+fn seek_list(card: &[u8], shapes: &[u32], i: usize, c: Cursor, b: usize) -> Cursor
+    requires { ⌜ Seekable (now card) (now shapes) i c ⌝ }
+    ensures { λ r. ⌜ r ≡ movedIn (now (card .entry)) (now (shapes .entry)) i c b ⌝ }
 {
     let from = number(shapes, i, 0);
     let to = number(shapes, i, 1);
-    let c = q.cursors[i];
-    let d = seek::seek(&card[from..to], shape_in(shapes, i), c, b);
-    q.cursors[i] = d;
-    q
+    seek::seek(&card[from..to], shape_in(shapes, i), c, b)
 }
 
-// The cursor alone after that seek, so that a caller's query stays where it is.
-fn advance(card: &[u8], shapes: &[u32], q: Query, i: usize, b: usize) -> Cursor
-    requires { ⌜ Seekable (now card) (now shapes) q i ⌝ }
-    ensures { λ r. ⌜ r ≡ movedIn (now (card .entry)) (now (shapes .entry)) q i b ⌝ }
+// ---- the common pages
+
+// A query, how many pages it found before it stopped, and the mark of the page that it stopped at: page + 1, or SPENT.
+struct Scan {
+    q: Query,
+    found: usize,
+    mark: u32,
+}
+
+// Stores a page at the place at, if the room goes as far.
+fn put(room: &mut [u32], at: usize, page: u32)
+    ensures { λ r. ⌜ now (room .exit) ≡ set (now (room .entry)) at page ⌝ }
 {
-    let moved = seek_in(card, shapes, q, i, b);
-    moved.cursors[i]
+    if at < room.len() {
+        room[at] = page;
+    }
+}
+
+// Goes over the pages at or above the bound that the first k lists share: lists all, as far as the room goes, or stops at
+// the first. It is the one loop of seeks: the query stays in it, and one cursor at a time goes by value through its seek.
+fn scan_lists(
+    card: &[u8],
+    shapes: &[u32],
+    query: Query,
+    k: usize,
+    bound: usize,
+    all: bool,
+    room: &mut [u32],
+) -> Scan
+    requires { ⌜ Running (now card) (now shapes) k query bound × (all ≡ true → query ≡ newQuery) ⌝ }
+    ensures { λ r. ⌜ Scanned (now (card .entry)) (now (shapes .entry)) k query bound all (now (room .entry)) r (now (room .exit)) ⌝ }
+{
+    let mut q = query;
+    let mut b = bound;
+    let mut found = 0;
+    let mut i = 0;
+    loop {
+        let c = seek_list(card, shapes, i, q.cursors[i], b);
+        q.cursors[i] = c;
+        let mark = c.mark;
+        if mark == SPENT {
+            return Scan { q, found, mark };
+        }
+        let page = mark as usize - 1;
+        if 0 < i && b < page {
+            i = 0;
+            b = page;
+            continue;
+        }
+        i += 1;
+        b = page;
+        if i < k {
+            continue;
+        }
+        if !all {
+            return Scan { q, found, mark };
+        }
+        put(room, found, mark - 1);
+        found += 1;
+        i = 0;
+        b = mark as usize;
+    }
 }
 
 // ---- the next common page
@@ -85,39 +137,15 @@ pub struct Turn {
     pub mark: u32,
 }
 
-// The list to be sought after number i was sought for b and found a page: behind a larger page the lead again.
-fn list_after(i: usize, b: usize, page: usize) -> usize
-    requires { ⌜ i < 8 ⌝ }
-    ensures { λ r. ⌜ r ≡ listAfter i b page ⌝ }
-{
-    if 0 < i && b < page {
-        return 0;
-    }
-    i + 1
-}
-
 // The next page at or above the bound that the first k lists share; with one list, a plain seek.
 pub fn next_common(card: &[u8], shapes: &[u32], query: Query, k: usize, bound: usize) -> Turn
     requires { ⌜ Running (now card) (now shapes) k query bound ⌝ }
     ensures { λ r. ⌜ Turned (now (card .entry)) (now (shapes .entry)) k query bound r ⌝ }
 {
-    let mut q = query;
-    let mut b = bound;
-    let mut i = 0;
-    while i < k {
-        let c = advance(card, shapes, q, i, b);
-        q.cursors[i] = c;
-        if c.mark == SPENT {
-            return Turn { q, mark: SPENT };
-        }
-        let page = c.mark as usize - 1;
-        i = list_after(i, b, page);
-        b = page;
-    }
-    Turn {
-        q,
-        mark: (b + 1) as u32,
-    }
+    let mut none = [0u32; 0];
+    let r = scan_lists(card, shapes, query, k, bound, false, &mut none);
+    let q = r.q;
+    Turn { q, mark: r.mark }
 }
 
 // ---- all common pages
@@ -150,44 +178,12 @@ fn totals(q: Query, found: usize) -> Listed
     }
 }
 
-// Counts the pages at or above the bound that the first k lists share.
-pub fn count_common(card: &[u8], shapes: &[u32], k: usize, bound: usize) -> Listed
-    requires { ⌜ Lists (now card) (now shapes) k ⌝ }
-    ensures { λ r. ⌜ Tells (wholeFrom (now (card .entry)) (now (shapes .entry)) k bound) r ⌝ }
-{
-    let mut q = Query::new();
-    let mut b = bound;
-    let mut found = 0;
-    loop {
-        let turn = next_common(card, shapes, q, k, b);
-        q = turn.q;
-        if turn.mark == SPENT {
-            return totals(q, found);
-        }
-        found += 1;
-        b = turn.mark as usize;
-    }
-}
-
-// Lists them at the front of the room, which holds as many as there are; the first list has no fewer.
+// Counts the pages at or above the bound that the first k lists share, and lists them at the front of the room, as far as
+// it goes.
 pub fn list_common(card: &[u8], shapes: &[u32], k: usize, bound: usize, room: &mut [u32]) -> Listed
-    requires { ⌜ Lists (now card) (now shapes) k
-        × (length (wholeFrom (now card) (now shapes) k bound .listed) ≤ length (now room)) ⌝ }
-    ensures { λ r. ⌜ Tells (wholeFrom (now (card .entry)) (now (shapes .entry)) k bound) r
-        × (now (room .exit)
-        ≡ laid (wholeFrom (now (card .entry)) (now (shapes .entry)) k bound .listed) (now (room .entry))) ⌝ }
+    requires { ⌜ Lists (now card) (now shapes) k ⌝ }
+    ensures { λ r. ⌜ Tells (wholeFrom (now (card .entry)) (now (shapes .entry)) k bound) r × (now (room .exit) ≡ fitted (wholeFrom (now (card .entry)) (now (shapes .entry)) k bound .listed) (now (room .entry))) ⌝ }
 {
-    let mut q = Query::new();
-    let mut b = bound;
-    let mut found = 0;
-    loop {
-        let turn = next_common(card, shapes, q, k, b);
-        q = turn.q;
-        if turn.mark == SPENT {
-            return totals(q, found);
-        }
-        room[found] = turn.mark - 1;
-        found += 1;
-        b = turn.mark as usize;
-    }
+    let r = scan_lists(card, shapes, Query::new(), k, bound, true, room);
+    totals(r.q, r.found)
 }

@@ -1,3 +1,5 @@
 pub mod OneLaws
+pub mod NearLaws
+pub mod LastLaws
 pub mod ReadLaws
 pub mod PartLaws

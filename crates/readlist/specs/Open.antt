@@ -4,10 +4,15 @@
 --   pointersIn g       how many pointers a block of shape g has
 --   pointerOf s g i    pointer number i of the upper run of s, whose shape is g; 0 for i = 0
 --   PointerAt s g i r  r is that pointer, as stored and as a place of the run; i from 0 to pointersIn g
+--   HighEnd s g rank i     pointer number i is the last, or the next has more than `rank` ones before it
+--   Among s g rank low high  the last pointer with at most `rank` ones before it is one from number low to number high
 --   LastBefore s g rank i  pointer number i is the last with at most `rank` ones before it
 --   OneAt s at rank p  the one number `rank`, from 0, of the run at byte `at` stands at place p
 --   OneAhead run k before rank  the one number `rank` lies in word k of the run or after it;
 --                               `before` ones lie below that word
+--   onesIn run         how many ones the words of the run have
+--   SomeOne run        they have one at least
+--   LastOne run p      the last of them stands at place p
 use mathlib.Core.Path.{_≡_}
 use mathlib.Core.List.{List}
 use Prim.Native.Nat.{ℕ, _+_, _-_, _*_, _/_, _^_, _≤_, _<_}
@@ -39,6 +44,15 @@ pub record PointerAt (s : List ℕ) (g : Shape) (i r : ℕ) : Type 0 where
   pub defined : r ≡ pointerOf s g i
 
 -- 256 * i zeros stand before pointer number i
+pub record HighEnd (s : List ℕ) (g : Shape) (rank i : ℕ) : Type 0 where
+  pub within : i ≤ pointersIn g
+  pub beyond : i < pointersIn g → 256 * (i + 1) + rank < pointerOf s g (i + 1)
+
+pub record Among (s : List ℕ) (g : Shape) (rank low high : ℕ) : Type 0 where
+  pub order : low ≤ high
+  pub before : pointerOf s g low ≤ 256 * low + rank
+  pub ends : HighEnd s g rank high
+
 pub record LastBefore (s : List ℕ) (g : Shape) (rank i : ℕ) : Type 0 where
   pub within : i ≤ pointersIn g
   pub before : pointerOf s g i ≤ 256 * i + rank
@@ -54,3 +68,14 @@ pub record OneAhead (run : List ℕ) (k before rank : ℕ) : Type 0 where
   pub ahead : before ≤ rank
   pub some : rank < onesBelow run 0 (64 * (length run / 8))
   pub short : length run < 2 ^ 32
+
+abbrev pub onesIn : List ℕ → ℕ
+onesIn run = onesBelow run 0 (64 * (length run / 8))
+
+pub record SomeOne (run : List ℕ) : Type 0 where
+  pub some : 0 < onesIn run
+  pub short : length run < 2 ^ 32
+
+pub record LastOne (run : List ℕ) (p : ℕ) : Type 0 where
+  pub one : OneAt run 0 (onesIn run - 1) p
+  pub inside : p < 64 * (length run / 8)

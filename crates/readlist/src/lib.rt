@@ -1,13 +1,14 @@
 // Reading inside an accepted list block: its shape, its parts, its pointers, and its elements by place and by rank.
 
 ghost use mathlib.Core.Path.{_≡_};
-ghost use Prim.Native.Nat.{_-_, _*_, _/_, _^_, _≤_, _<_};
+ghost use Prim.Native.Nat.{_+_, _-_, _*_, _/_, _^_, _≤_, _<_};
+ghost use lib.Dec.{leb};
 ghost use lib.ListN.{length, take, drop, getD};
 ghost use Rattle.rules.specs.declared.Refusal.the-variants.{Accepted};
 ghost use Rattle.rules.specs.Runs.{field};
 ghost use Rattle.rules.specs.ReadList.{listU, listN, decode, listRefusal};
 ghost use Rattle.shape.specs.Shape.{shapeOf};
-ghost use Rattle.readlist.specs.Open.{Open, pointersIn, PointerAt, LastBefore, OneAt, OneAhead};
+ghost use Rattle.readlist.specs.Open.{Open, pointersIn, pointerOf, PointerAt, HighEnd, Among, LastBefore, OneAt, OneAhead, SomeOne, LastOne};
 use shape::Shape;
 
 // ---- the shape and the parts
@@ -83,16 +84,85 @@ pub fn value_at(block: &[u8], g: Shape, place: usize, rank: usize) -> usize
 
 // ---- elements by rank
 
+// The number of the last pointer.
+fn last_pointer(g: Shape) -> usize
+    requires { ⌜ 13 ≤ g .lower ⌝ }
+    ensures { λ r. ⌜ r ≡ pointersIn g ⌝ }
+{
+    (g.lower - 13) / 4
+}
+
+// Whether pointer number i has at most `rank` ones before it.
+fn precedes(block: &[u8], g: Shape, i: usize, rank: usize) -> bool
+    requires { ⌜ Open (now block) g × (i ≤ pointersIn g) × (rank < g .n) ⌝ }
+    ensures { λ r. ⌜ r ≡ leb (pointerOf (now (block .entry)) g i) (256 * i + rank) ⌝ }
+{
+    pointer_at(block, g, i) <= 256 * i + rank
+}
+
+// A pointer with at most `rank` ones before it: the one 8 below the guess where it is such, else number 0.
+fn low_near(block: &[u8], g: Shape, guess: usize, rank: usize) -> usize
+    requires { ⌜ Open (now block) g × (guess ≤ pointersIn g) × (rank < g .n) ⌝ }
+    ensures { λ r. ⌜ (r ≤ guess) × (pointerOf (now (block .entry)) g r ≤ 256 * r + rank) ⌝ }
+{
+    if guess <= 8 {
+        return 0;
+    }
+    let i = guess - 8;
+    if precedes(block, g, i, rank) {
+        return i;
+    }
+    0
+}
+
+// A pointer such that the next has more ones before it: the one 7 above the guess where it is such, else the last.
+fn high_near(block: &[u8], g: Shape, guess: usize, rank: usize) -> usize
+    requires { ⌜ Open (now block) g × (guess ≤ pointersIn g) × (rank < g .n) ⌝ }
+    ensures { λ r. ⌜ (guess ≤ r) × HighEnd (now (block .entry)) g rank r ⌝ }
+{
+    let last = last_pointer(g);
+    let i = guess + 8;
+    if last <= i {
+        return last;
+    }
+    if precedes(block, g, i, rank) {
+        return last;
+    }
+    i - 1
+}
+
+// Pointers from number `low` to number `high`.
+struct Range {
+    low: usize,
+    high: usize,
+}
+
+// Pointers among which the last with at most `rank` ones before it is: of many, those near that rank's share.
+fn narrowed(block: &[u8], g: Shape, rank: usize) -> Range
+    requires { ⌜ Open (now block) g × (rank < g .n) ⌝ }
+    ensures { λ r. ⌜ Among (now (block .entry)) g rank (r .low) (r .high) ⌝ }
+{
+    let last = last_pointer(g);
+    if last <= 16 {
+        return Range { low: 0, high: last };
+    }
+    let guess = rank * last / g.n;
+    let low = low_near(block, g, guess, rank);
+    let high = high_near(block, g, guess, rank);
+    Range { low, high }
+}
+
 // The last pointer with at most `rank` ones before it, found by halving.
 pub fn pointer_before(block: &[u8], g: Shape, rank: usize) -> usize
     requires { ⌜ Open (now block) g × (rank < g .n) ⌝ }
     ensures { λ r. ⌜ LastBefore (now (block .entry)) g rank r ⌝ }
 {
-    let mut low = 0;
-    let mut high = (g.lower - 13) / 4;
+    let near = narrowed(block, g, rank);
+    let mut low = near.low;
+    let mut high = near.high;
     while low < high {
         let mid = high - (high - low) / 2;
-        if pointer_at(block, g, mid) <= 256 * mid + rank {
+        if precedes(block, g, mid, rank) {
             low = mid;
         } else {
             high = mid - 1;
@@ -138,4 +208,30 @@ pub fn element_at(block: &[u8], g: Shape, rank: usize) -> usize
     ensures { λ r. ⌜ r ≡ getD (decode (now (block .entry))) rank 0 ⌝ }
 {
     value_at(block, g, place_of(block, g, rank), rank)
+}
+
+// ---- the last element
+
+// The place of the last one of a run, which has one.
+fn last_one(run: &[u8]) -> usize
+    requires { ⌜ SomeOne (now run) ⌝ }
+    ensures { λ r. ⌜ LastOne (now (run .entry)) r ⌝ }
+{
+    let mut k = run.len() / 8 - 1;
+    let mut x = bits::run_word(run, 0, k);
+    while x == 0 {
+        k -= 1;
+        x = bits::run_word(run, 0, k);
+    }
+    64 * k + (63 - u64::leading_zeros(x)) as usize
+}
+
+// The last element of a block that has one, found without a search: its one is the last of the upper run.
+pub fn last_of(block: &[u8], g: Shape) -> usize
+    requires { ⌜ Open (now block) g × (0 < g .n) ⌝ }
+    ensures { λ r. ⌜ r ≡ getD (decode (now (block .entry))) (g .n - 1) 0 ⌝ }
+{
+    let place = last_one(upper_of(block, g));
+    let rank = g.n - 1;
+    value_at(block, g, place, rank)
 }

@@ -74,7 +74,7 @@ pub rest-all : (x : ℕ) → x < 2 ^ 64 → Rest x x 0
 rest-all x l = record { whole = l; fits = l; within = omega arith; places = λ j. rw (zero-add j) }
 
 -- the bits from place f on
-pub rest-from : (x f : ℕ) → x < 2 ^ 64 → f < 64 → Rest x (x / 2 ^ f * 2 ^ f) (ones (x % 2 ^ f))
+pub rest-from : (x f : ℕ) → x < 2 ^ 64 → f ≤ 64 → Rest x (x / 2 ^ f * 2 ^ f) (ones (x % 2 ^ f))
 rest-from x f l h =
     let e : f + (64 - f) ≡ 64 = omega arith in
     record {

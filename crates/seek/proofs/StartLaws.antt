@@ -1,16 +1,20 @@
 -- Where a seek starts, and the walk that it has from there.
 use mathlib.Core.Path.{_≡_, refl, sym, _∙_}
+use mathlib.Core.Logic.{inl, inr}
 use mathlib.Core.List.{List}
 use Prim.Native.Nat.{ℕ, zero, suc, _+_, _-_, _*_, _/_, _%_, _^_, _≤_, _<_, max}
-use native.Mathlib.Nat.{zero-div}
+use native.Mathlib.Nat.{zero-div, add-zero}
+use native.Mathlib.Numerals.{add-one}
+use native.Mathlib.Decide.{decLt, ℕ-discrete}
 use native.Mathlib.Omega.{arith}
 use lib.ListN.{getD}
 use Rattle.rules.specs.Bytes.{beAt}
-use Rattle.rules.specs.Runs.{runWord, wordsFor}
+use Rattle.rules.specs.Runs.{runWord, runBit, wordsFor}
 use Rattle.rules.specs.Counts.{onesBelow}
 use Rattle.rules.specs.ReadList.{listU, decode}
 use Rattle.rules.specs.Seek.{Cursor as Placing, fresh, on, spent, cursorBit, startOf}
-use Rattle.laws.proofs.CountLaws.{below-none, run-steps}
+use Rattle.laws.proofs.CountLaws.{below-none, below-suc, run-steps}
+use Rattle.laws.proofs.RunLaws.{run-cases}
 use Rattle.shape.specs.declared.Shape.{Shape}
 use Rattle.listlaws.proofs.AfterLaws.{after-lt, after-le}
 use Rattle.readlist.specs.Open.{Open, pointersIn, pointerOf, PointerAt}
@@ -22,9 +26,8 @@ use Rattle.seek.specs.declared.Place.{Place}
 use Rattle.seek.specs.declared.Zeros.{Zeros}
 use Rattle.seek.specs.declared.Walk.{Walk}
 use Rattle.seek.specs.Cursors.{markOf, startIn, Moving}
-use Rattle.seek.specs.Walks.{Started, Skipping, Skipped, Passed}
-use Rattle.seek.proofs.OpenLaws.{Ruled, open-U, open-within, open-n, open-some, open-length}
-use Rattle.seek.proofs.OpenLaws.{open-rising, open-ruled, before-place, before-zeros}
+use Rattle.seek.specs.Walks.{Before, Started, Skipping, Skipped, Passed}
+use Rattle.seek.proofs.OpenLaws.{Ruled, open-U, open-within, open-n, open-some, open-length, open-rising, open-ruled, before-place, before-zeros}
 use Rattle.seek.proofs.WalkLaws.{skipping-from, walking-from}
 use Rattle.seek.proofs.CursorLaws.{held-rule, held-floor}
 
@@ -43,15 +46,32 @@ module _ (s : List ℕ) (g : Shape) (o : Open s g) (b : ℕ) (p : Place) (t : St
   unfolding wordsFor
   start-word = omega arith
 
-  -- the walk from the start on
+  bit-le : runBit s (g .upper) (p .bit) ≤ 1
+  bit-le = elim (run-cases s (g .upper) (p .bit)) [ inl e ↦ omega arith | inr e ↦ omega arith ]
+
+  pub own-le : p .own ≤ 1
+  own-le = omega (arith, t .own-set, bit-le)
+
+  -- the cursor's own element is one of the ones before the place behind it
+  own-counted : onesBelow s (g .upper) (p .bit + p .own) ≡ onesBelow s (g .upper) (p .bit) + p .own
+  own-counted =
+      elim (ℕ-discrete (p .own) 0) [
+        | yes e ↦ rw (e, add-zero, add-zero)
+        | no e ↦
+            let one : p .own ≡ 1 = omega (arith, own-le) in
+            rw (one, add-one) (omega (arith, below-suc s (g .upper) (p .bit), t .own-set, bit-le))
+      ]
+
+  -- the walk from the start on, or from behind the cursor's own element
   pub passed-start : (looks : ℕ) (r : Walk) → looks < 2 ^ 31
-      → r .left ≡ runWord s (g .upper) (p .bit / 64) / 2 ^ (p .bit % 64) * 2 ^ (p .bit % 64) → r .k ≡ p .bit / 64
-      → r .rank ≡ p .bit - p .zeros → r .looks ≡ looks + 1 → Passed s g b (p .bit / 64) (looks + 1) r
+      → r .left ≡ runWord s (g .upper) (p .bit / 64) / 2 ^ (p .bit % 64 + p .own) * 2 ^ (p .bit % 64 + p .own) → r .k ≡ p .bit / 64
+      → r .rank ≡ p .bit - p .zeros + p .own → r .looks ≡ looks + 1 → Passed s g b (p .bit / 64) (looks + 1) r
   passed-start looks r l e i n c =
-      let below : r .rank ≡ onesBelow s (g .upper) (p .bit) = omega (arith, t .counted) in
+      let before : r .rank ≡ onesBelow s (g .upper) (p .bit) + p .own = omega (arith, t .counted) in
+      let behind : 64 * k + (f + p .own) ≡ p .bit + p .own = omega arith in
       record {
-        at = walking-from s g o f r (omega arith) (rw i start-word) (rw i e) (rw (i, place-split) below) (omega arith);
-        passed = rw below (t .passed);
+        at = walking-from s g o (f + p .own) r (omega (arith, own-le)) (rw i start-word) (rw i e) (rw (i, behind, own-counted) before) (omega arith);
+        passed = rw before (t .passed);
         counted = omega arith;
       }
 
@@ -137,36 +157,70 @@ module _ (s : List ℕ) (g : Shape) (o : Open s g) where
       ruled .bits-is,
     )
 
-    -- a place is the start if it is the larger of the cursor's bit and the pointer
-    started-at : (r : Place) → onesBelow s (g .upper) (r .bit) + r .zeros ≡ r .bit → r .bit ≤ g .bits
-        → r .bit ≡ max (c .bit) (pointerOf s g number) → Started s g b r × (r .bit ≡ startIn s c b)
-    started-at r n l e =
-        let d : r .bit ≡ startIn s c b = e ∙ sym start-is in
+    -- what is before the start is below b
+    start-before : (p : ℕ) → p ≡ startIn s c b → Before s b (onesBelow s (g .upper) p)
+    start-before p d =
         let k = held-rule U xs (open-rising s g o) (open-within s g o) c (m .cursor) in
-        let f = held-floor U xs (open-rising s g o) (open-within s g o) c (m .cursor) b (m .ahead) (m .below) in (
+        let f = held-floor U xs (open-rising s g o) (open-within s g o) c (m .cursor) b (m .ahead) (m .below) in
+        before-place s g o some b p (rw (d, k) (start-ahead U xs (open-rising s g o) (m .cursor .place) b (m .cursor .placed) f))
+
+    -- and so is the cursor's own element, whose one is at the cursor's bit
+    placing-own : (a : Placing) → Placed xs a → markOf xs a ≤ b → (own : ℕ) → own ≤ 1 → own ≤ markOf xs a
+        → Before s b (onesBelow s (g .upper) (cursorBit U xs a))
+        → (own ≤ runBit s (g .upper) (cursorBit U xs a)) × Before s b (onesBelow s (g .upper) (cursorBit U xs a) + own)
+    unfolding markOf cursorBit
+    placing-own fresh p l own h q before = (omega arith, λ j less. before j (omega arith))
+    placing-own spent p l own h q before = absurd (omega (arith, m .below, open-within s g o))
+    placing-own (on i) p l own h q before =
+        let n : i < g .n = omega (arith, open-length s g o) in
+        let one = rw (← ruled .place-is i) at (ruled .set i n) in
+        let rank = rw (← ruled .place-is i) at (ruled .ranked i n) in (
+          omega (arith, one),
+          λ j less.
+              elim (decLt j i) [
+                | yes k ↦ before j (omega (arith, rank))
+                | no k ↦
+                    let e : i ≡ j = omega (arith, rank) in
+                    rw (← e) (omega arith)
+              ],
+        )
+
+    cursor-own : (own : ℕ) → own ≤ 1 → own ≤ c .mark → Before s b (onesBelow s (g .upper) (c .bit))
+        → (own ≤ runBit s (g .upper) (c .bit)) × Before s b (onesBelow s (g .upper) (c .bit) + own)
+    cursor-own own h q =
+        let a = m .cursor in
+        rw (a .bit-is) (placing-own (a .place) (a .placed) (rw (a .mark-is) at (m .ahead)) own h (rw (a .mark-is) at q))
+
+    -- the start is the larger of the cursor's bit and the pointer
+    pub started-jump : (r : Place) → PointerAt s g number (r .bit) → r .zeros ≡ 256 * number → r .own ≡ 0 → high / 256 < number
+        → Started s g b r × (r .bit ≡ startIn s c b)
+    started-jump r p z n l =
+        let q = after-lt (onesBelow s (g .upper)) (run-steps s (g .upper)) (256 * number) (r .bit) (p .after) (c .bit) (omega (arith, cursor-counted)) in
+        let e : r .bit ≡ max (c .bit) (pointerOf s g number) = omega (arith, p .defined) in
+        let d : r .bit ≡ startIn s c b = e ∙ sym start-is in (
           record {
-            within = l;
-            counted = n;
-            passed = before-place s g o some b (r .bit)
-                (rw (d, k) (start-ahead U xs (open-rising s g o) (m .cursor .place) b (m .cursor .placed) f));
+            within = p .inside;
+            counted = omega (arith, p .after .counted);
+            own-set = omega arith;
+            passed = λ j less. start-before (r .bit) d j (omega arith);
           },
           d,
         )
 
-    pub started-jump : (r : Place) → PointerAt s g number (r .bit) → r .zeros ≡ 256 * number → high / 256 < number
+    pub started-here : (r : Place) → r .bit ≡ c .bit → r .zeros ≡ high → r .own ≤ 1 → r .own ≤ c .mark → number ≤ high / 256
         → Started s g b r × (r .bit ≡ startIn s c b)
-    started-jump r p z l =
-        let q = after-lt (onesBelow s (g .upper)) (run-steps s (g .upper)) (256 * number) (r .bit) (p .after) (c .bit)
-        (omega (arith, cursor-counted)) in
-        started-at r (omega (arith, p .after .counted)) (p .inside) (omega (arith, p .defined))
-
-    pub started-here : (r : Place) → r .bit ≡ c .bit → r .zeros ≡ high → number ≤ high / 256
-        → Started s g b r × (r .bit ≡ startIn s c b)
-    started-here r e z l =
+    started-here r e z h w l =
         let p = read-pointer number pointer-inside in
-        let q = after-le (onesBelow s (g .upper)) (run-steps s (g .upper)) (256 * number) (p .0) (p .1 .after) (c .bit)
-        (omega (arith, cursor-counted)) in
-        let k =
-        cursor-lt U xs (open-rising s g o) (m .cursor .place) (m .cursor .placed) (rw (open-length s g o) some) in
-        started-at r (rw e (omega (arith, cursor-counted))) (omega (arith, k, m .cursor .bit-is, ruled .bits-is))
-        (omega (arith, p .1 .defined))
+        let q = after-le (onesBelow s (g .upper)) (run-steps s (g .upper)) (256 * number) (p .0) (p .1 .after) (c .bit) (omega (arith, cursor-counted)) in
+        let k = cursor-lt U xs (open-rising s g o) (m .cursor .place) (m .cursor .placed) (rw (open-length s g o) some) in
+        let f : r .bit ≡ max (c .bit) (pointerOf s g number) = omega (arith, p .1 .defined) in
+        let d : r .bit ≡ startIn s c b = f ∙ sym start-is in
+        let own = cursor-own (r .own) h w (rw e at (start-before (r .bit) d)) in (
+          record {
+            within = omega (arith, k, m .cursor .bit-is, ruled .bits-is);
+            counted = rw e (omega (arith, cursor-counted));
+            own-set = rw e (own .0);
+            passed = rw e (own .1);
+          },
+          d,
+        )

@@ -46,14 +46,8 @@ module _ (s : List ℕ) (g : Shape) (o : Open s g) where
         within = i;
         word-is = w;
         gone = ones ((2 ^ 64 - 1 - x .word) % 2 ^ f);
-        left-are = rw e (rest-from (2 ^ 64 - 1 - x .word) f (omega arith) l);
-        counted = omega (
-          arith,
-          c,
-          word-ones s (g .upper) (x .k) f (omega arith),
-          complement-ones 64 (x .word) f fits (omega arith),
-          same,
-        );
+        left-are = rw e (rest-from (2 ^ 64 - 1 - x .word) f (omega arith) (omega arith));
+        counted = omega (arith, c, word-ones s (g .upper) (x .k) f (omega arith), complement-ones 64 (x .word) f fits (omega arith), same);
         short = b;
         room = r;
       }
@@ -122,13 +116,13 @@ module _ (s : List ℕ) (g : Shape) (o : Open s g) where
   -- ---- over words
 
   -- what is left of word k from place f on
-  pub walking-from : (f : ℕ) (x : Walk) → f < 64 → x .k < wordsFor (g .bits) → x .left ≡ word (x .k) / 2 ^ f * 2 ^ f
+  pub walking-from : (f : ℕ) (x : Walk) → f ≤ 64 → x .k < wordsFor (g .bits) → x .left ≡ word (x .k) / 2 ^ f * 2 ^ f
       → x .rank ≡ below (64 * x .k + f) → x .looks ≤ 2 ^ 31 + x .k → Walking s g x
   walking-from f x l i e c r = record {
     within = i;
     gone = ones (word (x .k) % 2 ^ f);
     left-are = rw e (rest-from (word (x .k)) f (open-word s g o (x .k)) l);
-    counted = c ∙ word-ones s (g .upper) (x .k) f (omega arith);
+    counted = c ∙ word-ones s (g .upper) (x .k) f l;
     room = r;
   }
 

@@ -3,7 +3,7 @@
 --   Rest x y i        y is the word x without its first i ones
 --   Before s b i      every element before number i is below b
 --   lastWord U xs i   the word of element number i in the upper run; the last word where there is none
---   Started s g b x   a place from which no element at least b has been passed, with the zeros before it
+--   Started s g b x   a place and the zeros before it; elements before it, and the cursor's own there, are below b
 --   Skipping s g h x  the zeros of word k that are left, with fewer than h before them
 --   Walking s g x     what is left of word k, and the ones of the run before it
 --   Skipped s g h x r a walk that stands just after zero number h; one look for each word passed
@@ -17,7 +17,7 @@ use Prim.Native.Nat.{ℕ, _+_, _-_, _*_, _/_, _^_, _≤_, _<_}
 use lib.Count.{ones}
 use lib.Dec.{eqb}
 use lib.ListN.{length, getD}
-use Rattle.rules.specs.Runs.{runWord, wordsFor}
+use Rattle.rules.specs.Runs.{runWord, runBit, wordsFor}
 use Rattle.rules.specs.Counts.{onesBelow}
 use Rattle.rules.specs.ReadList.{listU, decode}
 use Rattle.rules.specs.Seek.{placeOf, upperWords, cursorBit}
@@ -46,7 +46,8 @@ lastWord U xs i = cond (eqb i (length xs)) (upperWords U xs - 1) (placeOf U xs i
 pub record Started (s : List ℕ) (g : Shape) (b : ℕ) (x : Place) : Type 0 where
   pub within : x .bit ≤ g .bits
   pub counted : onesBelow s (g .upper) (x .bit) + x .zeros ≡ x .bit
-  pub passed : Before s b (onesBelow s (g .upper) (x .bit))
+  pub own-set : x .own ≤ runBit s (g .upper) (x .bit)
+  pub passed : Before s b (onesBelow s (g .upper) (x .bit) + x .own)
 
 pub record Skipping (s : List ℕ) (g : Shape) (h : ℕ) (x : Zeros) : Type 0 where
   pub within : x .k < wordsFor (g .bits)

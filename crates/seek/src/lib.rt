@@ -63,12 +63,21 @@ fn from_place(x: u64, place: usize) -> u64
     (x >> place) << place
 }
 
+// The bits of a word from a place on, or behind it where `own` is 1.
+fn behind(x: u64, place: usize, own: u32) -> u64
+    requires { ⌜ (place < 64) × (own ≤ 1) ⌝ }
+    ensures { λ r. ⌜ r ≡ x / 2 ^ (place + own) * 2 ^ (place + own) ⌝ }
+{
+    ((x >> place) & !(own as u64)) << place
+}
+
 // ---- where a seek starts
 
-// A place of the upper run, and the zeros before it.
+// A place of the upper run, the zeros before it, and whether the cursor's own element is there: 1, else 0.
 pub struct Place {
     pub bit: usize,
     pub zeros: usize,
+    pub own: u32,
 }
 
 // The high part of the element that the cursor is on; 0 if fresh.
@@ -94,11 +103,13 @@ fn start(s: &[u8], g: Shape, c: Cursor, b: usize) -> Place
         return Place {
             bit: readlist::pointer_at(s, g, i),
             zeros: 256 * i,
+            own: 0,
         };
     }
     Place {
         bit: c.bit as usize,
         zeros: high,
+        own: (c.mark != 0) as u32,
     }
 }
 
@@ -156,7 +167,8 @@ fn skip(s: &[u8], g: Shape, h: usize, from: Zeros) -> Walk
     }
 }
 
-// Looks at the word of the start, and passes on to the zero before the bound's high part where that is not near.
+// Looks at the word of the start, and passes the cursor's own element, which is below the bound, or passes on to the
+// zero before the bound's high part where that is not near.
 fn pass(s: &[u8], g: Shape, b: usize, from: Place, looks: u32) -> Walk
     requires { ⌜ Open (now s) g × (b < g .u) × Started (now s) g b from × (from .bit < g .bits) × (looks < 2 ^ 31) ⌝ }
     ensures { λ r. ⌜ Passed (now (s .entry)) g b (from .bit / 64) (looks + 1) r ⌝ }
@@ -167,9 +179,9 @@ fn pass(s: &[u8], g: Shape, b: usize, from: Place, looks: u32) -> Walk
     let seen = look(s, g.upper, k, looks);
     if h <= from.zeros + 4 {
         return Walk {
-            left: from_place(seen.word, place),
+            left: behind(seen.word, place, from.own),
             k,
-            rank: from.bit - from.zeros,
+            rank: from.bit - from.zeros + from.own as usize,
             looks: seen.looks,
         };
     }
@@ -225,14 +237,16 @@ fn to_one(s: &[u8], g: Shape, from: Walk) -> Walk
 }
 
 // The mark of the element at a one, or 0 where it is below b; only in b's bucket or above is its low part read.
+// The element is put together here, and not by a call, for which the shape would go to memory.
 fn mark_from(s: &[u8], g: Shape, b: usize, bit: usize, rank: usize) -> u32
     requires { ⌜ Open (now s) g × OneAt (now s) (g .upper) rank bit ⌝ }
     ensures { λ r. ⌜ r ≡ markFrom (decode (now (s .entry))) b rank ⌝ }
 {
-    if bit - rank < b >> g.w {
+    let high = bit - rank;
+    if high < b >> g.w {
         return 0;
     }
-    let page = readlist::value_at(s, g, bit, rank);
+    let page = (high << g.w) + bits::low_field(s, g.lower, rank * g.w, g.w) as usize;
     if page < b {
         return 0;
     }

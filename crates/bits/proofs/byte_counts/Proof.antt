@@ -1,5 +1,6 @@
 use native.Mathlib.Omega.{arith}
-use Rattle.bits.proofs.SelectLaws.{each, folded, folded-le, counted-is}
+use Rattle.bits.specs.ByteCounts.{each}
+use Rattle.bits.proofs.SelectLaws.{folded, folded-le, counted-is}
 use Rattle.bits.proofs.byte_counts.Statement.{statement}
 use Rattle.bits.proofs.byte_counts.Tie as tie
 

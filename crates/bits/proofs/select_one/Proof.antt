@@ -5,20 +5,21 @@ use Prim.Native.Nat.{_%_, _^_}
 use native.Mathlib.Nat.{mod-lt}
 use lib.Pow.{pow-pos}
 use Rattle.bits.proofs.WordLaws.{place-le, place-none}
-use Rattle.bits.proofs.SelectLaws.{marked, marked-fits, Held, held, none-held}
+use Rattle.bits.proofs.SelectLaws.{Held, held, none-held}
 use borrow.Author.Needs.{needs}
 use Rattle.bits.proofs.select_one.Statement.{statement}
 use Rattle.bits.proofs.select_one.Tie as tie
 
 -- what is known where a byte holds the one
-in-byte : (c : tie.Else2)
-    → let a = c .before .before .before .args in
-    let r = c .before .running-counts .result in
-    Held (a .x) (a .j) r (trailingZeros 64 (marked 8 r (a .j)))
+in-byte : (c : tie.Else2) →
+    let sums = c .before .before in
+    let a = sums .before .before .args in
+    Held (a .x) (a .j) (sums .running-counts .result) (trailingZeros 64 (c .before .above .result))
 in-byte c =
-    let a = c .before .before .before .args in
-    held (a .x) (a .j) (c .before .running-counts .result) (c .before .running-counts .ensures)
-    (c .before .before .if1 .left) (c .if2 .left)
+    let marks = c .before in
+    let sums = marks .before in
+    let a = sums .before .before .args in
+    held (a .x) (a .j) (sums .running-counts .result) (marks .above .result) (sums .running-counts .ensures) (marks .above .ensures) (sums .before .if1 .left) (c .if2 .left)
 
 returns : tie.Need-returns
 returns c =
@@ -27,17 +28,12 @@ returns c =
       omega arith,
     )
 
-sub-passed : tie.Need-sub-passed
-sub-passed c = omega (arith, marked-fits 8 (c .running-counts .result) (c .before .before .args .j) (omega arith))
-
 returns-2 : tie.Need-returns-2
 returns-2 c =
-    let b = c .before in
-    let a = b .before .before .args in (
-      sym (none-held (a .x) (a .j) (b .running-counts .result) (b .running-counts .ensures) (b .before .if1 .left)
-          (c .if2 .taken)),
-      omega arith,
-    )
+    let marks = c .before in
+    let sums = marks .before in
+    let a = sums .before .before .args in
+    (sym (none-held (a .x) (a .j) (sums .running-counts .result) (marks .above .result) (sums .running-counts .ensures) (marks .above .ensures) (sums .before .if1 .left) (c .if2 .taken)), omega arith)
 
 sub-p : tie.Need-sub-p
 sub-p c = in-byte c .least
@@ -63,18 +59,17 @@ cast-one-of-byte-2 c = omega (arith, in-byte c .byte)
 sub-one-of-byte : tie.Need-sub-one-of-byte
 sub-one-of-byte c = omega (arith, in-byte c .below)
 
+one-of-byte-requires : tie.Need-one-of-byte-requires
+one-of-byte-requires c κs = in-byte c .few
+
 add-result : tie.Need-add-result
 add-result c =
-    let a = c .before .before .before .before .args in
-    omega (
-      arith,
-      in-byte (c .before) .lands (c .one-of-byte .result) (c .one-of-byte .ensures),
-      place-le 64 (a .x) (a .j),
-    )
+    let a = c .before .before .before .before .before .args in
+    omega (arith, in-byte (c .before) .lands (c .one-of-byte .result) (c .one-of-byte .ensures), place-le 64 (a .x) (a .j))
 
 returns-3 : tie.Need-returns-3
 returns-3 c =
-    let a = c .before .before .before .before .args in
+    let a = c .before .before .before .before .before .args in
     let e = in-byte (c .before) .lands (c .one-of-byte .result) (c .one-of-byte .ensures) in
     (e, omega (arith, e, place-le 64 (a .x) (a .j)))
 
@@ -84,9 +79,7 @@ select-one-spec =
     (tie.spec
     returns
     (λ c κs. search needs)
-    (λ c. search needs)
-    (λ c. search needs)
-    sub-passed
+    (λ c κs. search needs)
     returns-2
     sub-p
     cast-before
@@ -96,6 +89,6 @@ select-one-spec =
     shr-one-of-byte
     cast-one-of-byte-2
     sub-one-of-byte
-    (λ c κs. search needs)
+    one-of-byte-requires
     add-result
     returns-3)

@@ -39,30 +39,30 @@ returns c =
 
 add-if2 : tie.Need-add-if2
 add-if2 c =
-    let p = c .before .before .before .before .before .before .before in
+    let p = c .before .before .before .before .before .before .before .before .before in
     let a = p .before .before .before .before .before .args in
     let r = p .open-pages .last .1 .1 .0 in
     let w = whole-few (a .card .now) r (length (a .terms .now)) 0 (opened p .lists) in
-    omega (arith, c .before .count-common .ensures .found)
+    omega (arith, c .before .before .list-common .ensures .0 .found)
 
 returns-2 : tie.Need-returns-2
 returns-2 c =
-    let p = c .before .before .before .before .before .before .before .before in
-    let a = p .before .before .before .before .before .args in
-    let r = p .open-pages .last .1 .1 .0 in
-    let l = length-tallied (wholeFrom (a .card .now) r (length (a .terms .now)) 0) in
-    rw (← opened-answer (a .card .now) (a .terms .now) r (opened p)) (wrote-none _ _ _ (omega (arith, c .before .before .count-common .ensures .found, c .if2 .taken)) refl)
-
-put-common-requires-2 : tie.Need-put-common-requires-2
-put-common-requires-2 c κs =
     let p = c .before .before .before .before .before .before .before .before .before .before in
     let a = p .before .before .before .before .before .args in
     let r = p .open-pages .last .1 .1 .0 in
-    (opened p .lists, omega (arith, c .before .before .before .before .count-common .ensures .found, c .before .before .if2 .left))
+    let l = length-tallied (wholeFrom (a .card .now) r (length (a .terms .now)) 0) in
+    rw (← opened-answer (a .card .now) (a .terms .now) r (opened p)) (wrote-none _ _ _ (omega (arith, c .before .before .before .list-common .ensures .0 .found, c .if2 .taken)) refl)
+
+put-common-requires-2 : tie.Need-put-common-requires-2
+put-common-requires-2 c κs =
+    let p = c .before .before .before .before .before .before .before .before .before .before .before .before in
+    let a = p .before .before .before .before .before .args in
+    let r = p .open-pages .last .1 .1 .0 in
+    (opened p .lists, omega (arith, c .before .before .before .before .before .list-common .ensures .0 .found, c .before .before .if2 .left))
 
 returns-3 : tie.Need-returns-3
 returns-3 c =
-    let p = c .before .before .before .before .before .before .before .before .before .before .before .before .before in
+    let p = c .before .before .before .before .before .before .before .before .before .before .before .before .before .before .before in
     let a = p .before .before .before .before .before .args in
     let r = p .open-pages .last .1 .1 .0 in
     rw (← opened-answer (a .card .now) (a .terms .now) r (opened p)) (c .before .before .put-common2 .ensures)
@@ -80,6 +80,7 @@ by-common-spec =
     put-common-requires
     (λ c. search needs)
     returns
+    (λ c. search needs)
     (λ c. search needs)
     (λ c κs. search needs)
     add-if2

@@ -1,11 +1,11 @@
 -- `pass` stands at the start, or where `skip` takes it.
 use mathlib.Core.Path.{refl, ap, _∙_}
-use Prim.Native.Nat.{ℕ, _*_, _/_, _%_, _^_}
+use Prim.Native.Nat.{ℕ, _+_, _*_, _/_, _%_, _^_}
 use native.Mathlib.Omega.{arith}
 use borrow.Author.Needs.{needs}
 use Rattle.readlist.proofs.ReadLaws.{open-reads}
 use Rattle.seek.proofs.OpenLaws.{open-some, open-ruled, look-fits}
-use Rattle.seek.proofs.StartLaws.{start-word, passed-start, skipping-start, passed-skip}
+use Rattle.seek.proofs.StartLaws.{start-word, own-le, passed-start, skipping-start, passed-skip}
 use Rattle.seek.proofs.pass.Statement.{statement}
 use Rattle.seek.proofs.pass.Tie as tie
 
@@ -30,15 +30,34 @@ add-if1 c =
     let r = open-reads (start .args .s .now) (start .args .g) (start .pre .0) in
     record { fits = omega (arith, t .counted) }
 
-returns : tie.Need-returns
-returns c =
-    let start = c .before .before .before .before .before .before .before .before .before in
+behind-requires : tie.Need-behind-requires
+behind-requires c κs =
+    let start = c .before .before .before .before .before .before .before in
     let a = start .args in
     let p = start .pre in
-    let e = c .before .before .before .before .look .ensures in
+    (omega arith, own-le (a .s .now) (a .g) (p .0) (a .b) (a .from) (p .2) (p .3))
+
+sub-t14 : tie.Need-sub-t14
+sub-t14 c =
+    let start = c .before .before .before .before .before .before .before .before .before in
+    omega (arith, start .pre .2 .counted)
+
+add-t16 : tie.Need-add-t16
+add-t16 c =
+    let start = c .before .before .before .before .before .before .before .before .before .before in
+    let a = start .args in
+    let p = start .pre in
+    let r = open-reads (a .s .now) (a .g) (p .0) in
+    record { fits = omega (arith, own-le (a .s .now) (a .g) (p .0) (a .b) (a .from) (p .2) (p .3)) }
+
+returns : tie.Need-returns
+returns c =
+    let start = c .before .before .before .before .before .before .before .before .before .before in
+    let a = start .args in
+    let p = start .pre in
+    let e = c .before .before .before .before .before .look .ensures in
     passed-start (a .s .now) (a .g) (p .0) (a .b) (a .from) (p .2) (p .3) (a .looks) _ (p .4)
-    (c .before .from-place .ensures ∙ ap (λ (x : ℕ). x / 2 ^ (a .from .bit % 64) * 2 ^ (a .from .bit % 64)) (e .0))
-    refl refl (e .1)
+    (c .before .before .behind .ensures ∙ ap (λ (x : ℕ). x / 2 ^ (a .from .bit % 64 + a .from .own) * 2 ^ (a .from .bit % 64 + a .from .own)) (e .0)) refl refl (e .1)
 
 skip-requires : tie.Need-skip-requires
 skip-requires c κs =
@@ -48,8 +67,7 @@ skip-requires c κs =
     let e = c .before .before .before .before .look .ensures in (
       p .0,
       open-ruled (a .s .now) (a .g) (p .0) (open-some (a .s .now) (a .g) (p .0) (omega arith)) .zeros-is (a .b) (p .1),
-      skipping-start (a .s .now) (a .g) (p .0) (a .b) (a .from) (p .2) (p .3) _ (a .looks) _ (p .4) (e .0)
-          (c .from-place2 .ensures) refl refl (e .1) (omega arith),
+      skipping-start (a .s .now) (a .g) (p .0) (a .b) (a .from) (p .2) (p .3) _ (a .looks) _ (p .4) (e .0) (c .from-place .ensures) refl refl (e .1) (omega arith),
     )
 
 returns-2 : tie.Need-returns-2
@@ -67,8 +85,10 @@ pass-spec =
     shr-h
     look-requires
     add-if1
-    (λ c κs. search needs)
+    behind-requires
+    sub-t14
     (λ c. search needs)
+    add-t16
     returns
     (λ c κs. search needs)
     skip-requires

@@ -157,9 +157,8 @@ returns c =
     omega (arith, f .rank-is, z .short) in
     record {
       at =
-          walking-from (start .args .s .now) (start .args .g) (start .pre .0) p _ (f .inside) (z .within)
-          (c .before .from-place .ensures ∙ ap (λ (x : ℕ). x / 2 ^ p * 2 ^ p) (z .word-is))
-          (omega (arith, f .rank-is, z .short)) (z .room);
+          walking-from (start .args .s .now) (start .args .g) (start .pre .0) p _ (omega (arith, f .inside)) (z .within)
+          (c .before .from-place .ensures ∙ ap (λ (x : ℕ). x / 2 ^ p * 2 ^ p) (z .word-is)) (omega (arith, f .rank-is, z .short)) (z .room);
       passed = rw e at (f .after);
       counted = at .inv .1;
     }

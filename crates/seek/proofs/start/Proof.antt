@@ -1,7 +1,12 @@
 -- `start` gives the larger of the cursor's bit and the pointer: which it is shows in the cursor's high part.
+use mathlib.Core.Bool.{not}
 use mathlib.Core.Path.{refl}
+use Prim.Native.Nat.{ℕ, zero, suc, _≤_}
 use native.Mathlib.Omega.{arith}
 use borrow.Author.Needs.{needs}
+use borrow.Author.Tests.{ne-eqb}
+use lib.Dec.{eqb}
+use mir.Val.{boolByte}
 use Rattle.readlist.proofs.ReadLaws.{open-reads}
 use Rattle.seek.proofs.StartLaws.{pointer-inside, started-jump, started-here}
 use Rattle.seek.proofs.start.Statement.{statement}
@@ -29,15 +34,20 @@ returns : tie.Need-returns
 returns c =
     let start = c .before .before .before .before .before in
     let a = start .args in
-    started-jump (a .s .now) (a .g) (start .pre .0) (a .c) (a .b) (start .pre .1) _ (c .pointer-at .ensures) refl
+    started-jump (a .s .now) (a .g) (start .pre .0) (a .c) (a .b) (start .pre .1) _ (c .pointer-at .ensures) refl refl
     (omega (arith, c .before .before .before .high-of .ensures))
+
+-- `(mark != 0) as u32`
+own-few : (mark : ℕ) → (boolByte (not (eqb mark 0)) ≤ 1) × (boolByte (not (eqb mark 0)) ≤ mark)
+own-few zero = (omega arith, omega arith)
+own-few (suc m) = rw (ne-eqb (suc m) 0 (λ e. omega arith)) (omega arith, omega arith)
 
 returns-2 : tie.Need-returns-2
 returns-2 c =
-    let start = c .before .before .before .before .before in
+    let start = c .before .before .before .before .before .before in
     let a = start .args in
-    let e = c .before .before .before .high-of .ensures in
-    started-here (a .s .now) (a .g) (start .pre .0) (a .c) (a .b) (start .pre .1) _ refl e (omega (arith, e))
+    let e = c .before .before .before .before .high-of .ensures in
+    started-here (a .s .now) (a .g) (start .pre .0) (a .c) (a .b) (start .pre .1) _ refl e (own-few (a .c .mark) .0) (own-few (a .c .mark) .1) (omega (arith, e))
 
 pub start-spec : {M : Type 1} → statement M
 start-spec =
@@ -48,5 +58,6 @@ start-spec =
     pointer-at-requires
     (λ c. search needs)
     returns
+    (λ c. search needs)
     (λ c. search needs)
     returns-2)

@@ -1,0 +1,36 @@
+-- Laws of the pointers near a rank's share of them.
+use mathlib.Core.Path.{_≡_, refl}
+use mathlib.Core.List.{List}
+use Prim.Native.Nat.{ℕ, _+_, _*_, _/_, _^_, _≤_, _<_}
+use native.Mathlib.Nat.{mul-comm, mul-le-mul, mul-le-mul-right, div-lt-iff-lt-mul}
+use native.Mathlib.Omega.{arith}
+use Rattle.shape.specs.declared.Shape.{Shape}
+use Rattle.readlist.specs.Open.{Open, pointersIn, pointerOf, HighEnd}
+use Rattle.readlist.proofs.ReadLaws.{open-reads, pointer-reads}
+
+-- ---- the share
+
+-- that of a rank below n is no more than the whole
+pub share-le : (rank last n : ℕ) → rank < n → rank * last / n ≤ last
+share-le rank last n h =
+    let l : rank * last ≤ n * last = mul-le-mul-right last (omega arith) in
+    let m : rank * last < (last + 1) * n = omega (arith, mul-comm n last) in
+    let d : rank * last / n < last + 1 = div-lt-iff-lt-mul {k = n} {x = rank * last} {y = last + 1} (omega arith) .1 m in
+    omega arith
+
+pub share-fits : (s : List ℕ) (g : Shape) → Open s g → (rank last : ℕ) → rank < g .n → last ≤ pointersIn g → rank * last < 2 ^ 64
+share-fits s g o rank last h l =
+    let r = open-reads s g o in
+    let m : rank * last ≤ 2 ^ 25 * 2 ^ 25 = mul-le-mul {n₁ = rank} {m₁ = last} {n₂ = 2 ^ 25} {m₂ = 2 ^ 25} (omega arith) (omega arith) in
+    omega arith
+
+-- ---- the ends of a search
+
+module _ (s : List ℕ) (g : Shape) (o : Open s g) (rank : ℕ) where
+  -- pointer number 0 is before every one
+  pub first-before : pointerOf s g 0 ≤ 256 * 0 + rank
+  first-before = omega (arith, pointer-reads s g o 0 0 (omega arith) (λ e. refl) (λ h. absurd (omega arith)) .defined)
+
+  -- behind the last there is none
+  pub last-ends : (i : ℕ) → i ≡ pointersIn g → HighEnd s g rank i
+  last-ends i e = record { within = omega arith; beyond = λ h. absurd (omega arith) }
