@@ -7,12 +7,12 @@ use native.Mathlib.Nat.{zero-add}
 use native.Mathlib.Omega.{arith}
 use lib.ListN.{length, getD, drop, length-append, length-drop}
 use lib.Seq.{ext-getD}
+use Rattle.rules.specs.Bytes.{Bytes}
 use Rattle.rules.specs.Limits.{version, indexHeader}
 use Rattle.rules.specs.ReadList.{stated}
 use Rattle.rules.specs.Term.{Word, termBlock}
 use Rattle.rules.specs.Parts.{after}
 use Rattle.rules.specs.Index.{indexFront, terms, card, validWords, indexN, indexT, termPart, wordOf, wordsFrom, wordsOf}
-use Rattle.laws.proofs.ByteLaws.{Bytes}
 use Rattle.laws.proofs.PartLaws.{stated-lt}
 use Rattle.termlaws.proofs.BlockLaws.{term-read}
 use Rattle.cardlaws.specs.Cards.{Valid, Passed}

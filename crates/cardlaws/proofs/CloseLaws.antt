@@ -7,11 +7,12 @@ use native.Mathlib.Omega.{arith}
 use lib.ListN.{length, take, drop, length-append, length-drop}
 use lib.Seq.{take-append-add, take-add, take-at, take-take, drop-at, length-take-le}
 use Rattle.rules.specs.declared.Refusal.the-variants.{Accepted}
+use Rattle.rules.specs.Bytes.{Bytes}
 use Rattle.rules.specs.Limits.{indexHeader}
 use Rattle.rules.specs.ReadList.{stated}
 use Rattle.rules.specs.Write.{laid}
 use Rattle.rules.specs.Index.{indexFront, indexN, indexT, closeRefusal, closeIndex}
-use Rattle.laws.proofs.ByteLaws.{Bytes, bytes-take}
+use Rattle.laws.proofs.ByteLaws.{bytes-take}
 use Rattle.laws.proofs.PartLaws.{stated-lt}
 use Rattle.laws.proofs.RefusalLaws.{true-accepted}
 use Rattle.laws.proofs.RoomLaws.{drop-laid, length-laid, laid-same}

@@ -7,10 +7,10 @@ use native.Mathlib.Omega.{arith}
 use lib.ListN.{length, getD, drop, length-append}
 use lib.Seq.{drop-cons, drop-at, getD-append-add}
 use Rattle.rules.specs.Limits.{limit, termLimit, version, indexHeader, fourBytes}
-use Rattle.rules.specs.Bytes.{be, beAt}
+use Rattle.rules.specs.Bytes.{Bytes, be, beAt}
 use Rattle.rules.specs.ReadList.{stated}
 use Rattle.rules.specs.Index.{indexFront, indexN, indexT}
-use Rattle.laws.proofs.ByteLaws.{Bytes, length-be, read-be, beAt-past, drop-read}
+use Rattle.laws.proofs.ByteLaws.{length-be, read-be, beAt-past, drop-read}
 
 module _ (size N T : ℕ) where
   pub length-front : length (indexFront size N T) ≡ indexHeader

@@ -6,12 +6,13 @@ use mathlib.Core.List.{List}
 use Prim.Native.Nat.{ℕ, _≤_, _<_}
 use lib.ListN.{length, getD, take, drop}
 use Rattle.rules.specs.declared.Refusal.the-variants.{Accepted}
+use Rattle.rules.specs.Bytes.{Bytes}
 use Rattle.rules.specs.Limits.{indexHeader}
 use Rattle.rules.specs.Term.{Word, termBlock}
 use Rattle.rules.specs.ReadTerm.{readWord}
 use Rattle.rules.specs.Index.{card, validCard, indexN, indexT, termPart, wordOf}
 use Rattle.rules.specs.Index.{wordsOf, indexRefusal, closeRefusal, closeIndex}
-use Rattle.laws.proofs.ByteLaws.{Bytes, bytes-drop}
+use Rattle.laws.proofs.ByteLaws.{bytes-drop}
 use Rattle.laws.proofs.PartLaws.{bytes-part}
 use Rattle.termlaws.specs.Words.{Writable}
 use Rattle.termlaws.proofs.Theorems.{accepted-writable, accepted-block}

@@ -10,6 +10,7 @@ use native.Mathlib.Omega.{arith}
 use lib.Dec.{lit<}
 use lib.ListN.{length, getD, drop, length-drop}
 use Rattle.rules.specs.declared.Refusal.the-variants.{Accepted}
+use Rattle.rules.specs.Bytes.{Bytes}
 use Rattle.rules.specs.Limits.{termHeader, indexHeader}
 use Rattle.rules.specs.ReadList.{listU}
 use Rattle.rules.specs.Term.{Word, termBlock}
@@ -17,7 +18,7 @@ use Rattle.rules.specs.Parts.{after, part}
 use Rattle.rules.specs.ReadTerm.{pagesOf, readWord, termRefusal}
 use Rattle.rules.specs.Index.{terms, validWords, indexN, indexT, termPart, wordOf, wordsFrom, termsRefusal}
 use Rattle.laws.specs.Blocks.{blockAt, Inside}
-use Rattle.laws.proofs.ByteLaws.{Bytes, bytes-drop}
+use Rattle.laws.proofs.ByteLaws.{bytes-drop}
 use Rattle.laws.proofs.PartLaws.{after-at, inside-lies, inside-parts, after-suc, part-after, bytes-part}
 use Rattle.termlaws.specs.Words.{Writable}
 use Rattle.termlaws.proofs.Theorems.{accepted-writable, accepted-block}

@@ -6,10 +6,10 @@ use mathlib.Core.List.{List}
 use Prim.Native.Nat.{ℕ}
 use Rattle.rules.specs.declared.Refusal.{Refusal}
 use Rattle.rules.specs.declared.Refusal.the-variants.{Accepted}
+use Rattle.rules.specs.Bytes.{Bytes}
 use Rattle.rules.specs.Term.{Word}
 use Rattle.rules.specs.Index.{validCard, card}
 use Rattle.rules.specs.Promises.{IndexChecked}
-use Rattle.laws.proofs.ByteLaws.{Bytes}
 use Rattle.cardlaws.proofs.Theorems.{accepted-iff}
 
 -- The check accepts the cards of some N and words, and nothing else.

@@ -5,9 +5,9 @@ use mathlib.Core.List.{List}
 use Prim.Native.Nat.{ℕ, zero, suc, _+_, _-_, _<_}
 use native.Mathlib.Omega.{arith}
 use Rattle.rules.specs.declared.Refusal.the-variants.{Accepted, Runs}
+use Rattle.rules.specs.Bytes.{Bytes}
 use Rattle.rules.specs.List.{width, zeros, lowerAt, upperAt, size}
 use Rattle.rules.specs.ReadList.{listU, listN, decode, isBlock, listRefusal}
-use Rattle.laws.proofs.ByteLaws.{Bytes}
 use Rattle.shape.specs.declared.Shape.{Shape}
 use Rattle.shape.specs.Shape.{shapeOf}
 use Rattle.listlaws.proofs.BlockLaws.{size-is, size-none}

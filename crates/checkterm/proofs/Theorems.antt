@@ -5,9 +5,9 @@ use mathlib.Core.List.{List}
 use Prim.Native.Nat.{ℕ}
 use Rattle.rules.specs.declared.Refusal.{Refusal}
 use Rattle.rules.specs.declared.Refusal.the-variants.{Accepted}
+use Rattle.rules.specs.Bytes.{Bytes}
 use Rattle.rules.specs.Term.{Word, termBlock}
 use Rattle.rules.specs.Promises.{TermChecked}
-use Rattle.laws.proofs.ByteLaws.{Bytes}
 use Rattle.termlaws.specs.Words.{Writable}
 use Rattle.termlaws.proofs.Theorems.{accepted-iff}
 

@@ -10,6 +10,7 @@ use native.Mathlib.Omega.{arith}
 use borrow.Author.Tests.{lt-ltb}
 use lib.ListN.{length, getD, take, drop}
 use Rattle.rules.specs.declared.Refusal.the-variants.{Accepted, Room}
+use Rattle.rules.specs.Bytes.{Bytes}
 use Rattle.rules.specs.Refusal.{number}
 use Rattle.rules.specs.Limits.{indexHeader}
 use Rattle.rules.specs.List.{validList, block}
@@ -21,7 +22,6 @@ use Rattle.rules.specs.Index.{validCard, card, indexN, indexT, indexRefusal, cl
 use Rattle.rules.specs.Common.{common}
 use Rattle.rules.specs.Questions.{commonPages, byCommon, byPhrase, allBelow, goodQuestion, wellFormed, replies}
 use Rattle.rules.specs.Ask.{Replied, fitting, joined, reply}
-use Rattle.laws.proofs.ByteLaws.{Bytes}
 use Rattle.laws.proofs.RefusalLaws.{number-inj}
 use Rattle.listlaws.proofs.Theorems as lists
 use Rattle.termlaws.proofs.Theorems as words

@@ -9,7 +9,7 @@ use borrow.Author.Tests.{ltb-true}
 use lib.Dec.{ltb}
 use lib.ListN.{length, replicate}
 use Rattle.rules.specs.Refusal.{number, accepted, andThen}
-use Rattle.rules.specs.Bytes.{be, beAt, sized, same}
+use Rattle.rules.specs.Bytes.{Bytes, be, beAt, sized, same}
 use Rattle.rules.specs.Runs.{bit, runWord, runBit, field, wordsFor, words}
 use Rattle.rules.specs.List.{rising, validList, greatest, width, zeros, upper, lower, afterZero, pointer, pointers, lowerAt, upperAt, size, runs, body, block}
 use Rattle.rules.specs.ReadList.{stated, listU, listN, elements, readList, decode, isBlock, listRefusal}
@@ -23,7 +23,6 @@ use Rattle.rules.specs.Common.{leadFrom, leadOf, readersOf, before, stopped, ag
 use Rattle.rules.specs.Questions.{firstFrom, member, inAll, sharedBy, commonPages, positionsAmong, positionsOn, stands, startsAmong, starts, withStarts, numbered, pagesIn, listsIn, wordsIn, byRank, byBound, byCommon, byPhrase, answer, allBelow, goodQuestion, kindOf, countOf, argsOf, behind, wellFormed, replies}
 use Rattle.rules.specs.Ask.{fitting, fitted, reply, joined, put, ask}
 use Rattle.rules.specs.Samples.{s9, s9Word}
-use Rattle.laws.proofs.ByteLaws.{Bytes}
 use Rattle.listlaws.proofs.RisingLaws.{and-parts}
 use Rattle.jundefola.specs.declared.HostWritten.{HostWritten}
 use Rattle.jundefola.specs.declared.HostAsked.{HostAsked}

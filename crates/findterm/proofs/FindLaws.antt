@@ -6,12 +6,12 @@ use Prim.Native.Nat.{ℕ, zero, suc, _+_, _≤_, _<_}
 use native.Mathlib.Omega.{arith}
 use lib.ListN.{length}
 use Rattle.rules.specs.declared.Refusal.the-variants.{Accepted}
-use Rattle.rules.specs.Bytes.{beAt}
+use Rattle.rules.specs.Bytes.{Bytes, beAt}
 use Rattle.rules.specs.Term.{termBlock}
 use Rattle.rules.specs.ReadTerm.{pagesOf, countsOf, positionsOf, termRefusal}
 use Rattle.rules.specs.Index.{indexN, indexT, termPart, wordOf, indexRefusal}
 use Rattle.laws.specs.Blocks.{blockAt, Lies}
-use Rattle.laws.proofs.ByteLaws.{Bytes, Alike}
+use Rattle.laws.proofs.ByteLaws.{Alike}
 use Rattle.termlaws.proofs.Theorems.{accepted-lists}
 use Rattle.cardlaws.specs.Cards.{termAt}
 use Rattle.cardlaws.proofs.Theorems.{accepted-term, accepted-part}

@@ -13,7 +13,7 @@ use lib.ListN.{length, getD, take, drop, set, length-append, length-drop}
 use lib.ListN.{take-append-drop, List·getD-append, List·getD-eq-default}
 use lib.Seq.{sets, getD-append-add, getD-take, getD-drop, length-take-le, drop-drop, ext-getD, sets-eq, getD-set-other}
 use lib.Pow.{pow-add, shr-shr}
-use Rattle.rules.specs.Bytes.{be, beAt}
+use Rattle.rules.specs.Bytes.{Bytes, be, beAt}
 use Rattle.rules.specs.Runs.{words}
 
 -- ---- read
@@ -159,9 +159,6 @@ read-words (suc m) v t (suc k) h =
     ∙ read-words m (v / 2 ^ 64) t k (omega arith))
 
 -- ---- bytes
-
-abbrev pub Bytes : List ℕ → Type 0
-Bytes l = (i : ℕ) → getD l i 0 < 256
 
 pub bytes-be : (k v : ℕ) → Bytes (be k v)
 unfolding be

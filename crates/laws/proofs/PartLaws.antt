@@ -13,11 +13,11 @@ use lib.Seq.{take-at, drop-at, getD-append-add, drop-drop}
 use Rattle.rules.specs.declared.Refusal.{Refusal}
 use Rattle.rules.specs.declared.Refusal.the-variants.{Accepted, Short, Length}
 use Rattle.rules.specs.Refusal.{accepted, andThen}
-use Rattle.rules.specs.Bytes.{be, beAt, sized}
+use Rattle.rules.specs.Bytes.{Bytes, be, beAt, sized}
 use Rattle.rules.specs.ReadList.{stated}
 use Rattle.rules.specs.Parts.{after, part, inside}
 use Rattle.laws.specs.Blocks.{Whole, blockAt, Inside, Lies}
-use Rattle.laws.proofs.ByteLaws.{Bytes, beAt-drop, bytes-take, bytes-drop}
+use Rattle.laws.proofs.ByteLaws.{beAt-drop, bytes-take, bytes-drop}
 use Rattle.laws.proofs.ByteLaws.{length-be, read-be, beAt-front, be-read, beAt-lt}
 use Rattle.laws.proofs.RefusalLaws.{test-passed, or-parts}
 

@@ -10,12 +10,12 @@ use native.Mathlib.Omega.{arith}
 use lib.Count.{ones}
 use lib.Dec.{lit<}
 use lib.ListN.{length, length-append}
-use Rattle.rules.specs.Bytes.{be, beAt}
+use Rattle.rules.specs.Bytes.{Bytes, be, beAt}
 use Rattle.rules.specs.Runs.{bit, runBit}
 use Rattle.rules.specs.Counts.{onesBelow}
 use Rattle.rules.specs.List.{afterZero, pointer, pointers}
 use Rattle.laws.proofs.BitLaws.{bit-cases}
-use Rattle.laws.proofs.ByteLaws.{Bytes, bytes-be, bytes-cat, beAt-past, length-be, read-be}
+use Rattle.laws.proofs.ByteLaws.{bytes-be, bytes-cat, beAt-past, length-be, read-be}
 use Rattle.laws.proofs.CountLaws.{Steps, count-slope, ones-more, below-suc}
 use Rattle.listlaws.specs.Sound.{onesTo, After}
 

@@ -9,12 +9,12 @@ use lib.Dec.{lit<, eqb}
 use lib.ListN.{length, getD, length-append}
 use lib.Seq.{getD-append-add}
 use Rattle.rules.specs.Limits.{version, listHeader}
-use Rattle.rules.specs.Bytes.{be, beAt, sized, same}
+use Rattle.rules.specs.Bytes.{Bytes, be, beAt, sized, same}
 use Rattle.rules.specs.Runs.{runWord, wordsFor, words}
 use Rattle.rules.specs.List.{width, zeros, upper, lower, pointer, pointers, lowerAt, upperAt, size, runs, body, block}
 use Rattle.rules.specs.ReadList.{stated, listU, listN}
 use Rattle.laws.proofs.ByteLaws.{length-be, beAt-past, read-be, length-words}
-use Rattle.laws.proofs.ByteLaws.{read-words, Bytes, bytes-be, bytes-cat, bytes-words}
+use Rattle.laws.proofs.ByteLaws.{read-words, bytes-be, bytes-cat, bytes-words}
 use Rattle.listlaws.proofs.AfterLaws.{length-pointers, read-pointers, bytes-pointers}
 use Rattle.listlaws.proofs.RisingLaws.{and-parts}
 

@@ -8,12 +8,12 @@ use native.Mathlib.Nat.{mod-eq-of-lt}
 use native.Mathlib.Omega.{arith}
 use lib.ListN.{length, getD}
 use lib.Pow.{shr-le}
-use Rattle.rules.specs.Bytes.{beAt, same}
+use Rattle.rules.specs.Bytes.{Bytes, beAt, same}
 use Rattle.rules.specs.Runs.{bit, runWord, runBit, field, wordsFor}
 use Rattle.rules.specs.Counts.{onesBelow}
 use Rattle.rules.specs.List.{rising, zeros, upper, lower, pointer, lowerAt, upperAt, size, block}
 use Rattle.rules.specs.ReadList.{stated, listU, listN, elements, readList, decode, isBlock}
-use Rattle.laws.proofs.ByteLaws.{Bytes, Alike, alike-append, alike-byte, alike-same, alike-read, alike-reads}
+use Rattle.laws.proofs.ByteLaws.{Alike, alike-append, alike-byte, alike-same, alike-read, alike-reads}
 use Rattle.laws.proofs.PartLaws.{stated-lt}
 use Rattle.laws.proofs.CountLaws.{below-none, ones-slow, run-steps}
 use Rattle.laws.proofs.RunLaws.{run-agrees, run-spare, ones-whole, words-bits, bits-words}

@@ -5,10 +5,9 @@ use mathlib.Core.Path.{_≡_, refl, sym, ap, _∙_}
 use mathlib.Core.List.{List}
 use Prim.Native.Nat.{ℕ}
 use Rattle.rules.specs.declared.Refusal.the-variants.{Accepted}
-use Rattle.rules.specs.Bytes.{same}
+use Rattle.rules.specs.Bytes.{Bytes, same}
 use Rattle.rules.specs.List.{rising, validList, block}
 use Rattle.rules.specs.ReadList.{listU, decode, isBlock, listRefusal}
-use Rattle.laws.proofs.ByteLaws.{Bytes}
 use Rattle.listlaws.proofs.RisingLaws.{and-parts}
 use Rattle.listlaws.proofs.BlockLaws.{block-bytes, same-eq, same-refl}
 use Rattle.listlaws.proofs.RefusalLaws.{framed-accepted, accepted-framed}

@@ -1,67 +1,87 @@
 -- Laws of counting a page's starts: where a count stands, how it begins and goes on, and what it ends with.
-use mathlib.Core.Bool.{Bool, true, false, cond}
-use mathlib.Core.Path.{_≡_, refl, sym, _∙_}
-use mathlib.Core.List.{List, _∷_}
-use Prim.Native.Nat.{ℕ, _+_, _-_, _≤_, _<_}
+use mathlib.Core.Bool.{Bool, true, false, cond, and-false}
+use mathlib.Core.Path.{_≡_, sym, ap, _∙_}
+use mathlib.Core.List.{List, [], _∷_}
+use Prim.Native.Nat.{ℕ, suc, _+_, _-_, _≤_, _<_}
+use native.Mathlib.Numerals.{add-one}
 use native.Mathlib.Decide.{decLt}
 use native.Mathlib.Omega.{arith}
+use borrow.Author.Tests.{ltb-true, ltb-false}
+use lib.ListN.{length, getD, take, drop-of-length-le}
+use lib.Seq.{slice, slice-cons, length-slice, length-take-le, getD-take, getD-drop}
 use Rattle.rules.specs.Limits.{limit}
+use Rattle.rules.specs.List.{rising}
+use Rattle.rules.specs.ReadList.{listU}
 use Rattle.rules.specs.ReadTerm.{less}
-use Rattle.query.specs.declared.Query.{Query}
-use Rattle.query.specs.Lists.{span}
-use Rattle.query.specs.Queries.{cursorIn, withCursor}
+use Rattle.rules.specs.Questions.{member}
+use Rattle.termlaws.proofs.PlaceLaws.{length-less}
+use Rattle.seeklaws.specs.Cursors.{firstAt}
+use Rattle.seeklaws.proofs.FirstLaws.{rising-lt}
+use Rattle.readlist.proofs.ReadLaws.{open-reads}
+use Rattle.seek.proofs.OpenLaws.{open-within, open-length, open-rising}
+use Rattle.query.specs.Lists.{span, partAt, shapeIn}
 use Rattle.query.proofs.SpanLaws.{span-cons}
-use Rattle.span.specs.Spans.{between, onPage}
-use Rattle.phrase.specs.declared.Starts.{Starts}
-use Rattle.phrase.specs.Starts.{standsIn, startsOver, startsIn, markAt}
-use Rattle.phrase.specs.Words.{elementsAt, topAt, spanIn, pageAt, pageIn, movedOn, reach}
-use Rattle.phrase.specs.Words.{BlockAt, ReadyFor, Words, Paged, Beside, Stood, Counted}
-use Rattle.phrase.proofs.PageLaws.{mark-past, mark-again, between-next, between-done, page-has}
-use Rattle.phrase.proofs.WordLaws.{list-within, list-rises, ready-more, ready-same}
-use Rattle.phrase.proofs.WordLaws.{ready-moved, moved-mark, eight-kept, other-kept}
+use Rattle.span.specs.declared.Walk.{Walk}
+use Rattle.span.specs.Walks.{past, WalkOn}
+use Rattle.span.specs.Spans.{onPage}
+use Rattle.span.proofs.WalkLaws.{past-some, past-le, past-lt, past-mono, first-past}
+use Rattle.phrase.specs.declared.Tried.{Tried}
+use Rattle.phrase.specs.Starts.{standsIn, startsOver, startsIn}
+use Rattle.phrase.specs.Words.{elementsAt, walkIn, baseIn, endIn, pageAt, pageIn, BlockAt, Words, Ready, PassedOn, Beside, Stood, Begun, Counted}
+use Rattle.phrase.proofs.StartLaws.{over-none}
+use Rattle.phrase.proofs.PageLaws.{getD-less, page-has}
+use Rattle.phrase.proofs.StandLaws.{ready-same, ready-more, beside-more}
 
--- the first word was last sought for `bound`, and `mark` is what was found; the starts below are counted
-pub record Counting (s sh xs : List ℕ) (k : ℕ) (q : Query) (count mark : ℕ) : Type 0 where
-  pub bound : ℕ
-  pub from : spanIn xs 0 .base ≤ bound
-  pub to : bound ≤ spanIn xs 0 .end
-  pub few : count ≤ bound
-  pub first : ReadyFor s sh q 0 bound
-  pub mark-is : mark ≡ markAt (elementsAt s sh 0) bound
-  pub beside : Beside s sh xs k q (bound - spanIn xs 0 .base)
-  pub left : count + startsOver (pageIn s sh xs k)
-      (less (spanIn xs 0 .base) (between bound (spanIn xs 0 .end) (elementsAt s sh 0))) ≡ startsIn (pageIn s sh xs k)
+-- the first word's positions that are passed are tried, and their starts counted
+pub record Counting (s sh xs : List ℕ) (k : ℕ) (ws : List ℕ) (count : ℕ) : Type 0 where
+  pub on : WalkOn (partAt s sh 0) (shapeIn sh 0) (walkIn ws 0)
+  pub inside : walkIn ws 0 .next ≤ endIn xs 0
+  pub behind : baseIn xs 0 ≤ walkIn ws 0 .past
+  pub few : count ≤ walkIn ws 0 .next
+  pub beside : Beside s sh xs k ws (walkIn ws 0 .past - baseIn xs 0)
+  pub left :
+      count + startsOver (pageIn s sh xs k) (less (baseIn xs 0) (slice (walkIn ws 0 .next) (endIn xs 0) (elementsAt s sh 0))) ≡ startsIn (pageIn s sh xs k)
 
--- a position of the first word that is tried
-pub record Tried (s sh xs : List ℕ) (k : ℕ) (q : Query) (count mark : ℕ) : Type 0 where
-  pub few : count < mark
-  pub behind : spanIn xs 0 .base < mark
-  pub small : mark ≤ limit
-  pub beside : Beside s sh xs k q (mark - 1 - spanIn xs 0 .base)
+-- the next of them is passed, and to be tried
+pub record Trying (s sh xs : List ℕ) (k : ℕ) (ws after : List ℕ) : Type 0 where
+  pub on : WalkOn (partAt s sh 0) (shapeIn sh 0) (walkIn after 0)
+  pub inside : walkIn ws 0 .next < endIn xs 0
+  pub next-is : walkIn after 0 .next ≡ walkIn ws 0 .next + 1
+  pub element-is : getD (elementsAt s sh 0) (walkIn ws 0 .next) 0 + 1 ≡ walkIn after 0 .past
+  pub behind : baseIn xs 0 < walkIn after 0 .past
+  pub small : walkIn after 0 .past ≤ limit
+  pub few : walkIn after 0 .next ≤ limit
+  pub beside : Beside s sh xs k after (walkIn after 0 .past - 1 - baseIn xs 0)
 
 one-at-most : (b : Bool) → cond b 1 0 ≤ 1
 one-at-most true = omega arith
 one-at-most false = omega arith
 
-pub stood-one : (s sh xs : List ℕ) (k : ℕ) (q : Query) (a : ℕ) (t : Starts) → Stood s sh xs k q a t → t .count ≤ 1
-stood-one s sh xs k q a t st =
-    omega (arith, st .counted, one-at-most (standsIn (span (pageAt s sh xs) 1 (k - 1)) (a + 1)))
+pub stood-one : (s sh xs : List ℕ) (k : ℕ) (ws : List ℕ) (a : ℕ) (t : Tried) (after : List ℕ) → Stood s sh xs k ws a t after → t .count ≤ 1
+stood-one s sh xs k ws a t after st = omega (arith, st .counted, one-at-most (standsIn (span (pageAt s sh xs) 1 (k - 1)) (a + 1)))
 
 module _ (s sh xs : List ℕ) (k : ℕ) (w : Words s sh xs k) where
   abbrev base : ℕ
-  base = spanIn xs 0 .base
+  base = baseIn xs 0
 
   abbrev end : ℕ
-  end = spanIn xs 0 .end
+  end = endIn xs 0
 
   abbrev es : List ℕ
   es = elementsAt s sh 0
 
   abbrev U : ℕ
-  U = topAt s sh 0
+  U = listU (partAt s sh 0)
 
   list : BlockAt s sh 0
   list = w .lists 0 (w .some)
+
+  rises : rising 0 U es ≡ true
+  rises = open-rising (partAt s sh 0) (shapeIn sh 0) (list .opened)
+
+  within : end ≤ length es
+  unfolding shapeIn
+  within = omega (arith, open-length (partAt s sh 0) (shapeIn sh 0) (list .opened), w .within 0 (w .some))
 
   page-cons : pageIn s sh xs k ≡ pageAt s sh xs 0 ∷ span (pageAt s sh xs) 1 (k - 1)
   unfolding pageIn
@@ -73,131 +93,179 @@ module _ (s sh xs : List ℕ) (k : ℕ) (w : Words s sh xs k) where
   unfolding startsIn
   starts-all = rw page-cons
 
-  -- bounds that grow keep the words behind the first ready
-  beside-more : (q r : Query) (a d : ℕ) → a ≤ d → ((i : ℕ) → 0 < i → cursorIn r i ≡ cursorIn q i) → (i : ℕ) → 0 < i
-      → i < k → ReadyFor s sh q i (reach xs i a) → ReadyFor s sh r i (reach xs i d)
-  beside-more q r a d l g i p h b =
-      ready-same s sh q r i (reach xs i d) (g i p) (ready-more s sh q i (reach xs i a) (reach xs i d) b (omega arith))
+  -- ---- the beginning
 
-  pub counting-begins : (q : Query) → Paged s sh k q (λ i. spanIn xs i .base) → (r : Query)
-      → r ≡ withCursor q 0 (movedOn s sh q 0 base) → Counting s sh xs k r 0 (cursorIn r 0 .mark)
-  unfolding pageAt onPage
-  counting-begins q p r e = rw e (
-      let m : Query = withCursor q 0 (movedOn s sh q 0 base) in
-      let ready = p .each 0 (w .some) in
+  -- a word before its page is ready for any start there
+  begun-ready : (ws : List ℕ) → Begun s sh xs k ws → (i : ℕ) → i < k → Ready s sh xs ws i (baseIn xs i)
+  unfolding shapeIn
+  begun-ready ws g i h =
+      let on = g .on i h in
+      let size = open-length (partAt s sh i) (shapeIn sh i) (on .opened) in
       record {
-        bound = base;
-        from = omega arith;
-        to = w .order 0 (w .some);
-        few = omega arith;
-        first = ready-moved s sh q 0 base (p .eight) list ready;
-        mark-is = moved-mark s sh q 0 base (p .eight) list ready;
-        beside = record {
-          eight = eight-kept s sh q 0 (p .eight) (movedOn s sh q 0 base);
-          others = λ i z h.
-              ready-same s sh q m i (reach xs i (base - base))
-              (other-kept s sh q 0 (p .eight) (movedOn s sh q 0 base) i (λ d. omega arith))
-              (ready-more s sh q i (spanIn xs i .base) (reach xs i (base - base)) (p .each i h)
-              (omega (arith, w .order i h)));
-        };
-        left = omega (arith, starts-all);
-      })
-
-  module _ (q : Query) (count mark : ℕ) (c : Counting s sh xs k q count mark) where
-    passes : c .bound < mark
-    passes = rw (c .mark-is) (mark-past U es (list-rises s sh 0 list) (list-within s sh 0 list) (c .bound)
-        (omega (arith, c .to, w .within 0 (w .some))))
-
-    pub counting-ends : end < mark → Counted s sh xs k (record { q = q; count = count })
-    unfolding startsOver less
-    counting-ends l = record {
-      counted =
-          let d = between-done U es (list-rises s sh 0 list)
-          (list-within s sh 0 list) end (w .within 0 (w .some)) (c .bound) (rw (c .mark-is) at l) in
-          sym (omega arith) ∙ rw d at (c .left);
-      ready = record {
-        eight = c .beside .eight;
-        each = λ i h.
-            elim (decLt 0 i) [
-              | yes z ↦ ready-more s sh q i (reach xs i (c .bound - base)) (spanIn xs i .end)
-                  (c .beside .others i z h) (omega arith)
-              | no z ↦
-                  let e : i ≡ 0 = omega arith in
-                  rw e (ready-more s sh q 0 (c .bound) end (c .first) (c .to))
-            ];
-      };
-    }
-
-    -- the first word's cursor after a start was tried
-    pub stood-ready : (a : ℕ) (t : Starts) → Stood s sh xs k q a t → ReadyFor s sh (t .q) 0 (c .bound)
-    stood-ready a t st = ready-same s sh q (t .q) 0 (c .bound) (st .first) (c .first)
-
-    module _ (l : mark ≤ end) where
-      abbrev a : ℕ
-      a = mark - 1 - base
-
-      pub counting-tries : Tried s sh xs k q count mark
-      counting-tries = record {
-        few = omega (arith, passes, c .few);
-        behind = omega (arith, passes, c .from);
-        small = omega (arith, w .within 0 (w .some), list-within s sh 0 list);
-        beside = record {
-          eight = c .beside .eight;
-          others = λ i z h. beside-more q q (c .bound - base) a (omega (arith, passes)) (λ j g. refl) i z h
-              (c .beside .others i z h);
+        room = g .room;
+        short = w .within i h;
+        passing = record {
+          on = on;
+          inside = g .inside i h;
+          below = omega (
+            arith,
+            past-mono (listU (partAt s sh i)) (elementsAt s sh i) (open-rising (partAt s sh i) (shapeIn sh i) (on .opened)) (walkIn ws i .next - 1) (walkIn ws i .next)
+                (omega arith) (omega (arith, size, on .within)),
+            on .past-is,
+            g .before i h,
+          );
         };
       }
 
-      -- the position that is tried is the first word's
+  pub counting-begins : (ws : List ℕ) → Begun s sh xs k ws → Counting s sh xs k ws 0
+  unfolding pageAt onPage shapeIn
+  counting-begins ws g =
+      let on = g .on 0 (w .some) in
+      let e : base ≡ past es (walkIn ws 0 .next) = sym (g .before 0 (w .some)) ∙ on .past-is in
+      let f : firstAt base es ≡ walkIn ws 0 .next = ap (λ (b : ℕ). firstAt b es) e ∙ first-past U es rises (walkIn ws 0 .next) (omega (arith, within, g .inside 0 (w .some))) in
+      record {
+        on = on;
+        inside = g .inside 0 (w .some);
+        behind = omega (arith, g .before 0 (w .some));
+        few = omega arith;
+        beside = record {
+          room = g .room;
+          others = λ i p h. ready-more s sh xs ws i (baseIn xs i) (baseIn xs i + (walkIn ws 0 .past - base) + i) (omega arith) (begun-ready ws g i h);
+        };
+        left = omega (arith, rw f at starts-all);
+      }
+
+  module _ (ws : List ℕ) (count : ℕ) (c : Counting s sh xs k ws count) where
+    abbrev n : ℕ
+    n = walkIn ws 0 .next
+
+    -- the first word is ready for its next position
+    pub counting-ready : Ready s sh xs ws 0 (walkIn ws 0 .past)
+    unfolding shapeIn
+    counting-ready = record {
+      room = c .beside .room;
+      short = w .within 0 (w .some);
+      passing = record {
+        on = c .on;
+        inside = c .inside;
+        below = omega (arith, past-mono U es rises (n - 1) n (omega arith) (omega (arith, within, c .inside)), c .on .past-is);
+      };
+    }
+
+    module _ (r : Bool) (after : List ℕ) (p : PassedOn s sh xs ws 0 (walkIn ws 0 .past) r after) where
+      beside-after : Beside s sh xs k after (walkIn ws 0 .past - base)
+      beside-after = record {
+        room = p .ready .room;
+        others = λ i l h. ready-same s sh xs ws after i (baseIn xs i + (walkIn ws 0 .past - base) + i) (p .ready .room) (p .others i (λ e. omega arith)) (c .beside .others i l h);
+      }
+
+      -- ---- the end
+
+      pub counting-ends : r ≡ false → Counted s sh xs k count after
+      unfolding startsOver less
+      counting-ends e =
+          let on = p .ready .passing .on in
+          let l : walkIn after 0 .past ≤ walkIn ws 0 .past = ltb-false _ _ (sym (p .found) ∙ e) in
+          let q : walkIn after 0 .next ≡ end = p .all l in
+          let done : end ≤ n = elim (decLt n end) [
+            | yes h ↦ absurd (omega (arith, past-lt U es rises n end h within, on .past-is, ap (past es) q, c .on .past-is))
+            | no h ↦ omega arith
+          ] in
+          let none : slice n end es ≡ [] = drop-of-length-le (take end es) {i = n} (rw (length-take-le end es within) done) in
+          record {
+            counted = sym (omega arith) ∙ rw none at (c .left);
+            room = p .ready .room;
+            on = λ i h. elim (decLt 0 i) [ yes z ↦ beside-after .others i z h .passing .on | no z ↦ (let d : i ≡ 0 = omega arith in rw d on) ];
+            inside = λ i h. elim (decLt 0 i) [ yes z ↦ beside-after .others i z h .passing .inside | no z ↦ (let d : i ≡ 0 = omega arith in rw d (p .ready .passing .inside)) ];
+          }
+
+      -- ---- a position to try
+
+      pub counting-tries : r ≡ true → Trying s sh xs k ws after
+      unfolding shapeIn
+      counting-tries e =
+          let on = p .ready .passing .on in
+          let l : walkIn ws 0 .past < walkIn after 0 .past = ltb-true _ _ (sym (p .found) ∙ e) in
+          let inside = p .ready .passing .inside in
+          let more : n < walkIn after 0 .next = elim (decLt n (walkIn after 0 .next)) [
+            | yes h ↦ h
+            | no h ↦ absurd (omega (arith, on .past-is, c .on .past-is, past-mono U es rises (walkIn after 0 .next) n (omega arith) (omega (arith, within, c .inside))))
+          ] in
+          let next : walkIn after 0 .next ≡ n + 1 = elim (decLt n (walkIn after 0 .next - 1)) [
+            | yes h ↦ absurd (omega (arith, p .ready .passing .below, c .on .past-is, past-lt U es rises n (walkIn after 0 .next - 1) h (omega (arith, within, inside))))
+            | no h ↦ omega arith
+          ] in
+          let d : walkIn after 0 .next - 1 ≡ n = omega arith in
+          let some = past-some es (walkIn after 0 .next) (omega arith) (omega (arith, within, inside)) in
+          record {
+            on = on;
+            inside = omega arith;
+            next-is = next;
+            element-is = sym (on .past-is ∙ some ∙ ap (λ (j : ℕ). getD es j 0 + 1) d);
+            behind = omega (arith, c .behind);
+            small = omega (arith, on .past-is, past-le U es rises (walkIn after 0 .next) (omega (arith, within, inside)), open-within (partAt s sh 0) (shapeIn sh 0) (on .opened));
+            few =
+                let r = open-reads (partAt s sh 0) (shapeIn sh 0) (on .opened) in
+                omega (arith, on .within, r .below, r .within);
+            beside = beside-more s sh xs k after (walkIn ws 0 .past - base) (walkIn after 0 .past - 1 - base) (omega arith) beside-after;
+          }
+
+    module _ (after : List ℕ) (y : Trying s sh xs k ws after) where
+      -- the position that is tried
+      abbrev a : ℕ
+      a = walkIn after 0 .past - 1 - base
+
+      rest : List ℕ
+      rest = less base (slice (suc n) end es)
+
+      -- it is the first word's
       tried-there : standsIn (pageIn s sh xs k) a ≡ standsIn (span (pageAt s sh xs) 1 (k - 1)) (a + 1)
-      unfolding standsIn pageAt onPage
+      unfolding standsIn pageAt
       tried-there =
-          let rises = list-rises s sh 0 list in
-          let within = list-within s sh 0 list in
-          let e : base + a ≡ mark - 1 = omega (arith, passes, c .from) in
-          let m : markAt es (mark - 1) ≡ mark = rw (← c .mark-is) at
-          (mark-again U es rises within (c .bound) (rw (← c .mark-is) (omega (arith, w .within 0 (w .some))))) in
-          let has = page-has U es rises within end (w .within 0 (w .some)) base a (omega (arith, passes))
-          (rw (e, m) (omega (arith, passes))) in
+          let has = page-has U es rises base end within a n (y .inside) (omega (arith, y .element-is, y .behind)) in
           rw (page-cons, has)
 
       -- what is left is that position and the others
-      left-next : startsOver (pageIn s sh xs k) (less base (between (c .bound) end es))
-          ≡ cond (standsIn (span (pageAt s sh xs) 1 (k - 1)) (a + 1)) 1 0 + startsOver (pageIn s sh xs k)
-          (less base (between mark end es))
-      unfolding startsOver less
+      left-next : startsOver (pageIn s sh xs k) (less base (slice n end es)) ≡ cond (standsIn (span (pageAt s sh xs) 1 (k - 1)) (a + 1)) 1 0 + startsOver (pageIn s sh xs k) rest
+      unfolding startsOver less rest
       left-next =
-          let n = between-next U es (list-rises s sh 0 list)
-          (list-within s sh 0 list) end (w .within 0 (w .some)) (c .bound) (rw (← c .mark-is) l) in
-          rw (n, ← c .mark-is, tried-there)
+          let e : getD es n 0 - base ≡ a = omega (arith, y .element-is) in
+          rw (slice-cons n end es 0 (y .inside) within, e, tried-there)
 
-      pub counting-goes : (t : Starts) → Stood s sh xs k q a t → (r : Query)
-          → r ≡ withCursor (t .q) 0 (movedOn s sh (t .q) 0 mark)
-          → Counting s sh xs k r (count + t .count) (cursorIn r 0 .mark) × (mark < cursorIn r 0 .mark)
-      counting-goes t st r e =
-          let p : Query = t .q in
-          let m : Query = withCursor p 0 (movedOn s sh p 0 mark) in
-          let eight = st .beside .eight in
-          let ready : ReadyFor s sh p 0 mark =
-          ready-more s sh p 0 (c .bound) mark (stood-ready a t st) (omega (arith, passes)) in
-          let found = moved-mark s sh p 0 mark eight list ready in
-          rw e (
+      module _ (t : Tried) (fin : List ℕ) (st : Stood s sh xs k after a t fin) where
+        first-next : walkIn fin 0 .next ≡ n + 1
+        first-next = ap (λ (v : Walk). v .next) (st .first) ∙ y .next-is
+
+        first-past-is : walkIn fin 0 .past ≡ walkIn after 0 .past
+        first-past-is = ap (λ (v : Walk). v .past) (st .first)
+
+        pub counting-goes : Counting s sh xs k fin (count + t .count)
+        unfolding rest
+        counting-goes =
+            let e : walkIn fin 0 .next ≡ suc n = first-next ∙ add-one n in
             record {
-              bound = mark;
-              from = omega (arith, passes, c .from);
-              to = l;
-              few = omega (arith, passes, c .few, stood-one s sh xs k q a t st);
-              first = ready-moved s sh p 0 mark eight list ready;
-              mark-is = found;
-              beside = record {
-                eight = eight-kept s sh p 0 eight (movedOn s sh p 0 mark);
-                others = λ i z h.
-                    beside-more p m a (mark - base) (omega arith)
-                    (λ j g. other-kept s sh p 0 eight (movedOn s sh p 0 mark) j (λ d. omega arith)) i z h
-                    (st .beside .others i z h);
-              };
-              left = omega (arith, c .left, left-next, st .counted);
-            },
-            rw found (mark-past U es (list-rises s sh 0 list) (list-within s sh 0 list) mark
-                (omega (arith, w .within 0 (w .some)))),
-          )
+              on = rw (st .first) (y .on);
+              inside = omega (arith, first-next, y .inside);
+              behind = omega (arith, first-past-is, y .behind);
+              few = omega (arith, first-next, c .few, stood-one s sh xs k after a t fin st);
+              beside = beside-more s sh xs k fin a (walkIn fin 0 .past - base) (omega (arith, first-past-is)) (st .beside);
+              left = rw e (omega (arith, c .left, left-next, st .counted));
+            }
+
+        -- no start lies behind the last
+        rest-none : t .last ≡ true → startsOver (pageIn s sh xs k) rest ≡ 0
+        unfolding rest standsIn
+        rest-none e =
+            over-none (pageIn s sh xs k) rest (λ j l.
+            let m : suc n + j < end = omega (arith, length-less base (slice (suc n) end es), length-slice (suc n) end es within) in
+            let q : getD rest j 0 ≡ getD es (suc n + j) 0 - base = getD-less base (slice (suc n) end es) j ∙ ap (λ (v : ℕ). v - base) (getD-drop (suc n) (take end es) j 0 ∙ getD-take end es (suc n + j) 0 m) in
+            let f = st .last e (getD rest j 0) (omega (arith, q, y .element-is, rising-lt 0 U es rises n (suc n + j) (omega arith) (omega (arith, within)))) in
+            rw (page-cons, f) (and-false (member (getD rest j 0) (pageAt s sh xs 0))))
+
+        pub counting-last : t .last ≡ true → Counted s sh xs k (count + t .count) fin
+        counting-last e = record {
+          counted = omega (arith, c .left, left-next, st .counted, rest-none e);
+          room = st .beside .room;
+          on = λ i h. elim (decLt 0 i) [ yes z ↦ st .beside .others i z h .passing .on | no z ↦ (let d : i ≡ 0 = omega arith in rw (d, st .first) (y .on)) ];
+          inside = λ i h. elim (decLt 0 i) [ yes z ↦ st .beside .others i z h .passing .inside | no z ↦ (let d : i ≡ 0 = omega arith in rw d (omega (arith, first-next, y .inside))) ];
+        }

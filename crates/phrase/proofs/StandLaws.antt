@@ -1,92 +1,94 @@
--- Laws of trying one start: what each word's span and mark tell, and what its seek leaves of the other cursors.
-use mathlib.Core.Bool.{false}
-use mathlib.Core.Path.{_≡_}
+-- Laws of trying one start: what each word tells of it, and what passing one word's elements leaves of the others.
+use mathlib.Core.Bool.{Bool, true, false}
+use mathlib.Core.Path.{_≡_, _∙_}
 use mathlib.Core.List.{List}
 use Prim.Native.Nat.{ℕ, _+_, _-_, _≤_, _<_}
-use native.Mathlib.Nat.{add-assoc}
 use native.Mathlib.Decide.{ℕ-discrete}
 use native.Mathlib.Omega.{arith}
-use Rattle.rules.specs.Limits.{limit}
-use Rattle.query.specs.declared.Query.{Query}
-use Rattle.query.specs.Lists.{span}
-use Rattle.query.specs.Queries.{cursorIn, withCursor}
-use Rattle.query.proofs.SpanLaws.{span-cons}
-use Rattle.span.specs.Spans.{onPage}
-use Rattle.phrase.specs.Starts.{standsIn, markAt}
-use Rattle.phrase.specs.Words.{elementsAt, topAt, spanIn, pageAt, movedOn, reach, Words, Beside, ReadyFor}
-use Rattle.phrase.proofs.PageLaws.{page-past, page-lacks, page-has}
-use Rattle.phrase.proofs.WordLaws.{list-within, list-rises, ready-same, ready-moved}
-use Rattle.phrase.proofs.WordLaws.{moved-mark, eight-kept, other-kept}
+use lib.ListN.{length}
+use Rattle.rules.specs.List.{rising}
+use Rattle.rules.specs.ReadList.{listU}
+use Rattle.rules.specs.Questions.{member}
+use Rattle.seek.proofs.OpenLaws.{open-length, open-rising}
+use Rattle.query.specs.Lists.{span, partAt, shapeIn}
+use Rattle.phrase.specs.Starts.{standsIn}
+use Rattle.phrase.specs.Words.{elementsAt, walkIn, baseIn, endIn, pageAt, Words, Ready, PassedOn, Beside}
+use Rattle.phrase.proofs.StartLaws.{stands-fails, stands-all}
+use Rattle.phrase.proofs.PageLaws.{page-lacks, page-has, none-left, stands-here, stands-not}
 
--- what the seek of word i makes of the query q
-pub record Turned (s sh xs : List ℕ) (k a i : ℕ) (q r : Query) : Type 0 where
-  pub beside : Beside s sh xs k r a
-  pub first : cursorIn r 0 ≡ cursorIn q 0
-  pub mark-is : cursorIn r i .mark ≡ markAt (elementsAt s sh i) (spanIn xs i .base + a + i)
+-- a word that stands where it did is ready for what it was, and for more
+pub ready-same : (s sh xs ws after : List ℕ) (i b : ℕ) → length after ≡ 24 → walkIn after i ≡ walkIn ws i → Ready s sh xs ws i b → Ready s sh xs after i b
+ready-same s sh xs ws after i b l e r = record { room = l; short = r .short; passing = rw e (r .passing) }
+
+pub ready-more : (s sh xs ws : List ℕ) (i b d : ℕ) → b ≤ d → Ready s sh xs ws i b → Ready s sh xs ws i d
+ready-more s sh xs ws i b d l r = record {
+  room = r .room;
+  short = r .short;
+  passing = record { on = r .passing .on; inside = r .passing .inside; below = omega (arith, r .passing .below) };
+}
+
+pub beside-more : (s sh xs : List ℕ) (k : ℕ) (ws : List ℕ) (a d : ℕ) → a ≤ d → Beside s sh xs k ws a → Beside s sh xs k ws d
+beside-more s sh xs k ws a d l b = record {
+  room = b .room;
+  others = λ i p h. ready-more s sh xs ws i (baseIn xs i + a + i) (baseIn xs i + d + i) (omega arith) (b .others i p h);
+}
 
 module _ (s sh xs : List ℕ) (k : ℕ) (w : Words s sh xs k) (a i : ℕ) (h : i < k) where
   -- where word i has to stand, among its elements
   abbrev b : ℕ
-  b = spanIn xs i .base + a + i
+  b = baseIn xs i + a + i
 
-  abbrev es : List ℕ
-  es = elementsAt s sh i
+  -- ---- what word i tells
 
-  pub base-small : spanIn xs i .base ≤ limit
-  base-small = omega (arith, w .order i h, w .within i h, list-within s sh i (w .lists i h))
+  module _ (ws : List ℕ) (r : Bool) (after : List ℕ) (p : PassedOn s sh xs ws i b r after) where
+    rises : rising 0 (listU (partAt s sh i)) (elementsAt s sh i) ≡ true
+    rises = open-rising (partAt s sh i) (shapeIn sh i) (p .ready .passing .on .opened)
 
-  -- ---- what is left to try from word i on
+    within : endIn xs i ≤ length (elementsAt s sh i)
+    unfolding shapeIn
+    within = omega (arith, open-length (partAt s sh i) (shapeIn sh i) (p .ready .passing .on .opened), p .ready .short)
 
-  pub stands-past : spanIn xs i .end ≤ b → standsIn (span (pageAt s sh xs) i (k - i)) (a + i) ≡ false
-  unfolding standsIn pageAt onPage
-  stands-past l =
-      let x = spanIn xs i in
-      let e = add-assoc (x .base) a i in
-      let m = page-past (topAt s sh i) es (list-rises s sh i (w .lists i h))
-      (list-within s sh i (w .lists i h)) (x .end) (w .within i h) (x .base) (a + i) (omega arith) in
-      rw (span-cons (pageAt s sh xs) i k h, m)
+    -- no position from there on
+    pub word-none : walkIn after i .past ≤ b → (d : ℕ) → a ≤ d → member (d + i) (pageAt s sh xs i) ≡ false
+    unfolding pageAt shapeIn
+    word-none l d g =
+        page-lacks (listU (partAt s sh i)) (elementsAt s sh i) rises (baseIn xs i) (endIn xs i) within (d + i)
+        (none-left (partAt s sh i) (shapeIn sh i) (endIn xs i) b (walkIn after i) (p .ready .passing) (p .ready .short) l (p .all l) (baseIn xs i + (d + i)) (omega arith))
 
-  pub stands-lacks : (markAt es b ≡ b + 1 → ⊥) → standsIn (span (pageAt s sh xs) i (k - i)) (a + i) ≡ false
-  unfolding standsIn pageAt onPage
-  stands-lacks g =
-      let x = spanIn xs i in
-      let m = page-lacks (topAt s sh i) es (list-rises s sh i (w .lists i h))
-      (list-within s sh i (w .lists i h)) (x .end) (w .within i h) (x .base) (a + i)
-      (rw (← add-assoc (x .base) a i) g) in
-      rw (span-cons (pageAt s sh xs) i k h, m)
+    module _ (found : b < walkIn after i .past) where
+      pub word-lacks : (walkIn after i .past ≡ b + 1 → ⊥) → member (a + i) (pageAt s sh xs i) ≡ false
+      unfolding pageAt shapeIn
+      word-lacks g =
+          page-lacks (listU (partAt s sh i)) (elementsAt s sh i) rises (baseIn xs i) (endIn xs i) within (a + i) (λ j l e.
+          stands-not (partAt s sh i) (shapeIn sh i) (endIn xs i) b (walkIn after i) (p .ready .passing) (p .ready .short) found g j l (e ∙ omega arith))
 
-  pub stands-on : b < spanIn xs i .end → markAt es b ≡ b + 1 → standsIn (span (pageAt s sh xs) i (k - i)) (a + i)
-      ≡ standsIn (span (pageAt s sh xs) (i + 1) (k - (i + 1))) (a + (i + 1))
-  unfolding standsIn pageAt onPage
-  stands-on l g =
-      let x = spanIn xs i in
-      let m = page-has (topAt s sh i) es (list-rises s sh i (w .lists i h))
-      (list-within s sh i (w .lists i h)) (x .end) (w .within i h) (x .base) (a + i)
-      (omega arith) (rw (← add-assoc (x .base) a i) g) in
-      rw (span-cons (pageAt s sh xs) i k h, m, add-assoc a i 1)
+      pub word-has : walkIn after i .past ≡ b + 1 → member (a + i) (pageAt s sh xs i) ≡ true
+      unfolding pageAt shapeIn
+      word-has e =
+          let x = stands-here (partAt s sh i) (shapeIn sh i) (endIn xs i) b (walkIn after i) (p .ready .passing) (p .ready .short) found e in
+          page-has (listU (partAt s sh i)) (elementsAt s sh i) rises (baseIn xs i) (endIn xs i) within (a + i) (walkIn after i .next - 1) (x .0) (x .1 ∙ omega arith)
 
-  -- ---- the seek of word i
+    -- the others are as they were
+    pub beside-kept : 0 < i → Beside s sh xs k ws a → Beside s sh xs k after a
+    beside-kept some e = record {
+      room = p .ready .room;
+      others = λ j l g. elim (ℕ-discrete j i) [
+        | yes q ↦ rw q (p .ready)
+        | no q ↦ ready-same s sh xs ws after j (baseIn xs j + a + j) (p .ready .room) (p .others j q) (e .others j l g)
+      ];
+    }
 
-  module _ (q : Query) (beside : Beside s sh xs k q a) (some : 0 < i) (short : b < spanIn xs i .end) where
-    turn-ready : ReadyFor s sh q i b
-    turn-ready =
-        let e : reach xs i a ≡ b = omega arith in
-        rw e at (beside .others i some h)
+-- ---- what the words behind the first tell together
 
-    others-ready : (j : ℕ) → 0 < j → j < k → ReadyFor s sh (withCursor q i (movedOn s sh q i b)) j (reach xs j a)
-    others-ready j p l =
-        elim (ℕ-discrete j i) [
-          | yes e ↦
-              let m : reach xs i a ≡ b = omega arith in
-              rw (e, m) (ready-moved s sh q i b (beside .eight) (w .lists i h) turn-ready)
-          | no e ↦
-              ready-same s sh q (withCursor q i (movedOn s sh q i b)) j (reach xs j a)
-              (other-kept s sh q i (beside .eight) (movedOn s sh q i b) j e) (beside .others j p l)
-        ]
+module _ (s sh xs : List ℕ) (k d : ℕ) where
+  pub all-fail : (i : ℕ) → 0 < i → i < k → member (d + i) (pageAt s sh xs i) ≡ false → standsIn (span (pageAt s sh xs) 1 (k - 1)) (d + 1) ≡ false
+  all-fail i p h e =
+      let x : d + 1 + (i - 1) ≡ d + i = omega arith in
+      let y : 1 + (i - 1) ≡ i = omega arith in
+      stands-fails (pageAt s sh xs) (k - 1) 1 (d + 1) (i - 1) (omega arith) (rw (x, y) e)
 
-    pub word-turned : (r : Query) → r ≡ withCursor q i (movedOn s sh q i b) → Turned s sh xs k a i q r
-    word-turned r e = rw e (record {
-      beside = record { eight = eight-kept s sh q i (beside .eight) (movedOn s sh q i b); others = others-ready };
-      first = other-kept s sh q i (beside .eight) (movedOn s sh q i b) 0 (λ e. omega arith);
-      mark-is = moved-mark s sh q i b (beside .eight) (w .lists i h) turn-ready;
-    })
+  pub all-stand : ((i : ℕ) → 0 < i → i < k → member (d + i) (pageAt s sh xs i) ≡ true) → standsIn (span (pageAt s sh xs) 1 (k - 1)) (d + 1) ≡ true
+  all-stand g =
+      stands-all (pageAt s sh xs) (k - 1) 1 (d + 1) (λ j l.
+      let x : d + 1 + j ≡ d + (1 + j) = omega arith in
+      rw x (g (1 + j) (omega arith) (omega arith)))

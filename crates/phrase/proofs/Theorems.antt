@@ -1,42 +1,33 @@
--- What a page's count is, and what goes from page to page, each in a sentence.
+-- What a page's count is: the starts that a question's words have on it, by plain reading.
 use mathlib.Core.Path.{_≡_, refl, sym, ap, ap₂, _∙_}
 use mathlib.Core.List.{List, [], _∷_, map}
-use Prim.Native.Nat.{ℕ, suc, _+_, _≤_, _<_}
+use Prim.Native.Nat.{ℕ, suc, _+_, _-_, _≤_, _<_}
 use native.Mathlib.Nat.{add-zero, zero-add}
-use native.Mathlib.Decide.{decLt, ℕ-discrete}
 use native.Mathlib.Omega.{arith}
-use lib.ListN.{length, getD, length-replicate}
+use lib.ListN.{length, getD}
 use Rattle.rules.specs.declared.Refusal.the-variants.{Accepted}
-use Rattle.rules.specs.ReadList.{listU, listN, decode}
+use Rattle.rules.specs.ReadList.{listU, decode}
 use Rattle.rules.specs.Term.{Word}
-use Rattle.rules.specs.ReadTerm.{pagesOf, countsOf, positionsOf, readWord, termRefusal}
+use Rattle.rules.specs.ReadTerm.{pagesOf, positionsOf, readWord, termRefusal}
 use Rattle.rules.specs.Index.{termPart, wordOf}
 use Rattle.rules.specs.Questions.{positionsOn, starts, wordsIn}
-use Rattle.termlaws.proofs.PassedLaws.{accepted-passed}
-use Rattle.termlaws.proofs.ReadLaws.{pages-listed}
-use Rattle.seeklaws.proofs.FirstLaws.{rising-lt}
-use Rattle.seeklaws.proofs.SeekLaws.{behind-fresh}
-use Rattle.seek.specs.Cursors.{unused}
-use Rattle.seek.proofs.OpenLaws.{open-U, open-n}
-use Rattle.seek.proofs.MoveLaws.{unused-held, unused-rule}
-use Rattle.query.specs.declared.Query.{Query}
+use Rattle.termlaws.proofs.ReadLaws.{positions-listed}
+use Rattle.seek.proofs.OpenLaws.{open-within, open-length}
 use Rattle.query.specs.Lists.{span, partAt, shapeIn}
-use Rattle.query.specs.Queries.{newQuery}
-use Rattle.query.proofs.NewLaws.{new-cursor}
-use Rattle.span.specs.declared.Span.{Span}
-use Rattle.span.specs.Spans.{PageIn}
-use Rattle.span.proofs.SpanLaws.{page-span, span-order}
+use Rattle.span.specs.Walks.{past}
+use Rattle.span.specs.Spans.{positionsBefore, PageIn}
+use Rattle.span.proofs.WalkLaws.{past-le, first-past}
+use Rattle.span.proofs.SpanLaws.{page-in}
 use Rattle.phrase.specs.Starts.{startsIn}
-use Rattle.phrase.specs.Words.{elementsAt, topAt, spanIn, pageAt, pageIn, BlockAt, WordAt, Words, Paged, TermAt}
-use Rattle.phrase.proofs.StartLaws.{starts-in}
-use Rattle.phrase.proofs.WordLaws.{list-within, list-rises, ready-more}
+use Rattle.phrase.specs.Words.{elementsAt, baseIn, endIn, pageAt, pageIn, BlockAt, Words, TermAt}
+use Rattle.phrase.proofs.StartLaws.{starts-in, starts-alone}
+use Rattle.phrase.proofs.PageLaws.{page-length}
 
 -- ---- the words of a question
 
 -- what each word of a question gives, one after the other
 words-map : {A : Type 0} (s : List ℕ) (g : Word → A) (f : ℕ → A) (args : List ℕ) (i : ℕ)
-    → ((j : ℕ) → j < length args → f (i + j) ≡ g (readWord (termPart (getD args j 0) s)))
-    → span f i (length args) ≡ map g (wordsIn s args)
+    → ((j : ℕ) → j < length args → f (i + j) ≡ g (readWord (termPart (getD args j 0) s))) → span f i (length args) ≡ map g (wordsIn s args)
 unfolding span wordsIn wordOf
 words-map s g f [] i h = refl
 words-map s g f (t ∷ args) i h =
@@ -46,18 +37,22 @@ words-map s g f (t ∷ args) i h =
     ap f e ∙ h (suc j) (omega arith)))
 
 module _ (s sh xs : List ℕ) (p i : ℕ) (t : List ℕ) (at : TermAt s sh xs p i t) where
-  on-page : PageIn t (at .rank) (spanIn xs i)
-  on-page = rw (at .span-is) (page-span t (at .accepts) (at .rank) (at .ranked))
+  on-page : PageIn t (at .rank)
+  on-page = page-in t (at .accepts) (at .rank) (at .ranked)
 
   -- the positions of word i on the page are the term's
-  pub page-positions : pageAt s sh xs i ≡ positionsOn p (readWord t)
+  page-positions : pageAt s sh xs i ≡ positionsOn p (readWord t)
   unfolding pageAt
   page-positions =
-      rw (at .part-is) (sym (on-page .positions-are) ∙ ap (λ (q : ℕ). positionsOn q (readWord t)) (at .page-is))
+      rw (at .part-is, at .base-is, at .end-is) (sym (on-page .positions-are) ∙ ap (λ (q : ℕ). positionsOn q (readWord t)) (at .page-is))
 
-  -- its span is one
-  pub page-bounds : (spanIn xs i .base ≤ spanIn xs i .end) × (spanIn xs i .end ≤ topAt s sh i)
-  page-bounds = (omega (arith, on-page .some), rw (at .part-is) (on-page .within))
+  -- its span lies among its elements
+  page-bounds : (endIn xs i ≤ length (elementsAt s sh i)) × (baseIn xs i ≤ listU (partAt s sh i))
+  page-bounds = (
+    rw (at .part-is, at .end-is) (on-page .within),
+    rw (at .part-is, at .base-is) (past-le (listU (positionsOf t)) (decode (positionsOf t)) (positions-listed t (at .accepts) .rises) (positionsBefore t (at .rank))
+        (omega (arith, on-page .some, on-page .within))),
+  )
 
 module _ (s sh xs : List ℕ) (p : ℕ) (args : List ℕ)
     (at : (i : ℕ) → i < length args → TermAt s sh xs p i (termPart (getD args i 0) s)) where
@@ -65,92 +60,36 @@ module _ (s sh xs : List ℕ) (p : ℕ) (args : List ℕ)
   pub page-starts : startsIn (pageIn s sh xs (length args)) ≡ starts (wordsIn s args) p
   unfolding pageIn
   page-starts =
-      let e : (j : ℕ) → j < length args
-      → pageAt s sh xs (0 + j) ≡ positionsOn p (readWord (termPart (getD args j 0) s)) =
+      let e : (j : ℕ) → j < length args → pageAt s sh xs (0 + j) ≡ positionsOn p (readWord (termPart (getD args j 0) s)) =
       λ j l. rw (zero-add j) (page-positions s sh xs p j (termPart (getD args j 0) s) (at j l)) in
       ap startsIn (words-map s (positionsOn p) (pageAt s sh xs) args 0 e) ∙ sym (starts-in p (wordsIn s args))
 
   -- so their lists and spans may be walked
-  pub page-words : 0 < length args → length args ≤ 8 → length xs ≡ 16 → ((i : ℕ) → i < length args → BlockAt s sh i)
-      → Words s sh xs (length args)
+  pub page-words : 0 < length args → length args ≤ 8 → length xs ≡ 16 → ((i : ℕ) → i < length args → BlockAt s sh i) → Words s sh xs (length args)
+  unfolding shapeIn
   page-words n m r b = record {
     some = n;
     few = m;
     room = r;
     lists = b;
-    order = λ i h. page-bounds s sh xs p i (termPart (getD args i 0) s) (at i h) .0;
-    within = λ i h. page-bounds s sh xs p i (termPart (getD args i 0) s) (at i h) .1;
+    within = λ i h. omega (arith, page-bounds s sh xs p i (termPart (getD args i 0) s) (at i h) .0, open-length (partAt s sh i) (shapeIn sh i) (b i h .opened));
+    bases = λ i h. omega (arith, page-bounds s sh xs p i (termPart (getD args i 0) s) (at i h) .1, open-within (partAt s sh i) (shapeIn sh i) (b i h .opened));
   }
 
--- the two lists of an accepted term are a word's
-pub term-word : (s ct sh : List ℕ) (i : ℕ) (t : List ℕ) → termRefusal t ≡ Accepted → BlockAt s ct i → BlockAt s sh i
-    → partAt s ct i ≡ countsOf t → partAt s sh i ≡ positionsOf t → WordAt s ct sh i
-unfolding shapeIn
-term-word s ct sh i t a c p e f = record {
-  counts = c;
-  positions = p;
-  numbered =
-      sym (open-n (partAt s sh i) (shapeIn sh i) (p .opened))
-      ∙ ap listN f ∙ accepted-passed t a .positions-n ∙ sym (ap listU e)
-      ∙ open-U (partAt s ct i) (shapeIn ct i) (c .opened);
-}
-
--- ---- from page to page
-
--- cursors that are ready for some bounds are ready for larger ones
-paged-more : (s sh : List ℕ) (k : ℕ) (q : Query) (bs ds : ℕ → ℕ) → Paged s sh k q bs → ((i : ℕ) → i < k → bs i ≤ ds i)
-    → Paged s sh k q ds
-paged-more s sh k q bs ds p l = record {
-  eight = p .eight;
-  each = λ i h. ready-more s sh q i (bs i) (ds i) (p .each i h) (l i h);
-}
-
--- a later page's span lies behind an earlier one's
-spans-later : (s sh xs ys : List ℕ) (p d i : ℕ) (t : List ℕ) → TermAt s sh xs p i t → TermAt s sh ys d i t → p < d
-    → spanIn xs i .end ≤ spanIn ys i .base
-spans-later s sh xs ys p d i t a b l =
-    let ps : List ℕ = decode (pagesOf t) in
-    let r : a .rank < b .rank =
-    elim (decLt (b .rank) (a .rank)) [
-      | yes h ↦ absurd (omega (
-        arith,
-        a .page-is,
-        b .page-is,
-        rising-lt 0 (listU (pagesOf t)) ps (pages-listed t (a .accepts) .rises) (b .rank) (a .rank) h (a .ranked),
-      ))
-      | no h ↦ elim (ℕ-discrete (a .rank) (b .rank)) [
-        | yes e ↦ absurd (omega (arith, a .page-is, b .page-is, ap (λ (j : ℕ). getD ps j 0) e))
-        | no e ↦ omega arith
-      ]
-    ] in
-    omega (
-      arith,
-      ap (λ (x : Span). x .end) (a .span-is),
-      ap (λ (x : Span). x .base) (b .span-is),
-      span-order t (a .accepts) (a .rank) (b .rank) r (b .ranked),
-    )
-
--- the cursors that a page leaves are ready for any later page
-pub paged-later : (s sh xs ys : List ℕ) (p d k : ℕ) (q : Query) (term : ℕ → List ℕ)
-    → ((i : ℕ) → i < k → TermAt s sh xs p i (term i)) → ((i : ℕ) → i < k → TermAt s sh ys d i (term i)) → p < d
-    → Paged s sh k q (λ i. spanIn xs i .end) → Paged s sh k q (λ i. spanIn ys i .base)
-paged-later s sh xs ys p d k q term a b l g =
-    paged-more s sh k q (λ i. spanIn xs i .end) (λ i. spanIn ys i .base) g
-    (λ i h. spans-later s sh xs ys p d i (term i) (a i h) (b i h) l)
-
--- new cursors are ready for all
-pub paged-new : (s sh : List ℕ) (k : ℕ) → k ≤ 8 → ((i : ℕ) → i < k → BlockAt s sh i) → (bs : ℕ → ℕ)
-    → Paged s sh k newQuery bs
-paged-new s sh k m b bs = record {
-  eight = unfold newQuery in length-replicate 8 unused;
-  each = λ i h.
-      let U : ℕ = topAt s sh i in
-      let es : List ℕ = elementsAt s sh i in
-      let rises = list-rises s sh i (b i h) in
-      let within = list-within s sh i (b i h) in
-      let e = new-cursor i (omega arith) in
-      record {
-        held = rw e (unused-held U es);
-        behind = rw (e, unused-rule U es rises within) (behind-fresh U es rises (bs i));
-      };
-}
+-- a word alone starts at each of its positions
+pub lone-starts : (s args : List ℕ) (p rank : ℕ) → length args ≡ 1 → termRefusal (termPart (getD args 0 0) s) ≡ Accepted
+    → rank < length (decode (pagesOf (termPart (getD args 0 0) s))) → getD (decode (pagesOf (termPart (getD args 0 0) s))) rank 0 ≡ p
+    → positionsBefore (termPart (getD args 0 0) s) (rank + 1) - positionsBefore (termPart (getD args 0 0) s) rank ≡ starts (wordsIn s args) p
+unfolding wordsIn wordOf
+lone-starts s [] p rank l a r e = absurd (omega arith)
+lone-starts s (x ∷ (y ∷ args)) p rank l a r e = absurd (omega arith)
+lone-starts s (x ∷ []) p rank l a r e =
+    let t : List ℕ = termPart x s in
+    let es : List ℕ = decode (positionsOf t) in
+    let U : ℕ = listU (positionsOf t) in
+    let g = page-in t a rank r in
+    let rises = positions-listed t a .rises in
+    let f = first-past U es rises (positionsBefore t rank) (omega (arith, g .some, g .within)) in
+    let size = page-length U es rises (past es (positionsBefore t rank)) (positionsBefore t (rank + 1)) (g .within) in
+    let is = sym (g .positions-are) ∙ ap (λ (q : ℕ). positionsOn q (readWord t)) e in
+    sym (starts-in p (readWord t ∷ []) ∙ starts-alone (positionsOn p (readWord t)) ∙ ap length (sym is) ∙ size ∙ ap (λ (n : ℕ). positionsBefore t (rank + 1) - n) f)

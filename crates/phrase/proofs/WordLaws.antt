@@ -1,92 +1,105 @@
--- Laws of the words' cursors: what a seek makes of one, and that the others stay as they are.
+-- Laws of the words' numbers: what putting those of one word leaves of it and of the others.
 use mathlib.Core.Bool.{true}
-use mathlib.Core.Path.{_≡_, refl, ap, _∙_}
+use mathlib.Core.Path.{_≡_, refl, sym, ap, ap₂, _∙_}
 use mathlib.Core.List.{List}
-use Prim.Native.Nat.{ℕ, _≤_}
+use Prim.Native.Nat.{ℕ, _+_, _*_, _<_}
 use native.Mathlib.Omega.{arith}
-use lib.ListN.{length, length-set}
+use borrow.Author.Tests.{lt-ltb}
+use lib.Dec.{ltb}
+use lib.ListN.{length, getD, set, length-set}
 use lib.Seq.{getD-set-same, getD-set-other}
-use Rattle.rules.specs.Limits.{limit}
-use Rattle.rules.specs.List.{rising}
-use Rattle.listlaws.proofs.RefusalLaws.{accepted-framed}
-use Rattle.listlaws.proofs.ReadLaws.{accepted-rising}
-use Rattle.seeklaws.specs.Cursors.{Placed, Behind}
-use Rattle.seeklaws.proofs.SeekLaws.{seek-first, seek-behind}
-use Rattle.seek.specs.declared.Cursor.{Cursor}
-use Rattle.seek.specs.Cursors.{unused, markOf, held, rankIn, ruleCursor, Held, movedTo}
-use Rattle.seek.proofs.CursorLaws.{held-rule}
-use Rattle.seek.proofs.MoveLaws.{moved-held, moved-rule}
-use Rattle.query.specs.declared.Query.{Query}
-use Rattle.query.specs.Lists.{partAt}
-use Rattle.query.specs.Queries.{cursorIn, withCursor}
-use Rattle.phrase.specs.Starts.{markAt}
-use Rattle.phrase.specs.Words.{elementsAt, topAt, plain, movedOn, BlockAt, ReadyFor}
+use Rattle.query.specs.Lists.{partAt, shapeIn}
+use Rattle.span.specs.declared.Walk.{Walk}
+use Rattle.span.specs.Walks.{past, PassedTo, PassedBelow}
+use Rattle.phrase.specs.Words.{elementsAt, walkIn, withWalk, ranksOf, baseIn, endIn, withSpan, BlockAt, Walked, Ready, PassedOn}
 
--- ---- one list
+-- ---- where reading stands
 
-module _ (s sh : List ℕ) (i : ℕ) (l : BlockAt s sh i) where
-  pub list-within : topAt s sh i ≤ limit
-  list-within = accepted-framed (partAt s sh i) (l .opened .accepted) .0 .within
+module _ (ws : List ℕ) (i : ℕ) (w : Walk) where
+  abbrev first : List ℕ
+  first = set ws (3 * i) (w .next)
 
-  pub list-rises : rising 0 (topAt s sh i) (elementsAt s sh i) ≡ true
-  list-rises = accepted-rising (partAt s sh i) (l .opened .accepted)
+  abbrev second : List ℕ
+  second = set first (3 * i + 1) (w .past)
 
--- ---- one cursor
+  pub walks-long : length (withWalk ws i w) ≡ length ws
+  walks-long = length-set second (3 * i + 2) (w .place) ∙ length-set first (3 * i + 1) (w .past) ∙ length-set ws (3 * i) (w .next)
 
-module _ (U : ℕ) (es : List ℕ) (rises : rising 0 U es ≡ true) (within : U ≤ limit) (c : Cursor) (h : Held U es c) where
-  pub plain-held : Held U es (plain c)
-  plain-held = record { place = h .place; placed = h .placed; mark-is = h .mark-is; bit-is = h .bit-is }
+  -- a number that is not of word i
+  other-number : (m : ℕ) → (m ≡ 3 * i → ⊥) → (m ≡ 3 * i + 1 → ⊥) → (m ≡ 3 * i + 2 → ⊥) → getD (withWalk ws i w) m 0 ≡ getD ws m 0
+  other-number m a b c =
+      getD-set-other second (3 * i + 2) m (w .place) 0 c ∙ getD-set-other first (3 * i + 1) m (w .past) 0 b ∙ getD-set-other ws (3 * i) m (w .next) 0 a
 
-  plain-rule : ruleCursor U es (plain c) ≡ ruleCursor U es c
-  unfolding ruleCursor rankIn
-  plain-rule = refl
+  pub walk-there : (j : ℕ) → (j ≡ i → ⊥) → walkIn (withWalk ws i w) j ≡ walkIn ws j
+  walk-there j d =
+      let a = other-number (3 * j) (λ e. d (omega arith)) (λ e. omega arith) (λ e. omega arith) in
+      let b = other-number (3 * j + 1) (λ e. omega arith) (λ e. d (omega arith)) (λ e. omega arith) in
+      let c = other-number (3 * j + 2) (λ e. omega arith) (λ e. omega arith) (λ e. d (omega arith)) in
+      rw (a, b, c)
 
-  placed : Placed es (ruleCursor U es c)
-  placed = rw (held-rule U es rises within c h) (h .placed)
+  module _ (room : length ws ≡ 24) (few : i < 8) where
+    pub walk-here : walkIn (withWalk ws i w) i ≡ w
+    walk-here =
+        let a : getD (withWalk ws i w) (3 * i) 0 ≡ w .next =
+        getD-set-other second (3 * i + 2) (3 * i) (w .place) 0 (λ e. omega arith) ∙ getD-set-other first (3 * i + 1) (3 * i) (w .past) 0 (λ e. omega arith)
+        ∙ getD-set-same ws (3 * i) (w .next) 0 (omega arith) in
+        let b : getD (withWalk ws i w) (3 * i + 1) 0 ≡ w .past =
+        getD-set-other second (3 * i + 2) (3 * i + 1) (w .place) 0 (λ e. omega arith)
+        ∙ getD-set-same first (3 * i + 1) (w .past) 0 (omega (arith, length-set ws (3 * i) (w .next))) in
+        let c : getD (withWalk ws i w) (3 * i + 2) 0 ≡ w .place =
+        getD-set-same second (3 * i + 2) (w .place) 0 (omega (arith, length-set first (3 * i + 1) (w .past), length-set ws (3 * i) (w .next))) in
+        rw (a, b, c)
 
-  module _ (b : ℕ) (behind : Behind U es (ruleCursor U es c) b) where
-    plain-mark : movedTo U es (plain c) b .mark ≡ markAt es b
-    unfolding movedTo held markAt
-    plain-mark = rw plain-rule (ap (markOf es) (seek-first U es rises (ruleCursor U es c) b placed behind .cursor))
+-- n elements of list i are passed
+pub walked : (s sh ws : List ℕ) (i n : ℕ) (w : Walk) → BlockAt s sh i → length ws ≡ 24 → PassedTo (partAt s sh i) (shapeIn sh i) n w → Walked s sh ws i n (withWalk ws i w)
+walked s sh ws i n w b r p =
+    let e = walk-here ws i w r (b .few) in
+    record {
+      readable = record { block = b; room = walks-long ws i w ∙ r; on = rw e (p .on) };
+      at = ap (λ (v : Walk). v .next) e ∙ p .at;
+      others = walk-there ws i w;
+    }
 
-    plain-behind : Behind U es (ruleCursor U es (movedTo U es (plain c) b)) b
-    plain-behind =
-        rw (moved-rule U es rises within (plain c) plain-held b, plain-rule)
-        (seek-behind U es rises (ruleCursor U es c) b b placed behind (omega arith))
+-- the page's ranks are one past the counts before it, and with it
+pub ranks-told : (s sh : List ℕ) (i rank : ℕ) (w v : Walk) → PassedTo (partAt s sh i) (shapeIn sh i) rank w → PassedTo (partAt s sh i) (shapeIn sh i) (w .next + 1) v
+    → (record { from = w .past; to = v .past } ≡ ranksOf (elementsAt s sh i) rank) × PassedTo (partAt s sh i) (shapeIn sh i) (rank + 1) v
+ranks-told s sh i rank w v p q =
+    let e : v .next ≡ rank + 1 = q .at ∙ ap (λ (n : ℕ). n + 1) (p .at) in (
+      ap₂ (λ (x y : ℕ). record { from = x; to = y }) (p .on .past-is ∙ ap (past (elementsAt s sh i)) (p .at)) (q .on .past-is ∙ ap (past (elementsAt s sh i)) e),
+      record { on = q .on; at = e },
+    )
 
--- ---- the cursors of a query
+module _ (s sh xs ws : List ℕ) (i b : ℕ) (r : Ready s sh xs ws i b) where
+  -- word i stands at b or behind it already
+  pub passed-there : b < walkIn ws i .past → PassedOn s sh xs ws i b true ws
+  passed-there h = record { ready = r; found = sym (lt-ltb b (walkIn ws i .past) h); all = λ l. absurd (omega arith); others = λ j d. refl }
 
-module _ (s sh : List ℕ) (q : Query) where
-  pub ready-more : (i b d : ℕ) → ReadyFor s sh q i b → b ≤ d → ReadyFor s sh q i d
-  ready-more i b d r l = record { held = r .held; behind = λ j h g. omega (arith, r .behind j h g) }
+  pub passed-on : i < 8 → (v : Walk) → PassedBelow (partAt s sh i) (shapeIn sh i) (endIn xs i) b (walkIn ws i) v → PassedOn s sh xs ws i b (ltb b (v .past)) (withWalk ws i v)
+  passed-on few v p =
+      let e = walk-here ws i v (r .room) few in
+      let f : walkIn (withWalk ws i v) i .past ≡ v .past = ap (λ (w : Walk). w .past) e in
+      let n : walkIn (withWalk ws i v) i .next ≡ v .next = ap (λ (w : Walk). w .next) e in
+      record {
+        ready = record { room = walks-long ws i v ∙ r .room; short = r .short; passing = rw e (p .passing) };
+        found = ap (ltb b) (sym f);
+        all = λ l. n ∙ p .all (omega (arith, f));
+        others = walk-there ws i v;
+      }
 
-  pub ready-same : (p : Query) (i b : ℕ) → cursorIn p i ≡ cursorIn q i → ReadyFor s sh q i b → ReadyFor s sh p i b
-  ready-same p i b e r = record { held = rw e (r .held); behind = rw e (r .behind) }
+-- ---- spans
 
-  module _ (i : ℕ) (eight : length (q .cursors) ≡ 8) (c : Cursor) where
-    pub eight-kept : length (withCursor q i c .cursors) ≡ 8
-    eight-kept = length-set (q .cursors) i c ∙ eight
+module _ (xs : List ℕ) (i b e : ℕ) where
+  pub spans-long : length (withSpan xs i b e) ≡ length xs
+  spans-long = length-set (set xs (2 * i) b) (2 * i + 1) e ∙ length-set xs (2 * i) b
 
-    pub other-kept : (j : ℕ) → (j ≡ i → ⊥) → cursorIn (withCursor q i c) j ≡ cursorIn q j
-    other-kept j d = getD-set-other (q .cursors) i j c unused d
+  pub span-there : (j : ℕ) → (j ≡ i → ⊥) → (baseIn (withSpan xs i b e) j ≡ baseIn xs j) × (endIn (withSpan xs i b e) j ≡ endIn xs j)
+  span-there j d = (
+    getD-set-other (set xs (2 * i) b) (2 * i + 1) (2 * j) e 0 (λ z. omega arith) ∙ getD-set-other xs (2 * i) (2 * j) b 0 (λ z. d (omega arith)),
+    getD-set-other (set xs (2 * i) b) (2 * i + 1) (2 * j + 1) e 0 (λ z. d (omega arith)) ∙ getD-set-other xs (2 * i) (2 * j + 1) b 0 (λ z. omega arith),
+  )
 
-  module _ (i b : ℕ) (eight : length (q .cursors) ≡ 8) (l : BlockAt s sh i) (r : ReadyFor s sh q i b) where
-    now-at : cursorIn (withCursor q i (movedOn s sh q i b)) i ≡ movedOn s sh q i b
-    now-at = getD-set-same (q .cursors) i (movedOn s sh q i b) unused (omega (arith, l .few))
-
-    pub ready-moved : ReadyFor s sh (withCursor q i (movedOn s sh q i b)) i b
-    ready-moved =
-        let U : ℕ = topAt s sh i in
-        let es : List ℕ = elementsAt s sh i in
-        let rises = list-rises s sh i l in
-        let within = list-within s sh i l in
-        record {
-          held = rw now-at (moved-held U es rises within (plain (cursorIn q i))
-              (plain-held U es rises within (cursorIn q i) (r .held)) b);
-          behind = rw now-at (plain-behind U es rises within (cursorIn q i) (r .held) b (r .behind));
-        }
-
-    pub moved-mark : cursorIn (withCursor q i (movedOn s sh q i b)) i .mark ≡ markAt (elementsAt s sh i) b
-    moved-mark = ap (λ (c : Cursor). c .mark) now-at
-        ∙ plain-mark (topAt s sh i) (elementsAt s sh i) (list-rises s sh i l) (list-within s sh i l) (cursorIn q i)
-        (r .held) b (r .behind)
+  pub span-here : length xs ≡ 16 → i < 8 → (baseIn (withSpan xs i b e) i ≡ b) × (endIn (withSpan xs i b e) i ≡ e)
+  span-here r l = (
+    getD-set-other (set xs (2 * i) b) (2 * i + 1) (2 * i) e 0 (λ z. omega arith) ∙ getD-set-same xs (2 * i) b 0 (omega arith),
+    getD-set-same (set xs (2 * i) b) (2 * i + 1) e 0 (omega (arith, length-set xs (2 * i) b)),
+  )

@@ -3,13 +3,10 @@
 --   standsIn pss a   number i of the lists pss holds a + i, for every i from 0
 --   startsOver pss qs  how many of the positions qs are starts
 --   startsIn pss     how many positions of the first list are
---   markAt es b      the mark of a cursor at the first element at least b
 use mathlib.Core.Bool.{Bool, true, cond, _&&_}
 use mathlib.Core.List.{List, [], _∷_}
 use Prim.Native.Nat.{ℕ, _+_}
 use Rattle.rules.specs.Questions.{member}
-use Rattle.seeklaws.specs.Cursors.{firstAt, cursorAt}
-use Rattle.seek.specs.Cursors.{markOf}
 
 unfoldable pub standsIn : List (List ℕ) → ℕ → Bool
 standsIn [] a = true
@@ -22,6 +19,3 @@ startsOver pss (q ∷ qs) = cond (standsIn pss q) 1 0 + startsOver pss qs
 unfoldable pub startsIn : List (List ℕ) → ℕ
 startsIn [] = 0
 startsIn (ps ∷ pss) = startsOver (ps ∷ pss) ps
-
-unfoldable pub markAt : List ℕ → ℕ → ℕ
-markAt es b = markOf es (cursorAt es (firstAt b es))

@@ -1,108 +1,186 @@
-// The starts of a phrase on one page: the words' positions are gone through side by side, each by seeks that never go back.
+// The starts of a phrase on one page: the words' positions there are gone through side by side, and never back.
 
 ghost use mathlib.Core.Path.{_≡_};
-ghost use Prim.Native.Nat.{_^_, _≤_, _<_};
+ghost use Prim.Native.Nat.{_+_, _*_, _^_, _≤_, _<_};
 ghost use lib.ListN.{length};
-ghost use Rattle.query.specs.Lists.{numberOf};
-ghost use Rattle.query.specs.Queries.{withCursor};
-ghost use Rattle.span.specs.Spans.{spanOf};
-ghost use Rattle.phrase.specs.Words.{elementsAt, spanIn, movedOn, BlockAt, WordAt, Sought, Words, Beside, Stood, Paged, Counted};
-use query::Query;
-use seek::Cursor;
-use span::Span;
+ghost use Rattle.query.specs.Lists.{numberOf, partAt};
+ghost use Rattle.span.specs.Walks.{past};
+ghost use Rattle.phrase.specs.Words.{elementsAt, walkIn, withWalk, ranksOf, withSpan, BlockAt, Readable, Walked, Words, Ready, PassedOn, Beside, Stood, Begun, Counted};
+use span::Walk;
 
-// The span of word i, by its two numbers.
-fn span_in(spans: &[usize], i: usize) -> Span
-    requires { ⌜ (length (now spans) ≡ 16) × (i < 8) ⌝ }
-    ensures { λ r. ⌜ r ≡ spanIn (now (spans .entry)) i ⌝ }
+// ---- a word's list
+
+// Where reading of list i stands, by its three numbers.
+fn walk_in(walks: &[usize], i: usize) -> Walk
+    requires { ⌜ (length (now walks) ≡ 24) × (i < 8) ⌝ }
+    ensures { λ r. ⌜ r ≡ walkIn (now (walks .entry)) i ⌝ }
 {
-    Span {
-        base: spans[2 * i],
-        end: spans[2 * i + 1],
+    Walk {
+        next: walks[3 * i],
+        past: walks[3 * i + 1],
+        place: walks[3 * i + 2],
     }
 }
 
-// The span of the page number `rank` of word i, from its lists of counts and of positions in the card.
-pub fn span_at(card: &[u8], counts: &[u32], shapes: &[u32], i: usize, rank: usize) -> Span
-    requires { ⌜ WordAt (now card) (now counts) (now shapes) i × (rank < numberOf (now counts) i 7) ⌝ }
-    ensures { λ r. ⌜ r ≡ spanOf (elementsAt (now (card .entry)) (now (counts .entry)) i)
-        (elementsAt (now (card .entry)) (now (shapes .entry)) i) rank ⌝ }
+// Puts them.
+fn put_walk(walks: &mut [usize], i: usize, w: Walk)
+    requires { ⌜ (length (now walks) ≡ 24) × (i < 8) ⌝ }
+    ensures { λ _. ⌜ now (walks .exit) ≡ withWalk (now (walks .entry)) i w ⌝ }
 {
-    let from = query::number(counts, i, 0);
-    let to = query::number(counts, i, 1);
-    let start = query::number(shapes, i, 0);
-    let end = query::number(shapes, i, 1);
-    let gc = query::shape_in(counts, i);
-    let gp = query::shape_in(shapes, i);
-    span::span_of(&card[from..to], gc, &card[start..end], gp, rank)
+    walks[3 * i] = w.next;
+    walks[3 * i + 1] = w.past;
+    walks[3 * i + 2] = w.place;
 }
 
-// One seek of word i's cursor for b; kind 4 reports no counts, and keeps none.
-fn seek_on(card: &[u8], shapes: &[u32], mut q: Query, i: usize, b: usize) -> Query
-    requires { ⌜ BlockAt (now card) (now shapes) i × Sought (now card) (now shapes) q i ⌝ }
-    ensures { λ r. ⌜ r ≡ withCursor q i (movedOn (now (card .entry)) (now (shapes .entry)) q i b) ⌝ }
+// The bytes of list i.
+fn part_at<'a>(card: &'a [u8], shapes: &[u32], i: usize) -> &'a [u8]
+    requires { ⌜ BlockAt (now card) (now shapes) i ⌝ }
+    ensures { λ r. ⌜ now r ≡ partAt (now (card .entry)) (now (shapes .entry)) i ⌝ }
 {
     let from = query::number(shapes, i, 0);
     let to = query::number(shapes, i, 1);
-    let c = q.cursors[i];
-    let plain = Cursor {
-        mark: c.mark,
-        bit: c.bit,
-        seeks: 0,
-        looks: 0,
-    };
-    let d = seek::seek(&card[from..to], query::shape_in(shapes, i), plain, b);
-    q.cursors[i] = d;
-    q
+    &card[from..to]
 }
 
-// A query, and how many starts were found with it.
-pub struct Starts {
-    pub q: Query,
-    pub count: usize,
+// ---- a word's page
+
+// The numbers of a page's positions among a word's: from `from` on and below `to`.
+pub struct Ranks {
+    pub from: usize,
+    pub to: usize,
 }
 
-// Whether each word i behind the first stands at a + i: one start, or none.
-fn stand(card: &[u8], shapes: &[u32], spans: &[usize], query: Query, k: usize, a: usize) -> Starts
-    requires { ⌜ Words (now card) (now shapes) (now spans) k
-        × Beside (now card) (now shapes) (now spans) k query a × (a < 2 ^ 32) ⌝ }
-    ensures { λ r. ⌜ Stood (now (card .entry)) (now (shapes .entry)) (now (spans .entry)) k query a r ⌝ }
+// Those of word i's page number `rank`, by the counts before it and with it.
+pub fn ranks_at(card: &[u8], counts: &[u32], i: usize, rank: usize, walks: &mut [usize]) -> Ranks
+    requires { ⌜ Readable (now card) (now counts) (now walks) i × (walkIn (now walks) i .next ≤ rank) × (rank < numberOf (now counts) i 7) ⌝ }
+    ensures { λ r. ⌜ (r ≡ ranksOf (elementsAt (now (card .entry)) (now (counts .entry)) i) rank) × Walked (now (card .entry)) (now (counts .entry)) (now (walks .entry)) i (rank + 1) (now (walks .exit)) ⌝ }
 {
-    let mut q = query;
+    let block = part_at(card, counts, i);
+    let g = query::shape_in(counts, i);
+    let w = span::pass_to(block, g, walk_in(walks, i), rank);
+    let v = span::pass_one(block, g, w);
+    put_walk(walks, i, v);
+    Ranks {
+        from: w.past,
+        to: v.past,
+    }
+}
+
+// Turns word i to the page of those positions: puts its span, and stands before them.
+pub fn turn_to(
+    card: &[u8],
+    shapes: &[u32],
+    i: usize,
+    x: Ranks,
+    spans: &mut [usize],
+    walks: &mut [usize],
+)
+    requires { ⌜ Readable (now card) (now shapes) (now walks) i × (walkIn (now walks) i .next ≤ x .from) × (x .from ≤ numberOf (now shapes) i 7) × (length (now spans) ≡ 16) ⌝ }
+    ensures { λ _. ⌜ (now (spans .exit) ≡ withSpan (now (spans .entry)) i (past (elementsAt (now (card .entry)) (now (shapes .entry)) i) (x .from)) (x .to)) × Walked (now (card .entry)) (now (shapes .entry)) (now (walks .entry)) i (x .from) (now (walks .exit)) ⌝ }
+{
+    let w = walk_in(walks, i);
+    let v = span::pass_to(
+        part_at(card, shapes, i),
+        query::shape_in(shapes, i),
+        w,
+        x.from,
+    );
+    put_walk(walks, i, v);
+    spans[2 * i] = v.past;
+    spans[2 * i + 1] = x.to;
+}
+
+// ---- the starts
+
+// Passes word i's elements up to the first at least b; whether the page has one.
+fn pass_on(
+    card: &[u8],
+    shapes: &[u32],
+    spans: &[usize],
+    i: usize,
+    b: usize,
+    walks: &mut [usize],
+) -> bool
+    requires { ⌜ BlockAt (now card) (now shapes) i × (length (now spans) ≡ 16) × Ready (now card) (now shapes) (now spans) (now walks) i b ⌝ }
+    ensures { λ r. ⌜ PassedOn (now (card .entry)) (now (shapes .entry)) (now (spans .entry)) (now (walks .entry)) i b r (now (walks .exit)) ⌝ }
+{
+    let w = walk_in(walks, i);
+    if b < w.past {
+        return true;
+    }
+    let v = span::pass_below(
+        part_at(card, shapes, i),
+        query::shape_in(shapes, i),
+        w,
+        spans[2 * i + 1],
+        b,
+    );
+    put_walk(walks, i, v);
+    b < v.past
+}
+
+// One start or none, and whether there is none behind it.
+pub struct Tried {
+    pub count: usize,
+    pub last: bool,
+}
+
+// Whether each word i behind the first stands at a + i.
+fn stand(
+    card: &[u8],
+    shapes: &[u32],
+    spans: &[usize],
+    k: usize,
+    a: usize,
+    walks: &mut [usize],
+) -> Tried
+    requires { ⌜ Words (now card) (now shapes) (now spans) k × Beside (now card) (now shapes) (now spans) k (now walks) a × (a < 2 ^ 32) ⌝ }
+    ensures { λ r. ⌜ Stood (now (card .entry)) (now (shapes .entry)) (now (spans .entry)) k (now (walks .entry)) a r (now (walks .exit)) ⌝ }
+{
     let mut i = 1;
     while i < k {
-        let x = span_in(spans, i);
-        let b = x.base + a + i;
-        if x.end <= b {
-            return Starts { q, count: 0 };
+        let b = spans[2 * i] + a + i;
+        if !pass_on(card, shapes, spans, i, b, walks) {
+            return Tried {
+                count: 0,
+                last: true,
+            };
         }
-        q = seek_on(card, shapes, q, i, b);
-        let c = q.cursors[i];
-        if c.mark as usize != b + 1 {
-            return Starts { q, count: 0 };
+        if walks[3 * i + 1] != b + 1 {
+            return Tried {
+                count: 0,
+                last: false,
+            };
         }
         i += 1;
     }
-    Starts { q, count: 1 }
+    Tried {
+        count: 1,
+        last: false,
+    }
 }
 
-// The number of starts on the page whose spans these are; the cursors are then ready for any later page.
-pub fn count_starts(card: &[u8], shapes: &[u32], spans: &[usize], query: Query, k: usize) -> Starts
-    requires { ⌜ Words (now card) (now shapes) (now spans) k
-        × Paged (now card) (now shapes) k query (λ i. spanIn (now spans) i .base) ⌝ }
-    ensures { λ r. ⌜ Counted (now (card .entry)) (now (shapes .entry)) (now (spans .entry)) k r ⌝ }
+// The number of starts on the page that the words are turned to.
+pub fn count_starts(
+    card: &[u8],
+    shapes: &[u32],
+    spans: &[usize],
+    k: usize,
+    walks: &mut [usize],
+) -> usize
+    requires { ⌜ Words (now card) (now shapes) (now spans) k × Begun (now card) (now shapes) (now spans) k (now walks) ⌝ }
+    ensures { λ r. ⌜ Counted (now (card .entry)) (now (shapes .entry)) (now (spans .entry)) k r (now (walks .exit)) ⌝ }
 {
-    let x = span_in(spans, 0);
-    let mut q = seek_on(card, shapes, query, 0, x.base);
     let mut count = 0;
-    let c = q.cursors[0];
-    let mut mark = c.mark as usize;
-    while mark <= x.end {
-        let s = stand(card, shapes, spans, q, k, mark - 1 - x.base);
-        count += s.count;
-        q = seek_on(card, shapes, s.q, 0, mark);
-        let d = q.cursors[0];
-        mark = d.mark as usize;
+    loop {
+        let b = walks[1];
+        if !pass_on(card, shapes, spans, 0, b, walks) {
+            return count;
+        }
+        let t = stand(card, shapes, spans, k, walks[1] - 1 - spans[0], walks);
+        count += t.count;
+        if t.last {
+            return count;
+        }
     }
-    Starts { q, count }
 }

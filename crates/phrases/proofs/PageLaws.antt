@@ -1,20 +1,20 @@
--- What a page gives: its starts by its spans, and cursors that are ready for the pages behind it.
-use mathlib.Core.Bool.{Bool, true, false}
-use mathlib.Core.Path.{_≡_, refl, _∙_}
-use mathlib.Core.List.{List, [], _∷_}
-use Prim.Native.Nat.{ℕ, _+_, _-_, _^_, _≤_, _<_}
-use native.Mathlib.Decide.{ℕ-discrete}
+-- What a page gives: its starts, and words that have the pages behind it ahead.
+use mathlib.Core.Path.{_≡_, sym, ap, ap₂, _∙_}
+use mathlib.Core.List.{List, _∷_}
+use Prim.Native.Nat.{ℕ, _+_, _-_, _*_, _^_, _≤_, _<_}
+use native.Mathlib.Decide.{decLt, ℕ-discrete}
 use native.Mathlib.Omega.{arith}
-use lib.ListN.{length}
-use lib.Seq.{slice, length-slice}
+use lib.ListN.{length, getD, length-replicate, getD-replicate}
+use Rattle.rules.specs.declared.Refusal.the-variants.{Accepted}
+use Rattle.rules.specs.ReadList.{listU, decode}
+use Rattle.rules.specs.ReadTerm.{pagesOf, termRefusal}
 use Rattle.rules.specs.Questions.{starts, wordsIn}
-use Rattle.termlaws.proofs.PlaceLaws.{length-less}
-use Rattle.seeklaws.specs.Cursors.{firstAt}
-use Rattle.seeklaws.proofs.FirstLaws.{firstAt-le}
+use Rattle.termlaws.proofs.ReadLaws.{pages-listed}
+use Rattle.seeklaws.proofs.FirstLaws.{rising-lt}
 use Rattle.commonlaws.specs.Readers.{OnPage, AllOnPage}
 use Rattle.readlist.proofs.ReadLaws.{open-reads}
 use Rattle.seek.specs.Cursors.{spentMark}
-use Rattle.seek.proofs.OpenLaws.{open-length}
+use Rattle.seek.proofs.OpenLaws.{open-length, open-rising}
 use Rattle.query.specs.declared.Query.{Query}
 use Rattle.query.specs.declared.Turn.{Turn}
 use Rattle.query.specs.Lists.{span, partAt, shapeIn}
@@ -22,13 +22,21 @@ use Rattle.query.specs.Queries.{readerAt, leadIn, othersIn, Apt, Turned}
 use Rattle.query.proofs.SpanLaws.{span-cons}
 use Rattle.query.proofs.RunLaws.{came}
 use Rattle.query.proofs.TurnLaws.{turned-page}
-use Rattle.span.specs.Spans.{between, onPage}
-use Rattle.phrase.specs.declared.Starts.{Starts}
-use Rattle.phrase.specs.Starts.{standsIn, startsOver, startsIn}
-use Rattle.phrase.specs.Words.{elementsAt, spanIn, pageAt, pageIn, Words, Paged, Counted}
-use Rattle.phrase.proofs.Theorems.{page-starts, page-words, paged-later}
+use Rattle.span.specs.declared.Walk.{Walk}
+use Rattle.span.specs.Walks.{past}
+use Rattle.span.proofs.WalkLaws.{walk-new}
+use Rattle.span.proofs.SpanLaws.{page-in, before-mono}
+use Rattle.phrase.specs.declared.Ranks.{Ranks}
+use Rattle.phrase.specs.Starts.{startsIn}
+use Rattle.phrase.specs.Words.{elementsAt, walkIn, ranksOf, baseIn, endIn, pageAt, pageIn, Walked, Words, Begun, Counted}
+use Rattle.phrase.proofs.StartLaws.{over-few}
+use Rattle.phrase.proofs.PageLaws.{page-length}
+use Rattle.phrase.proofs.Theorems.{page-starts, page-words, lone-starts}
+use Rattle.openlists.specs.Places.{slotOf}
+use Rattle.kinds.specs.Ranks.{rankBy}
 use Rattle.kinds.proofs.RankLaws.{all-on}
-use Rattle.phrases.specs.Asked.{termAt, Asked, OnAll, Spanned, AfterPage}
+use Rattle.phrases.specs.Asked.{termAt, newWalks, Asked, OnAll, Ahead, TurnedWords}
+use Rattle.phrases.proofs.RankLaws.{is-ranked, page-there, from-is, to-is, positions-small}
 
 -- ---- the cursors after a turn
 
@@ -55,44 +63,128 @@ turned-on s ts pg q b a t u h =
       ]);
     }
 
--- ---- how many starts there may be
+-- ---- from page to page
 
-over-few : (pss : List (List ℕ)) (qs : List ℕ) → startsOver pss qs ≤ length qs
-unfolding startsOver
-over-few pss [] = omega arith
-over-few pss (q ∷ qs) = go (standsIn pss q) refl (over-few pss qs)
-  where
-    go : (b : Bool) → standsIn pss q ≡ b → startsOver pss qs ≤ length qs → startsOver pss (q ∷ qs) ≤ length (q ∷ qs)
-    go true e l = rw e (omega arith)
-    go false e l = rw e (omega arith)
+-- no element of any list is passed
+new-walk : (i : ℕ) → i < 8 → _≡_ {A = Walk} (walkIn newWalks i) (record { next = 0; past = 0; place = 0 })
+new-walk i h =
+    let x : getD newWalks (3 * i) 0 ≡ 0 = getD-replicate 24 (3 * i) 0 0 (omega arith) in
+    let y : getD newWalks (3 * i + 1) 0 ≡ 0 = getD-replicate 24 (3 * i + 1) 0 0 (omega arith) in
+    let z : getD newWalks (3 * i + 2) 0 ≡ 0 = getD-replicate 24 (3 * i + 2) 0 0 (omega arith) in
+    rw (x, y, z)
 
-module _ (s ts : List ℕ) (lead : ℕ) (pg ct ps : List ℕ) (a : Asked s ts lead pg ct ps) (p : ℕ) (xs : List ℕ) (f : Spanned s ts ps p (length ts) xs) where
-  first-few : length (pageAt s ps xs 0) ≤ 16777216
-  unfolding pageAt onPage between shapeIn
-  first-few =
-      let es : List ℕ = elementsAt s ps 0 in
-      let x = spanIn xs 0 in
-      let o = a .positions .slot 0 (a .pages .lists .some) .block .opened in
-      let r = open-reads (partAt s ps 0) (shapeIn ps 0) o in
-      rw (length-less (x .base) (slice (firstAt (x .base) es) (firstAt (x .end) es) es))
-      (rw (length-slice (firstAt (x .base) es) (firstAt (x .end) es) es (firstAt-le (x .end) es)) (omega (arith, firstAt-le (x .end) es, open-length (partAt s ps 0) (shapeIn ps 0) o, r .within, r .below)))
+pub ahead-new : (s ts : List ℕ) (lead : ℕ) (pg ct ps : List ℕ) → Asked s ts lead pg ct ps → Ahead s ts ct ps newWalks newWalks 0
+ahead-new s ts lead pg ct ps a = record {
+  counted-room = length-replicate {A = ℕ} 24 0;
+  walked-room = length-replicate {A = ℕ} 24 0;
+  each = λ i h.
+      let z = new-walk i (omega (arith, a .pages .lists .few)) in
+      let n : walkIn newWalks i .next ≡ 0 = ap (λ (v : Walk). v .next) z in
+      record {
+        counted = rw z (walk-new (partAt s ct i) (shapeIn ct i) (a .counts .slot i h .block .opened));
+        walked = rw z (walk-new (partAt s ps i) (shapeIn ps i) (a .positions .slot i h .block .opened));
+        ahead = λ r l b. (omega (arith, n), omega (arith, n));
+      };
+}
 
-  starts-few : startsIn (pageIn s ps xs (length ts)) ≤ 16777216
-  unfolding pageIn startsIn
-  starts-few =
-      let z : length ts - 0 ≡ length ts = omega arith in
-      let e = rw z at (span-cons (pageAt s ps xs) 0 (length ts) (a .pages .lists .some)) in
-      rw e (omega (arith, first-few, over-few (pageAt s ps xs 0 ∷ span (pageAt s ps xs) (0 + 1) (length ts - (0 + 1))) (pageAt s ps xs 0)))
+-- what has the pages from b on ahead has those from d on
+pub ahead-more : (s ts ct ps cw pw : List ℕ) (b d : ℕ) → b ≤ d → Ahead s ts ct ps cw pw b → Ahead s ts ct ps cw pw d
+ahead-more s ts ct ps cw pw b d l f = record {
+  counted-room = f .counted-room;
+  walked-room = f .walked-room;
+  each = λ i h. record { counted = f .each i h .counted; walked = f .each i h .walked; ahead = λ r m g. f .each i h .ahead r m (omega arith) };
+}
 
-  pub spanned-words : Words s ps xs (length ts)
-  spanned-words = page-words s ps xs p ts (f .each) (a .pages .lists .some) (a .pages .lists .few) (f .room) (λ i h. a .positions .slot i h .block)
+-- a page behind that of a rank has a larger one
+rank-later : (t : List ℕ) → termRefusal t ≡ Accepted → (r q p : ℕ) → r < length (decode (pagesOf t)) → getD (decode (pagesOf t)) r 0 ≡ p → p + 1 ≤ getD (decode (pagesOf t)) q 0 → r < q
+rank-later t a r q p h e l =
+    elim (decLt r q) [
+      | yes g ↦ g
+      | no g ↦ elim (ℕ-discrete r q) [
+        | yes d ↦ absurd (omega (arith, ap (λ (j : ℕ). getD (decode (pagesOf t)) j 0) d))
+        | no d ↦ absurd (omega (arith, rising-lt 0 (listU (pagesOf t)) (decode (pagesOf t)) (pages-listed t a .rises) q r (omega (arith, d)) h))
+      ]
+    ]
 
-  pub spanned-paged : (q : Query) → AfterPage s ts ps q p → Paged s ps (length ts) q (λ i. spanIn xs i .base)
-  spanned-paged q r = r p xs (omega arith) (f .each)
+module _ (s ts : List ℕ) (lead : ℕ) (pg ct ps : List ℕ) (a : Asked s ts lead pg ct ps) (p : ℕ) where
+  -- ---- all words turned to the page
 
-  pub page-counted : (r : Starts) → Counted s ps xs (length ts) r → (r .count ≡ starts (wordsIn s ts) p) × (r .count < 2 ^ 32) × AfterPage s ts ps (r .q) (p + 1)
-  page-counted r c = (
-    c .counted ∙ page-starts s ps xs p ts (f .each),
-    omega (arith, c .counted, starts-few),
-    λ d ys l t. paged-later s ps xs ys p d (length ts) (r .q) (termAt s ts) (f .each) t (omega arith) (c .ready),
-  )
+  module _ (cw pw xs : List ℕ) (f : TurnedWords s ts ct ps p (length ts) cw pw xs) where
+    pub turned-words : Words s ps xs (length ts)
+    turned-words = page-words s ps xs p ts (λ i h. f .turned i h .term) (a .pages .lists .some) (a .pages .lists .few) (f .spans-room) (λ i h. a .positions .slot i h .block)
+
+    pub turned-begun : Begun s ps xs (length ts) pw
+    turned-begun = record {
+      room = f .walked-room;
+      on = λ i h. f .turned i h .walked .on;
+      before = λ i h.
+          let d = f .turned i h in
+          d .walked .on .past-is ∙ ap (past (elementsAt s ps i)) (d .walked .at) ∙ rw (d .term .part-is) (sym (d .term .base-is));
+      inside = λ i h.
+          let d = f .turned i h in
+          let g = page-in (termAt s ts i) (d .term .accepts) (d .term .rank) (d .term .ranked) in
+          omega (arith, d .walked .at, d .term .end-is, g .some);
+    }
+
+    -- there are no more starts than the first word has elements
+    starts-few : startsIn (pageIn s ps xs (length ts)) ≤ 16777216
+    unfolding pageIn pageAt startsIn shapeIn
+    starts-few =
+        let z : length ts - 0 ≡ length ts = omega arith in
+        let e = rw z at (span-cons (pageAt s ps xs) 0 (length ts) (a .pages .lists .some)) in
+        let o = a .positions .slot 0 (a .pages .lists .some) .block .opened in
+        let r = open-reads (partAt s ps 0) (shapeIn ps 0) o in
+        let w = turned-words .within 0 (a .pages .lists .some) in
+        let n = page-length (listU (partAt s ps 0)) (elementsAt s ps 0) (open-rising (partAt s ps 0) (shapeIn ps 0) o) (baseIn xs 0) (endIn xs 0) (omega (arith, open-length (partAt s ps 0) (shapeIn ps 0) o)) in
+        rw e (omega (arith, n, w, r .within, r .below, over-few (pageAt s ps xs 0 ∷ span (pageAt s ps xs) (0 + 1) (length ts - (0 + 1))) (pageAt s ps xs 0)))
+
+    pub page-counted : (r : ℕ) (after : List ℕ) → Counted s ps xs (length ts) r after → (r ≡ starts (wordsIn s ts) p) × (r < 2 ^ 32) × Ahead s ts ct ps cw after (p + 1)
+    page-counted r after c = (
+      c .counted ∙ page-starts s ps xs p ts (λ i h. f .turned i h .term),
+      omega (arith, c .counted, starts-few),
+      record {
+        counted-room = f .counted-room;
+        walked-room = c .room;
+        each = λ i h.
+            let d = f .turned i h in
+            let y = d .term in
+            record {
+              counted = d .counted .on;
+              walked = c .on i h;
+              ahead = λ q l b.
+                  let g = rank-later (termAt s ts i) (y .accepts) (y .rank) q p (y .ranked) (y .page-is) b in
+                  (omega (arith, d .counted .at, g), omega (arith, c .inside i h, y .end-is, before-mono (termAt s ts i) (y .accepts) (y .rank + 1) q (omega (arith, g)) (omega arith)));
+            };
+      },
+    )
+
+  -- ---- a word alone
+
+  pub lone-counted : (q : Query) → OnAll s ts pg q p → length ts ≡ 1 → (cw pw : List ℕ) → Ahead s ts ct ps cw pw p
+      → (x : Ranks) → x ≡ ranksOf (elementsAt s ct 0) (rankBy pg q (slotOf lead 0)) → (after : List ℕ) → Walked s ct cw 0 (rankBy pg q (slotOf lead 0) + 1) after
+      → (x .from ≤ x .to) × (x .to - x .from ≡ starts (wordsIn s ts) p) × (x .to - x .from < 2 ^ 32) × Ahead s ts ct ps after pw (p + 1)
+  lone-counted q o one cw pw f x is after w =
+      let h : 0 < length ts = a .pages .lists .some in
+      let t : List ℕ = termAt s ts 0 in
+      let rank : ℕ = rankBy pg q (slotOf lead 0) in
+      let r = is-ranked s ts lead pg ct ps a q p o 0 h in
+      let e = page-there s ts lead pg ct ps a q p o 0 h in
+      let from = from-is s ts lead pg ct ps a q p o 0 h x is in
+      let to = to-is s ts lead pg ct ps a q p o 0 h x is in
+      let g = page-in t (a .accepts 0 h) rank r in
+      let n = positions-small s ts lead pg ct ps a q p o 0 h in (
+        omega (arith, from, to, g .some),
+        ap₂ (λ (u v : ℕ). u - v) to from ∙ lone-starts s ts p rank one (a .accepts 0 h) r e,
+        omega (arith, to, g .within, n),
+        record {
+          counted-room = w .readable .room;
+          walked-room = f .walked-room;
+          each = λ i l.
+              let z : i ≡ 0 = omega arith in
+              rw z (record {
+                counted = w .readable .on;
+                walked = f .each 0 h .walked;
+                ahead = λ j m b. (omega (arith, w .at, rank-later t (a .accepts 0 h) rank j p r e b), f .each 0 h .ahead j m (omega arith) .1);
+              });
+        },
+      )

@@ -20,13 +20,12 @@ use Rattle.query.specs.declared.Listed.{Listed}
 use Rattle.query.specs.Queries.{newQuery, leadIn, othersIn, seeksOf, looksOf, Turned}
 use Rattle.query.proofs.TurnLaws.{turned-page}
 use Rattle.query.proofs.ListingLaws.{Partway, partway-start, partway-few, partway-step, partway-end}
-use Rattle.phrase.specs.Words.{spanIn}
-use Rattle.phrase.proofs.Theorems.{paged-new}
 use Rattle.query.specs.Listings.{wholeFrom}
 use Rattle.openlists.proofs.FewLaws.{whole-few}
 use Rattle.wordlists.proofs.OpenLaws.{opened-listed}
 use Rattle.questions.proofs.WroteLaws.{laid-snoc, laid-first}
-use Rattle.phrases.specs.Asked.{pairOf, foundIn, Asked, AfterPage, Paired}
+use Rattle.phrases.specs.Asked.{pairOf, foundIn, newWalks, Asked, Ahead, Paired}
+use Rattle.phrases.proofs.PageLaws.{ahead-new}
 
 -- ---- page by page
 
@@ -115,28 +114,28 @@ module _ (s ts : List ℕ) (lead : ℕ) (pg ct ps room : List ℕ) (a : Asked s 
   ws = wordsIn s ts
 
   -- the pages of `seen` are gone through: their pairs are found, and laid if all fit
-  pub record Going (q at : Query) (b found : ℕ) (now : List ℕ) : Type 0 where
+  pub record Going (q : Query) (cw pw : List ℕ) (b found : ℕ) (now : List ℕ) : Type 0 where
     pub number : ℕ
     pub seen : List ℕ
     pub partway : Partway s pg (length ts) 0 q b number seen
-    pub after : AfterPage s ts ps at b
+    pub ahead : Ahead s ts ct ps cw pw b
     pub found-is : found ≡ length (withStarts ws seen)
     pub same : length now ≡ length room
     pub laid-so : length (foundIn s ts) < length room → now ≡ laid (0 ∷ withStarts ws seen) room
 
-  pub going-start : (first : List ℕ) → room ≡ set first 0 0 → 0 < length first → Going newQuery newQuery 0 0 room
+  pub going-start : (first : List ℕ) → room ≡ set first 0 0 → 0 < length first → Going newQuery newWalks newWalks 0 0 room
   unfolding withStarts
   going-start first e h = record {
     number = 0;
     seen = [];
     partway = partway-start s pg (length ts) 0 (a .pages .lists);
-    after = λ d xs l t. paged-new s ps (length ts) (a .pages .lists .few) (λ i m. a .positions .slot i m .block) (λ i. spanIn xs i .base);
+    ahead = ahead-new s ts lead pg ct ps a;
     found-is = refl;
     same = refl;
     laid-so = λ l. rw e (laid-first first 0 h ∙ sym (laid-zero [] first));
   }
 
-  module _ (q at : Query) (b found : ℕ) (now : List ℕ) (g : Going q at b found now) where
+  module _ (q : Query) (cw pw : List ℕ) (b found : ℕ) (now : List ℕ) (g : Going q cw pw b found now) where
     pub going-few : found < 2 ^ 26
     going-few = omega (arith, g .found-is, with-few ws (g .seen), g .partway .sized, partway-few s pg (length ts) 0 q b (g .number) (g .seen) (g .partway))
 
@@ -148,7 +147,7 @@ module _ (s ts : List ℕ) (lead : ℕ) (pg ct ps room : List ℕ) (a : Asked s 
           let f : withStarts ws (g .seen) ≡ foundIn s ts = ap (withStarts ws) (sym e) ∙ whole-found s ts lead pg ct ps a in
           (g .found-is ∙ ap length f, λ l. g .laid-so l ∙ ap (λ (x : List ℕ). laid (0 ∷ x) room) f)
 
-      module _ (h : t .mark ≡ spentMark → ⊥) (n : ℕ) (at′ : Query) (is : n ≡ starts ws (t .mark - 1)) (after′ : AfterPage s ts ps at′ (t .mark - 1 + 1)) where
+      module _ (h : t .mark ≡ spentMark → ⊥) (n : ℕ) (cw′ pw′ : List ℕ) (is : n ≡ starts ws (t .mark - 1)) (ahead′ : Ahead s ts ct ps cw′ pw′ (t .mark - 1 + 1)) where
         abbrev next-way : Partway s pg (length ts) 0 (t .q) (t .mark) (g .number + 1) (g .seen ++ (t .mark - 1) ∷ [])
         next-way = partway-step s pg (length ts) 0 q b (g .number) (g .seen) (g .partway) t u h
 
@@ -164,7 +163,7 @@ module _ (s ts : List ℕ) (lead : ℕ) (pg ct ps room : List ℕ) (a : Asked s 
             let l = length-append (withStarts ws (g .seen ++ (t .mark - 1) ∷ [])) (withStarts ws rest) in
             omega (arith, ap length f, l, ap length more)
 
-        pub going-on : (r : ℕ) (now′ : List ℕ) → Paired (withStarts ws (g .seen)) now (t .mark - 1) n r now′ → Going (t .q) at′ (t .mark) r now′
+        pub going-on : (r : ℕ) (now′ : List ℕ) → Paired (withStarts ws (g .seen)) now (t .mark - 1) n r now′ → Going (t .q) cw′ pw′ (t .mark) r now′
         going-on r now′ p =
             let m = turned-page s pg (length ts) q b (g .partway .running .apt) t u h .2 in
             let e : t .mark - 1 + 1 ≡ t .mark = omega (arith, m) in
@@ -172,7 +171,7 @@ module _ (s ts : List ℕ) (lead : ℕ) (pg ct ps room : List ℕ) (a : Asked s 
               number = g .number + 1;
               seen = g .seen ++ (t .mark - 1) ∷ [];
               partway = next-way;
-              after = rw e at after′;
+              ahead = rw e at ahead′;
               found-is = p .found ∙ ap length (sym more);
               same = p .same ∙ g .same;
               laid-so = λ l. p .laid room (g .laid-so l) (omega (arith, within, l)) ∙ ap (λ (x : List ℕ). laid (0 ∷ x) room) (sym more);

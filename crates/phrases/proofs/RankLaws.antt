@@ -1,11 +1,10 @@
--- The rank of a page by the cursor that is on it, and the spans of a page by the ranks.
-use mathlib.Core.Path.{_≡_, sym, ap, _∙_}
+-- The rank of a page by the cursor that is on it, and a word turned to the page by its rank.
+use mathlib.Core.Path.{_≡_, sym, ap, ap₂, _∙_}
 use mathlib.Core.List.{List}
-use Prim.Native.Nat.{ℕ, _+_, _*_, _<_}
+use Prim.Native.Nat.{ℕ, _+_, _≤_, _<_}
 use native.Mathlib.Decide.{ℕ-discrete}
 use native.Mathlib.Omega.{arith}
-use lib.ListN.{length, getD, set, length-set}
-use lib.Seq.{getD-set-same, getD-set-other}
+use lib.ListN.{length, getD}
 use Rattle.rules.specs.ReadList.{listN, decode}
 use Rattle.rules.specs.ReadTerm.{pagesOf, countsOf, positionsOf, readWord}
 use Rattle.rules.specs.Index.{wordOf}
@@ -13,20 +12,24 @@ use Rattle.rules.specs.Questions.{pagesIn as pagesOn}
 use Rattle.listlaws.proofs.ReadLaws.{accepted-length}
 use Rattle.termlaws.proofs.PassedLaws.{accepted-passed}
 use Rattle.termlaws.proofs.Theorems.{accepted-lists}
-use Rattle.seek.proofs.OpenLaws.{open-n}
+use Rattle.readlist.proofs.ReadLaws.{open-reads}
+use Rattle.seek.proofs.OpenLaws.{open-n, open-length}
 use Rattle.query.specs.declared.Query.{Query}
 use Rattle.query.specs.Lists.{numberOf, partAt, shapeIn, pagesAt, ListAt}
-use Rattle.span.specs.declared.Span.{Span}
-use Rattle.span.specs.Spans.{spanOf}
-use Rattle.phrase.specs.Words.{elementsAt, spanIn, WordAt, TermAt}
-use Rattle.phrase.proofs.Theorems.{term-word}
+use Rattle.span.specs.declared.Walk.{Walk}
+use Rattle.span.specs.Walks.{past}
+use Rattle.span.specs.Spans.{positionsBefore, PageIn}
+use Rattle.span.proofs.SpanLaws.{page-in}
+use Rattle.phrase.specs.declared.Ranks.{Ranks}
+use Rattle.phrase.specs.Words.{elementsAt, walkIn, ranksOf, withSpan, Readable, Walked}
+use Rattle.phrase.proofs.WordLaws.{spans-long, span-there, span-here}
 use Rattle.openlists.specs.Places.{slotOf}
 use Rattle.openlists.proofs.SourceLaws.{slot-lt}
 use Rattle.wordlists.specs.Lying.{listOf}
 use Rattle.wordlists.proofs.OpenLaws.{lead-within, slot-pages}
 use Rattle.kinds.specs.Ranks.{rankBy}
 use Rattle.kinds.proofs.RankLaws.{Ranked, ranked}
-use Rattle.phrases.specs.Asked.{termAt, Asked, OnAll, Spanned}
+use Rattle.phrases.specs.Asked.{termAt, Asked, OnAll, AheadOf, TurnedTo, TurnedWords}
 
 -- ---- the words' lists
 
@@ -49,13 +52,6 @@ module _ (s ts : List ℕ) (lead : ℕ) (pg ct ps : List ℕ) (a : Asked s ts le
     unfolding pagesOn wordOf readWord
     asked-pages = slot-pages s ts pg (a .pages) lead (a .leads) i h
 
-    pub asked-word : WordAt s ct ps i
-    unfolding listOf countsOf positionsOf
-    asked-word =
-        let c = a .counts .slot i h in
-        let p = a .positions .slot i h in
-        term-word s ct ps i (termAt s ts i) (a .accepts i h) (c .block) (p .block) (c .part-is) (p .part-is)
-
     -- as many counts as pages
     same-count : length (pagesAt s pg slot) ≡ numberOf ct i 7
     unfolding listOf countsOf shapeIn
@@ -75,49 +71,126 @@ module _ (s ts : List ℕ) (lead : ℕ) (pg ct ps : List ℕ) (a : Asked s ts le
       pub rank-counted : rankBy pg q slot < numberOf ct i 7
       rank-counted = rw (← same-count) (asked-rank .within)
 
-  -- ---- one span more
+  -- ---- one word more is turned
 
-  module _ (q : Query) (p : ℕ) (o : OnAll s ts pg q p) (i : ℕ) (h : i < k) (xs : List ℕ) (f : Spanned s ts ps p i xs) (x : Span)
-      (is : x ≡ spanOf (elementsAt s ct i) (elementsAt s ps i) (rankBy pg q (slotOf lead i))) where
-    abbrev after : List ℕ
-    after = set (set xs (2 * i) (x .base)) (2 * i + 1) (x .end)
+  module _ (q : Query) (p : ℕ) (o : OnAll s ts pg q p) (i : ℕ) (h : i < k) where
+    abbrev t : List ℕ
+    t = termAt s ts i
 
-    here : spanIn after i ≡ x
-    here =
-        let b : getD after (2 * i) 0 ≡ x .base = getD-set-other (set xs (2 * i) (x .base)) (2 * i + 1) (2 * i) (x .end) 0 (λ z. omega arith) ∙ getD-set-same xs (2 * i) (x .base) 0 (omega (arith, f .room, a .pages .lists .few)) in
-        let e : getD after (2 * i + 1) 0 ≡ x .end = getD-set-same (set xs (2 * i) (x .base)) (2 * i + 1) (x .end) 0 (rw length-set (omega (arith, f .room, a .pages .lists .few))) in
-        rw (b, e)
+    abbrev rank : ℕ
+    rank = rankBy pg q (slotOf lead i)
 
-    there : (j : ℕ) → j < i → spanIn after j ≡ spanIn xs j
-    there j l =
-        let b : getD after (2 * j) 0 ≡ getD xs (2 * j) 0 = getD-set-other (set xs (2 * i) (x .base)) (2 * i + 1) (2 * j) (x .end) 0 (λ z. omega arith) ∙ getD-set-other xs (2 * i) (2 * j) (x .base) 0 (λ z. omega arith) in
-        let e : getD after (2 * j + 1) 0 ≡ getD xs (2 * j + 1) 0 = getD-set-other (set xs (2 * i) (x .base)) (2 * i + 1) (2 * j + 1) (x .end) 0 (λ z. omega arith) ∙ getD-set-other xs (2 * i) (2 * j + 1) (x .base) 0 (λ z. omega arith) in
-        rw (b, e)
-
-    term-here : TermAt s ps after p i (termAt s ts i)
-    unfolding listOf countsOf positionsOf
-    term-here =
-        let r = asked-rank i h q p o in
+    pub is-ranked : rank < length (decode (pagesOf t))
+    is-ranked =
         let e = asked-pages i h in
-        record {
-          accepts = a .accepts i h;
-          rank = rankBy pg q (slotOf lead i);
-          ranked = rw e at (r .within);
-          page-is = rw e at (r .there);
-          part-is = a .positions .slot i h .part-is;
-          span-is = here ∙ is ∙ rw (a .counts .slot i h .part-is, a .positions .slot i h .part-is);
+        rw e at (asked-rank i h q p o .within)
+
+    pub page-there : getD (decode (pagesOf t)) rank 0 ≡ p
+    page-there =
+        let e = asked-pages i h in
+        rw e at (asked-rank i h q p o .there)
+
+    counts-part : partAt s ct i ≡ countsOf t
+    unfolding listOf countsOf
+    counts-part = a .counts .slot i h .part-is
+
+    positions-part : partAt s ps i ≡ positionsOf t
+    unfolding listOf positionsOf
+    positions-part = a .positions .slot i h .part-is
+
+    on-page : PageIn t rank
+    on-page = page-in t (a .accepts i h) rank is-ranked
+
+    -- there are few positions
+    pub positions-small : length (decode (positionsOf t)) ≤ 16777216
+    unfolding shapeIn
+    positions-small =
+        let o = a .positions .slot i h .block .opened in
+        let r = open-reads (partAt s ps i) (shapeIn ps i) o in
+        omega (arith, r .below, r .within, open-length (partAt s ps i) (shapeIn ps i) o, ap (λ (l : List ℕ). length (decode l)) positions-part)
+
+    -- what is asked where the page's ranks are read
+    pub rank-ready : (cw pw : List ℕ) → length cw ≡ 24 → AheadOf s ts ct ps cw pw p i → Readable s ct cw i × (walkIn cw i .next ≤ rank) × (rank < numberOf ct i 7)
+    rank-ready cw pw r f = (
+      record { block = a .counts .slot i h .block; room = r; on = f .counted },
+      f .ahead rank is-ranked (rw page-there (omega arith)) .0,
+      rank-counted i h q p o,
+    )
+
+    module _ (x : Ranks) (is : x ≡ ranksOf (elementsAt s ct i) rank) where
+      pub from-is : x .from ≡ positionsBefore t rank
+      from-is = rw (is, counts-part)
+
+      pub to-is : x .to ≡ positionsBefore t (rank + 1)
+      to-is = rw (is, counts-part)
+
+      -- what is asked where the word is turned to them
+      pub turn-ready : (cw pw : List ℕ) → length pw ≡ 24 → AheadOf s ts ct ps cw pw p i → Readable s ps pw i × (walkIn pw i .next ≤ x .from) × (x .from ≤ numberOf ps i 7)
+      unfolding shapeIn
+      turn-ready cw pw r f =
+          let b = a .positions .slot i h .block in
+          let n = open-length (partAt s ps i) (shapeIn ps i) (b .opened) in (
+            record { block = b; room = r; on = f .walked },
+            omega (arith, from-is, f .ahead rank is-ranked (rw page-there (omega arith)) .1),
+            omega (arith, from-is, on-page .some, on-page .within, n, ap (λ (l : List ℕ). length (decode l)) positions-part),
+          )
+
+      module _ (cw pw xs cw′ pw′ xs′ : List ℕ) (f : TurnedWords s ts ct ps p i cw pw xs) (c : Walked s ct cw i (rank + 1) cw′) (w : Walked s ps pw i (x .from) pw′)
+          (m : xs′ ≡ withSpan xs i (past (elementsAt s ps i) (x .from)) (x .to)) where
+        few : i < 8
+        few = omega (arith, a .pages .lists .few)
+
+        turned-here : TurnedTo s ts ct ps p cw′ pw′ xs′ i
+        turned-here =
+            let e = span-here xs i (past (elementsAt s ps i) (x .from)) (x .to) (f .spans-room) few in
+            record {
+              term = record {
+                accepts = a .accepts i h;
+                rank = rank;
+                ranked = is-ranked;
+                page-is = page-there;
+                part-is = positions-part;
+                base-is = rw m (e .0 ∙ ap₂ past (ap decode positions-part) from-is);
+                end-is = rw m (e .1 ∙ to-is);
+              };
+              counted = record { on = c .readable .on; at = c .at };
+              walked = record { on = w .readable .on; at = w .at ∙ from-is };
+            }
+
+        turned-there : (j : ℕ) → j < i → TurnedTo s ts ct ps p cw′ pw′ xs′ j
+        turned-there j l =
+            let d = f .turned j l in
+            let e = span-there xs i (past (elementsAt s ps i) (x .from)) (x .to) j (λ z. omega arith) in
+            let y = d .term in
+            record {
+              term = record {
+                accepts = y .accepts;
+                rank = y .rank;
+                ranked = y .ranked;
+                page-is = y .page-is;
+                part-is = y .part-is;
+                base-is = rw m (e .0 ∙ y .base-is);
+                end-is = rw m (e .1 ∙ y .end-is);
+              };
+              counted = rw (c .others j (λ z. omega arith)) (d .counted);
+              walked = rw (w .others j (λ z. omega arith)) (d .walked);
+            }
+
+        pub turned-more : TurnedWords s ts ct ps p (i + 1) cw′ pw′ xs′
+        turned-more = record {
+          counted-room = c .readable .room;
+          walked-room = w .readable .room;
+          spans-room = rw m (spans-long xs i (past (elementsAt s ps i) (x .from)) (x .to) ∙ f .spans-room);
+          turned = λ j l. elim (ℕ-discrete j i) [ yes e ↦ rw e turned-here | no e ↦ turned-there j (omega arith) ];
+          others = λ j l g.
+              let d = f .others j (omega arith) g in
+              let y = c .others j (λ z. omega arith) in
+              let z = w .others j (λ v. omega arith) in
+              record {
+                counted = rw y (d .counted);
+                walked = rw z (d .walked);
+                ahead = λ r m b.
+                    let e = d .ahead r m b in
+                    (omega (arith, e .0, ap (λ (v : Walk). v .next) y), omega (arith, e .1, ap (λ (v : Walk). v .next) z));
+              };
         }
-
-    term-there : (j : ℕ) → j < i → TermAt s ps after p j (termAt s ts j)
-    term-there j l =
-        let t = f .each j l in
-        record { accepts = t .accepts; rank = t .rank; ranked = t .ranked; page-is = t .page-is; part-is = t .part-is; span-is = there j l ∙ t .span-is }
-
-    pub spanned-more : Spanned s ts ps p (i + 1) after
-    spanned-more = record {
-      room = length-set (set xs (2 * i) (x .base)) (2 * i + 1) (x .end) ∙ length-set xs (2 * i) (x .base) ∙ f .room;
-      each = λ j l. elim (ℕ-discrete j i) [
-        | yes e ↦ rw e term-here
-        | no e ↦ term-there j (omega arith)
-      ];
-    }

@@ -2,11 +2,16 @@
 --
 --   pairOf p n          page p and its n starts, or nothing where n is 0
 --   foundIn s ts        the pairs of the phrase ts in the card s
+--   newWalks            reading of eight lists of which no element is passed
 --   Asked s ts lead pg ct ps  the lists of the words ts: the pages with those of word number lead first, counts and positions
 --                       each in its word's slot
 --   OnAll s ts pg q p   the cursor of each list of pages is on page p
---   Spanned s ts ps p n xs  the numbers xs hold the spans of page p for the first n words
---   AfterPage s ts ps q b   the cursors q on the positions are ready for any page from b on
+--   AheadOf s ts ct ps cw pw b i  of word i's counts and positions nothing of a page from b on is passed; reading stands
+--                       where cw and pw say
+--   Ahead s ts ct ps cw pw b  so it is of all words
+--   TurnedTo s ts ct ps p cw pw xs i  word i is turned to page p: reading stands before its positions there, and xs has
+--                       its span
+--   TurnedWords s ts ct ps p n cw pw xs  so are the first n words, and the others have that page ahead
 --   Paired a room p n r after  the pair of p and n was put behind the pairs a, if there was room; r numbers are found
 --   PairedBehind m room p n r after  so it is behind any pairs of m numbers
 use mathlib.Core.Bool.{cond}
@@ -14,19 +19,22 @@ use mathlib.Core.Path.{_≡_}
 use mathlib.Core.List.{List, [], _∷_, _++_}
 use Prim.Native.Nat.{ℕ, _+_, _≤_, _<_}
 use lib.Dec.{ltb}
-use lib.ListN.{length, getD}
+use lib.ListN.{length, getD, replicate}
 use Rattle.rules.specs.declared.Refusal.the-variants.{Accepted}
-use Rattle.rules.specs.ReadTerm.{termRefusal}
+use Rattle.rules.specs.ReadList.{decode}
+use Rattle.rules.specs.ReadTerm.{pagesOf, termRefusal}
 use Rattle.rules.specs.Index.{termPart}
 use Rattle.rules.specs.Common.{leadOf}
 use Rattle.rules.specs.Questions.{withStarts, commonPages, listsIn, wordsIn}
 use Rattle.rules.specs.Write.{laid}
 use Rattle.commonlaws.specs.Readers.{OnPage}
 use Rattle.query.specs.declared.Query.{Query}
-use Rattle.query.specs.Lists.{pagesAt, boundIn}
+use Rattle.query.specs.Lists.{partAt, shapeIn, pagesAt, boundIn}
 use Rattle.query.specs.Queries.{cursorIn, readerAt}
 use Rattle.seek.specs.Cursors.{Held}
-use Rattle.phrase.specs.Words.{spanIn, Paged, TermAt}
+use Rattle.span.specs.Walks.{WalkOn, PassedTo}
+use Rattle.span.specs.Spans.{positionsBefore}
+use Rattle.phrase.specs.Words.{walkIn, TermAt}
 use Rattle.wordlists.specs.Opened.{OpenedPages}
 use Rattle.openwords.specs.Slots.{Filled}
 
@@ -38,6 +46,9 @@ foundIn s ts = withStarts (wordsIn s ts) (commonPages (listsIn s ts))
 
 abbrev pub termAt : List ℕ → List ℕ → ℕ → List ℕ
 termAt s ts i = termPart (getD ts i 0) s
+
+abbrev pub newWalks : List ℕ
+newWalks = replicate 24 0
 
 pub record Asked (s ts : List ℕ) (lead : ℕ) (pg ct ps : List ℕ) : Type 0 where
   pub accepts : (i : ℕ) → i < length ts → termRefusal (termAt s ts i) ≡ Accepted
@@ -51,13 +62,28 @@ pub record OnAll (s ts pg : List ℕ) (q : Query) (p : ℕ) : Type 0 where
   pub held : (i : ℕ) → i < length ts → Held (boundIn pg) (pagesAt s pg i) (cursorIn q i)
   pub on-page : (i : ℕ) → i < length ts → OnPage p (readerAt s pg q i)
 
-pub record Spanned (s ts ps : List ℕ) (p n : ℕ) (xs : List ℕ) : Type 0 where
-  pub room : length xs ≡ 16
-  pub each : (i : ℕ) → i < n → TermAt s ps xs p i (termAt s ts i)
+pub record AheadOf (s ts ct ps cw pw : List ℕ) (b i : ℕ) : Type 0 where
+  pub counted : WalkOn (partAt s ct i) (shapeIn ct i) (walkIn cw i)
+  pub walked : WalkOn (partAt s ps i) (shapeIn ps i) (walkIn pw i)
+  pub ahead : (r : ℕ) → r < length (decode (pagesOf (termAt s ts i))) → b ≤ getD (decode (pagesOf (termAt s ts i))) r 0
+      → (walkIn cw i .next ≤ r) × (walkIn pw i .next ≤ positionsBefore (termAt s ts i) r)
 
-abbrev pub AfterPage : List ℕ → List ℕ → List ℕ → Query → ℕ → Type 0
-AfterPage s ts ps q b =
-    (d : ℕ) (xs : List ℕ) → b ≤ d → ((i : ℕ) → i < length ts → TermAt s ps xs d i (termAt s ts i)) → Paged s ps (length ts) q (λ i. spanIn xs i .base)
+pub record Ahead (s ts ct ps cw pw : List ℕ) (b : ℕ) : Type 0 where
+  pub counted-room : length cw ≡ 24
+  pub walked-room : length pw ≡ 24
+  pub each : (i : ℕ) → i < length ts → AheadOf s ts ct ps cw pw b i
+
+pub record TurnedTo (s ts ct ps : List ℕ) (p : ℕ) (cw pw xs : List ℕ) (i : ℕ) : Type 0 where
+  pub term : TermAt s ps xs p i (termAt s ts i)
+  pub counted : PassedTo (partAt s ct i) (shapeIn ct i) (term .rank + 1) (walkIn cw i)
+  pub walked : PassedTo (partAt s ps i) (shapeIn ps i) (positionsBefore (termAt s ts i) (term .rank)) (walkIn pw i)
+
+pub record TurnedWords (s ts ct ps : List ℕ) (p n : ℕ) (cw pw xs : List ℕ) : Type 0 where
+  pub counted-room : length cw ≡ 24
+  pub walked-room : length pw ≡ 24
+  pub spans-room : length xs ≡ 16
+  pub turned : (i : ℕ) → i < n → TurnedTo s ts ct ps p cw pw xs i
+  pub others : (i : ℕ) → n ≤ i → i < length ts → AheadOf s ts ct ps cw pw p i
 
 pub record Paired (a room : List ℕ) (p n r : ℕ) (after : List ℕ) : Type 0 where
   pub found : r ≡ length (a ++ pairOf p n)

@@ -12,13 +12,12 @@ ghost use Rattle.rules.specs.Questions.{starts, wordsIn, byPhrase};
 ghost use Rattle.rules.specs.Write.{laid};
 ghost use Rattle.questions.specs.Formed.{wordsGood};
 ghost use Rattle.questions.specs.Wrote.{Wrote};
-ghost use Rattle.phrases.specs.Asked.{foundIn, Asked, OnAll, Spanned, AfterPage, PairedBehind};
-use phrase::Starts;
+ghost use Rattle.phrases.specs.Asked.{foundIn, Asked, OnAll, Ahead, TurnedWords, PairedBehind};
 use query::Query;
 use seek::SPENT;
 
-// Puts the spans of the page that all cursors are on, two numbers a word; the pages of word `lead` come first.
-fn put_spans(
+// Turns each word to the page that all cursors are on, and puts its span; the pages of word `lead` come first.
+fn turn_words(
     card: &[u8],
     terms: &[u32],
     lead: usize,
@@ -27,22 +26,23 @@ fn put_spans(
     positions: &[u32],
     q: Query,
     page: usize,
+    counted: &mut [usize],
+    walked: &mut [usize],
     spans: &mut [usize],
 )
-    requires { ⌜ Asked (now card) (now terms) lead (now pages) (now counts) (now positions) × OnAll (now card) (now terms) (now pages) q page × (length (now spans) ≡ 16) ⌝ }
-    ensures { λ _. ⌜ Spanned (now (card .entry)) (now (terms .entry)) (now (positions .entry)) page (length (now (terms .entry))) (now (spans .exit)) ⌝ }
+    requires { ⌜ Asked (now card) (now terms) lead (now pages) (now counts) (now positions) × OnAll (now card) (now terms) (now pages) q page × Ahead (now card) (now terms) (now counts) (now positions) (now counted) (now walked) page × (length (now spans) ≡ 16) ⌝ }
+    ensures { λ _. ⌜ TurnedWords (now (card .entry)) (now (terms .entry)) (now (counts .entry)) (now (positions .entry)) page (length (now (terms .entry))) (now (counted .exit)) (now (walked .exit)) (now (spans .exit)) ⌝ }
 {
     let mut i = 0;
     while i < terms.len() {
         let rank = kinds::rank_in(pages, q, openlists::slot_of(lead, i));
-        let x = phrase::span_at(card, counts, positions, i, rank);
-        spans[2 * i] = x.base;
-        spans[2 * i + 1] = x.end;
+        let x = phrase::ranks_at(card, counts, i, rank, counted);
+        phrase::turn_to(card, positions, i, x, spans, walked);
         i += 1;
     }
 }
 
-// The starts on a page that all cursors q are on; the cursors `at` are those on the positions.
+// The starts on a page that all cursors are on; of a word alone, its positions there, and none of them is read.
 fn page_starts(
     card: &[u8],
     terms: &[u32],
@@ -51,14 +51,20 @@ fn page_starts(
     counts: &[u32],
     positions: &[u32],
     q: Query,
-    at: Query,
     page: usize,
-) -> Starts
-    requires { ⌜ Asked (now card) (now terms) lead (now pages) (now counts) (now positions) × OnAll (now card) (now terms) (now pages) q page × AfterPage (now card) (now terms) (now positions) at page ⌝ }
-    ensures { λ r. ⌜ (r .count ≡ starts (wordsIn (now (card .entry)) (now (terms .entry))) page) × (r .count < 2 ^ 32) × AfterPage (now (card .entry)) (now (terms .entry)) (now (positions .entry)) (r .q) (page + 1) ⌝ }
+    counted: &mut [usize],
+    walked: &mut [usize],
+) -> usize
+    requires { ⌜ Asked (now card) (now terms) lead (now pages) (now counts) (now positions) × OnAll (now card) (now terms) (now pages) q page × Ahead (now card) (now terms) (now counts) (now positions) (now counted) (now walked) page ⌝ }
+    ensures { λ r. ⌜ (r ≡ starts (wordsIn (now (card .entry)) (now (terms .entry))) page) × (r < 2 ^ 32) × Ahead (now (card .entry)) (now (terms .entry)) (now (counts .entry)) (now (positions .entry)) (now (counted .exit)) (now (walked .exit)) (page + 1) ⌝ }
 {
+    if terms.len() == 1 {
+        let rank = kinds::rank_in(pages, q, openlists::slot_of(lead, 0));
+        let x = phrase::ranks_at(card, counts, 0, rank, counted);
+        return x.to - x.from;
+    }
     let mut spans = [0usize; 16];
-    put_spans(
+    turn_words(
         card,
         terms,
         lead,
@@ -67,9 +73,11 @@ fn page_starts(
         positions,
         q,
         page,
+        counted,
+        walked,
         &mut spans,
     );
-    phrase::count_starts(card, positions, &spans, at, terms.len())
+    phrase::count_starts(card, positions, &spans, terms.len(), walked)
 }
 
 // Puts a page and its starts behind what was found, if there are any and there is room; how many numbers are found then.
@@ -103,7 +111,8 @@ fn list_starts(
 {
     room[0] = 0;
     let mut q = Query::new();
-    let mut at = Query::new();
+    let mut counted = [0usize; 24];
+    let mut walked = [0usize; 24];
     let mut b = 0;
     let mut found = 0;
     loop {
@@ -111,7 +120,7 @@ fn list_starts(
         if turn.mark == SPENT {
             return found;
         }
-        let s = page_starts(
+        let n = page_starts(
             card,
             terms,
             lead,
@@ -119,12 +128,12 @@ fn list_starts(
             counts,
             positions,
             turn.q,
-            at,
             turn.mark as usize - 1,
+            &mut counted,
+            &mut walked,
         );
-        found = put_pair(room, found, turn.mark - 1, s.count as u32);
+        found = put_pair(room, found, turn.mark - 1, n as u32);
         q = turn.q;
-        at = s.q;
         b = turn.mark as usize;
     }
 }

@@ -83,8 +83,9 @@ fn put(room: &mut [u32], at: usize, page: u32)
     }
 }
 
-// Goes over the pages at or above the bound that the first k lists share: lists all, as far as the room goes, or stops at
-// the first. It is the one loop of seeks: the query stays in it, and one cursor at a time goes by value through its seek.
+// Goes over the pages at or above the bound that the first k lists share: lists all, as far as the room goes, or stops
+// at the first. It is the one loop of seeks: the query stays in it, and one cursor at a time goes by value through its
+// seek.
 fn scan_lists(
     card: &[u8],
     shapes: &[u32],
@@ -178,8 +179,8 @@ fn totals(q: Query, found: usize) -> Listed
     }
 }
 
-// Counts the pages at or above the bound that the first k lists share, and lists them at the front of the room, as far as
-// it goes.
+// Counts the pages at or above the bound that the first k lists share, and lists them at the room's front, as far as it
+// goes.
 pub fn list_common(card: &[u8], shapes: &[u32], k: usize, bound: usize, room: &mut [u32]) -> Listed
     requires { ⌜ Lists (now card) (now shapes) k ⌝ }
     ensures { λ r. ⌜ Tells (wholeFrom (now (card .entry)) (now (shapes .entry)) k bound) r × (now (room .exit) ≡ fitted (wholeFrom (now (card .entry)) (now (shapes .entry)) k bound .listed) (now (room .entry))) ⌝ }

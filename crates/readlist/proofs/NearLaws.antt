@@ -1,7 +1,7 @@
 -- Laws of the pointers near a rank's share of them.
 use mathlib.Core.Path.{_≡_, refl}
 use mathlib.Core.List.{List}
-use Prim.Native.Nat.{ℕ, _+_, _*_, _/_, _^_, _≤_, _<_}
+use Prim.Native.Nat.{ℕ, _+_, _-_, _*_, _/_, _^_, _≤_, _<_}
 use native.Mathlib.Nat.{mul-comm, mul-le-mul, mul-le-mul-right, div-lt-iff-lt-mul}
 use native.Mathlib.Omega.{arith}
 use Rattle.shape.specs.declared.Shape.{Shape}
@@ -34,3 +34,9 @@ module _ (s : List ℕ) (g : Shape) (o : Open s g) (rank : ℕ) where
   -- behind the last there is none
   pub last-ends : (i : ℕ) → i ≡ pointersIn g → HighEnd s g rank i
   last-ends i e = record { within = omega arith; beyond = λ h. absurd (omega arith) }
+
+  -- below a pointer with more ones before it
+  pub below-ends : (i : ℕ) → 0 < i → i ≤ pointersIn g → 256 * i + rank < pointerOf s g i → HighEnd s g rank (i - 1)
+  below-ends i some l more =
+      let e : i - 1 + 1 ≡ i = omega arith in
+      record { within = omega arith; beyond = λ h. rw e more }

@@ -1,24 +1,57 @@
--- Laws of the upper run of an accepted block as a list of its own, and of a start at one of its pointers.
-use mathlib.Core.Path.{_≡_, ap, _∙_}
+-- Laws of the upper run of an accepted block as a list of its own, and of its ones from a place or a pointer on.
+use mathlib.Core.Path.{_≡_, sym, ap, _∙_}
 use mathlib.Core.List.{List}
-use Prim.Native.Nat.{ℕ, _+_, _-_, _*_, _/_, _%_, _^_, _≤_, _<_}
+use Prim.Native.Nat.{ℕ, _+_, _-_, _*_, _/_, _^_, _≤_, _<_}
 use native.Mathlib.Omega.{arith}
-use lib.Count.{ones}
 use lib.ListN.{length, take, drop, length-take, length-drop}
 use Rattle.rules.specs.Runs.{runWord, runBit, wordsFor}
 use Rattle.rules.specs.Counts.{onesBelow}
-use Rattle.laws.proofs.CountLaws.{word-ones, ones-part}
+use Rattle.bits.specs.Words.{nextOne}
+use Rattle.bits.proofs.WordLaws.{next-le}
+use Rattle.laws.proofs.CountLaws.{ones-part}
 use Rattle.laws.proofs.RunLaws.{run-part, words-hold, ones-flat}
 use Rattle.shape.specs.declared.Shape.{Shape}
-use Rattle.readlist.specs.Open.{Open, PointerAt, LastBefore}
-use Rattle.readlist.proofs.OneLaws.{count-lt}
+use Rattle.readlist.specs.Open.{Open, PointerAt, LastBefore, OneAt, OneAhead}
+use Rattle.readlist.proofs.OneLaws.{count-lt, next-counts, next-set}
 use Rattle.readlist.proofs.ReadLaws.{Reading, open-reads}
 
--- a start at pointer number i, `inner` ones of its word below it: what is left are the ones below the word
-pub record Split (run : List ℕ) (i rank start inner : ℕ) : Type 0 where
-  pub less : inner ≤ start - 256 * i
-  pub before : start - 256 * i - inner ≡ onesBelow run 0 (64 * (start / 64))
-  pub least : start - 256 * i - inner ≤ rank
+-- bit `bit` of word k is a one or the word's end, and no one lies between it and place `start`
+pub record Reached (s : List ℕ) (g : Shape) (start k bit : ℕ) : Type 0 where
+  pub inside : k < wordsFor (g .bits)
+  pub short : bit ≤ 64
+  pub flat : onesBelow s (g .upper) (64 * k + bit) ≡ onesBelow s (g .upper) start
+  pub set : bit < 64 → runBit s (g .upper) (64 * k + bit) ≡ 1
+
+module _ (s : List ℕ) (g : Shape) (o : Open s g) (start : ℕ) (some : onesBelow s (g .upper) start < g .n) where
+  read : Reading s g
+  read = open-reads s g o
+
+  -- a place with no more ones below it than the start lies in a word of the run
+  pub flat-inside : (p : ℕ) → onesBelow s (g .upper) p ≡ onesBelow s (g .upper) start → p / 64 < wordsFor (g .bits)
+  flat-inside p e = omega (arith, words-hold (g .bits), count-lt s (g .upper) p (g .bits) (omega (arith, read .counted)))
+
+  -- such a word lies in the block
+  pub word-inside : (k : ℕ) → k < wordsFor (g .bits) → (g .upper + 8 * k + 8 ≤ length s) × (k < 2 ^ 32)
+  unfolding wordsFor
+  word-inside k h = (omega (arith, read .full), omega (arith, read .below, read .within, read .many))
+
+  pub reach-word : (k from x bit : ℕ) → k < wordsFor (g .bits) → from ≤ 64 → onesBelow s (g .upper) (64 * k + from) ≡ onesBelow s (g .upper) start
+      → x ≡ runWord s (g .upper) k → bit ≡ nextOne 64 x from → Reached s g start k bit
+  reach-word k from x bit h l f e b = rw b (record {
+    inside = h;
+    short = next-le 64 x from l;
+    flat = next-counts s (g .upper) k x from e l ∙ f;
+    set = next-set s (g .upper) k x from e;
+  })
+
+  module _ (k : ℕ) (r : Reached s g start k 64) where
+    -- the word after one without
+    pub reach-past : (k + 1 < wordsFor (g .bits)) × (onesBelow s (g .upper) (64 * (k + 1) + 0) ≡ onesBelow s (g .upper) start)
+    reach-past =
+        let e : 64 * k + 64 ≡ 64 * (k + 1) + 0 = omega arith in
+        let f = rw e at (r .flat) in
+        let i = flat-inside (64 * (k + 1) + 0) f in
+        (omega (arith, i), f)
 
 module _ (s : List ℕ) (g : Shape) (o : Open s g) (run : List ℕ)
     (part : run ≡ take (g .end - g .upper) (drop (g .upper) s)) where
@@ -48,27 +81,32 @@ module _ (s : List ℕ) (g : Shape) (o : Open s g) (run : List ℕ)
       let f = ones-flat s (g .upper) (g .bits) d (λ p l h. opened .spare p l) in
       run-counts (64 * wordsFor (g .bits)) (omega arith) ∙ rw e at f ∙ opened .counted
 
-  -- the start at pointer number i, which has at most `rank` ones before it
-  module _ (i rank start : ℕ) (at : PointerAt s g i start) (last : LastBefore s g rank i) (lt : rank < g .n) where
-    start-ones : 256 * i + onesBelow s (g .upper) start ≡ start
-    start-ones = at .after .counted
+  -- ---- ones from a place on
 
-    pub start-lt : start < g .bits
-    start-lt =
-        count-lt s (g .upper) start (g .bits) (omega (arith, start-ones, at .defined, last .before, opened .counted))
+  module _ (start before rank : ℕ) (counted : onesBelow s (g .upper) start ≡ before) (least : before ≤ rank) (lt : rank < g .n) where
+    start-lt : start < g .bits
+    start-lt = count-lt s (g .upper) start (g .bits) (omega (arith, opened .counted))
 
-    pub start-word : start / 64 < wordsFor (g .bits)
-    start-word = omega (arith, words-hold (g .bits), start-lt)
-
-    -- of the ones below the start, `inner` lie in its word x
-    pub start-splits : (x inner : ℕ) → x ≡ runWord run 0 (start / 64) → inner ≡ ones (x % 2 ^ (start % 64))
-        → Split run i rank start inner
-    start-splits x inner e f =
-        let d : 64 * (start / 64) + start % 64 ≡ start = omega arith in
-        let c = rw (← e, ← f, d) at (word-ones run 0 (start / 64) (start % 64) (omega arith)) in
-        let t = run-counts start (omega (arith, words-hold (g .bits), start-lt)) in
+    pub run-ahead : OneAhead run start before rank
+    unfolding wordsFor
+    run-ahead =
+        let w : length run / 8 ≡ wordsFor (g .bits) = omega (arith, run-length) in
         record {
-          less = omega (arith, c, t, start-ones);
-          before = omega (arith, c, t, start-ones);
-          least = omega (arith, start-ones, at .defined, last .before);
+          passed = sym counted ∙ sym (run-counts start (omega (arith, words-hold (g .bits), start-lt)));
+          ahead = least;
+          some = rw (w, run-total) lt;
+          short = omega (arith, run-length, opened .below, opened .within, opened .many);
         }
+
+  -- a one of the run is one of the block's upper run
+  pub run-one : (rank p : ℕ) → OneAt run 0 rank p → p < 64 * (length run / 8) → OneAt s (g .upper) rank p
+  run-one rank p o l =
+      let h : p < 64 * wordsFor (g .bits) = omega (arith, run-length) in
+      record { set = sym (run-bits p h) ∙ o .set; below = sym (run-counts p (omega arith)) ∙ o .below }
+
+  -- the ones below pointer number i, which has at most `rank` of them
+  pub pointer-ones : (i rank start : ℕ) → PointerAt s g i start → LastBefore s g rank i
+      → (256 * i ≤ start) × (onesBelow s (g .upper) start ≡ start - 256 * i) × (start - 256 * i ≤ rank)
+  pointer-ones i rank start at last =
+      let e : 256 * i + onesBelow s (g .upper) start ≡ start = at .after .counted in
+      (omega (arith, e), omega (arith, e), omega (arith, e, at .defined, last .before))

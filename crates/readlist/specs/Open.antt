@@ -8,8 +8,7 @@
 --   Among s g rank low high  the last pointer with at most `rank` ones before it is one from number low to number high
 --   LastBefore s g rank i  pointer number i is the last with at most `rank` ones before it
 --   OneAt s at rank p  the one number `rank`, from 0, of the run at byte `at` stands at place p
---   OneAhead run k before rank  the one number `rank` lies in word k of the run or after it;
---                               `before` ones lie below that word
+--   OneAhead run p before rank  the one number `rank` lies at place p of the run or after it; `before` ones lie below p
 --   onesIn run         how many ones the words of the run have
 --   SomeOne run        they have one at least
 --   LastOne run p      the last of them stands at place p
@@ -63,8 +62,8 @@ pub record OneAt (s : List ℕ) (at rank p : ℕ) : Type 0 where
   pub below : onesBelow s at p ≡ rank
 
 -- the run starts at the first byte, and is short enough that its places fit
-pub record OneAhead (run : List ℕ) (k before rank : ℕ) : Type 0 where
-  pub passed : before ≡ onesBelow run 0 (64 * k)
+pub record OneAhead (run : List ℕ) (p before rank : ℕ) : Type 0 where
+  pub passed : before ≡ onesBelow run 0 p
   pub ahead : before ≤ rank
   pub some : rank < onesBelow run 0 (64 * (length run / 8))
   pub short : length run < 2 ^ 32

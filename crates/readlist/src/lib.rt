@@ -6,6 +6,7 @@ ghost use lib.Dec.{leb};
 ghost use lib.ListN.{length, take, drop, getD};
 ghost use Rattle.rules.specs.declared.Refusal.the-variants.{Accepted};
 ghost use Rattle.rules.specs.Runs.{field};
+ghost use Rattle.rules.specs.Counts.{onesBelow};
 ghost use Rattle.rules.specs.ReadList.{listU, listN, decode, listRefusal};
 ghost use Rattle.shape.specs.Shape.{shapeOf};
 ghost use Rattle.readlist.specs.Open.{Open, pointersIn, pointerOf, PointerAt, HighEnd, Among, LastBefore, OneAt, OneAhead, SomeOne, LastOne};
@@ -21,25 +22,6 @@ pub fn shape_at(block: &[u8]) -> Shape
     let u = bits::read_u32(block, 5) as usize;
     let n = bits::read_u32(block, 9) as usize;
     shape::shape_of(u, n)
-}
-
-// The pointers, four bytes each.
-pub fn pointers_of(block: &[u8], g: Shape) -> &[u8]
-    requires { ⌜ Open (now block) g ⌝ }
-    ensures { λ r. ⌜ now r ≡ take (g .lower - 13) (drop 13 (now (block .entry))) ⌝ }
-{
-    let to = g.lower;
-    &block[13..to]
-}
-
-// The lower run.
-pub fn lower_of(block: &[u8], g: Shape) -> &[u8]
-    requires { ⌜ Open (now block) g ⌝ }
-    ensures { λ r. ⌜ now r ≡ take (g .upper - g .lower) (drop (g .lower) (now (block .entry))) ⌝ }
-{
-    let from = g.lower;
-    let to = g.upper;
-    &block[from..to]
 }
 
 // The upper run.
@@ -173,7 +155,7 @@ pub fn pointer_before(block: &[u8], g: Shape, rank: usize) -> usize
 
 // The place of the one number `rank` of a run, of whose ones `before` lie below word `from`.
 pub fn one_from(run: &[u8], from: usize, before: usize, rank: usize) -> usize
-    requires { ⌜ OneAhead (now run) from before rank ⌝ }
+    requires { ⌜ OneAhead (now run) (64 * from) before rank ⌝ }
     ensures { λ r. ⌜ OneAt (now (run .entry)) 0 rank r × (r < 64 * (length (now (run .entry)) / 8)) ⌝ }
 {
     let mut k = from;
@@ -189,6 +171,16 @@ pub fn one_from(run: &[u8], from: usize, before: usize, rank: usize) -> usize
     64 * k + bits::select_one(x, (rank - passed) as u32) as usize
 }
 
+// The same, where `before` ones lie below place `start`.
+fn one_past(run: &[u8], start: usize, before: usize, rank: usize) -> usize
+    requires { ⌜ OneAhead (now run) start before rank ⌝ }
+    ensures { λ r. ⌜ OneAt (now (run .entry)) 0 rank r × (r < 64 * (length (now (run .entry)) / 8)) ⌝ }
+{
+    let k = start / 64;
+    let inner = bits::ones_below(bits::run_word(run, 0, k), start % 64) as usize;
+    one_from(run, k, before - inner, rank)
+}
+
 // The place in the upper run of the one number `rank`: from the last pointer before it.
 pub fn place_of(block: &[u8], g: Shape, rank: usize) -> usize
     requires { ⌜ Open (now block) g × (rank < g .n) ⌝ }
@@ -196,10 +188,7 @@ pub fn place_of(block: &[u8], g: Shape, rank: usize) -> usize
 {
     let i = pointer_before(block, g, rank);
     let start = pointer_at(block, g, i);
-    let run = upper_of(block, g);
-    let k = start / 64;
-    let inner = bits::ones_below(bits::run_word(run, 0, k), start % 64) as usize;
-    one_from(run, k, start - 256 * i - inner, rank)
+    one_past(upper_of(block, g), start, start - 256 * i, rank)
 }
 
 // Element number `rank`, found without reading the elements before it.
@@ -234,4 +223,31 @@ pub fn last_of(block: &[u8], g: Shape) -> usize
     let place = last_one(upper_of(block, g));
     let rank = g.n - 1;
     value_at(block, g, place, rank)
+}
+
+// ---- ones from a place on
+
+// That place, from `start` on, below which `before` ones lie; from a pointer where that is far.
+pub fn place_near(block: &[u8], g: Shape, start: usize, before: usize, rank: usize) -> usize
+    requires { ⌜ Open (now block) g × (rank < g .n) × (onesBelow (now block) (g .upper) start ≡ before) × (before ≤ rank) ⌝ }
+    ensures { λ r. ⌜ OneAt (now (block .entry)) (g .upper) rank r ⌝ }
+{
+    if before + 256 < rank {
+        return place_of(block, g, rank);
+    }
+    one_past(upper_of(block, g), start, before, rank)
+}
+
+// The place of the first one of the upper run at or after `start`.
+pub fn place_after(block: &[u8], g: Shape, start: usize) -> usize
+    requires { ⌜ Open (now block) g × (onesBelow (now block) (g .upper) start < g .n) ⌝ }
+    ensures { λ r. ⌜ OneAt (now (block .entry)) (g .upper) (onesBelow (now (block .entry)) (g .upper) start) r ⌝ }
+{
+    let mut k = start / 64;
+    let mut bit = bits::next_one(bits::run_word(block, g.upper, k), start % 64);
+    while bit == 64 {
+        k += 1;
+        bit = bits::next_one(bits::run_word(block, g.upper, k), 0);
+    }
+    64 * k + bit
 }

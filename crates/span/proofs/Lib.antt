@@ -1,1 +1,2 @@
+pub mod WalkLaws
 pub mod SpanLaws

@@ -1,38 +1,59 @@
-// Where one page's positions lie among a word's, by the page's rank: read from counts and positions, not from their start.
+// A list gone through by rank: from where reading stands, elements are passed up to a number, or up to a bound.
 
-ghost use mathlib.Core.Path.{_≡_};
-ghost use Prim.Native.Nat.{_≤_, _<_};
-ghost use Rattle.rules.specs.ReadList.{decode};
-ghost use Rattle.readlist.specs.Open.{Open};
-ghost use Rattle.span.specs.Spans.{past, spanOf, Paired};
+ghost use Prim.Native.Nat.{_+_, _≤_, _<_};
+ghost use Rattle.readlist.specs.Open.{Open, OneAt};
+ghost use Rattle.span.specs.Walks.{WalkOn, PassedTo, Passing, PassedBelow};
 use shape::Shape;
 
-// A page's elements of the positions' list are those from `base` on and below `end`; position = element - base.
-pub struct Span {
-    pub base: usize,
-    pub end: usize,
+// Where reading stands: how many elements are passed, one past the last of them, and the place behind its one.
+pub struct Walk {
+    pub next: usize,
+    pub past: usize,
+    pub place: usize,
 }
 
-// One past the last of the first i elements; 0 for i = 0.
-fn past(block: &[u8], g: Shape, i: usize) -> usize
-    requires { ⌜ Open (now block) g × (i ≤ g .n) ⌝ }
-    ensures { λ r. ⌜ r ≡ past (decode (now (block .entry))) i ⌝ }
+// Reading that has passed element number `rank`, whose one stands at `place`.
+fn walk_past(block: &[u8], g: Shape, place: usize, rank: usize) -> Walk
+    requires { ⌜ Open (now block) g × OneAt (now block) (g .upper) rank place ⌝ }
+    ensures { λ r. ⌜ PassedTo (now (block .entry)) g (rank + 1) r ⌝ }
 {
-    if i == 0 {
-        return 0;
+    Walk {
+        next: rank + 1,
+        past: readlist::value_at(block, g, place, rank) + 1,
+        place: place + 1,
     }
-    readlist::element_at(block, g, i - 1) + 1
 }
 
-// The span of the page number `rank`.
-pub fn span_of(counts: &[u8], gc: Shape, positions: &[u8], gp: Shape, rank: usize) -> Span
-    requires { ⌜ Paired (now counts) gc (now positions) gp × (rank < gc .n) ⌝ }
-    ensures { λ r. ⌜ r ≡ spanOf (decode (now (counts .entry))) (decode (now (positions .entry))) rank ⌝ }
+// Passes elements until n are passed.
+pub fn pass_to(block: &[u8], g: Shape, w: Walk, n: usize) -> Walk
+    requires { ⌜ WalkOn (now block) g w × (w .next ≤ n) × (n ≤ g .n) ⌝ }
+    ensures { λ r. ⌜ PassedTo (now (block .entry)) g n r ⌝ }
 {
-    let from = past(counts, gc, rank);
-    let to = past(counts, gc, rank + 1);
-    Span {
-        base: past(positions, gp, from),
-        end: past(positions, gp, to),
+    if n == w.next {
+        return w;
     }
+    let place = readlist::place_near(block, g, w.place, w.next, n - 1);
+    walk_past(block, g, place, n - 1)
+}
+
+// Passes the next element.
+pub fn pass_one(block: &[u8], g: Shape, w: Walk) -> Walk
+    requires { ⌜ WalkOn (now block) g w × (w .next < g .n) ⌝ }
+    ensures { λ r. ⌜ PassedTo (now (block .entry)) g (w .next + 1) r ⌝ }
+{
+    let place = readlist::place_after(block, g, w.place);
+    walk_past(block, g, place, w.next)
+}
+
+// Passes elements up to the first that is at least b, or all below number `to`.
+pub fn pass_below(block: &[u8], g: Shape, w: Walk, to: usize, b: usize) -> Walk
+    requires { ⌜ Passing (now block) g to b w × (to ≤ g .n) ⌝ }
+    ensures { λ r. ⌜ PassedBelow (now (block .entry)) g to b w r ⌝ }
+{
+    let mut at = w;
+    while at.next < to && at.past <= b {
+        let next = pass_one(block, g, at);
+        at = next;
+    }
+    at
 }

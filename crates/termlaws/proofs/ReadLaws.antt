@@ -10,14 +10,13 @@ use lib.ListN.{length, take, drop}
 use lib.Seq.{drop-cons}
 use Rattle.rules.specs.declared.Refusal.the-variants.{Accepted}
 use Rattle.rules.specs.Limits.{limit, version, listHeader}
-use Rattle.rules.specs.Bytes.{sized}
+use Rattle.rules.specs.Bytes.{Bytes, sized}
 use Rattle.rules.specs.List.{rising, block}
 use Rattle.rules.specs.ReadList.{stated, listU, listN, decode, listRefusal}
 use Rattle.rules.specs.Term.{total, sums, next, places, inOrder, termBlock}
 use Rattle.rules.specs.Parts.{after, part, inside}
 use Rattle.rules.specs.ReadTerm.{listsOf, pagesOf, countsOf, positionsOf, gaps, readWord, termRefusal}
 use Rattle.laws.specs.Blocks.{Lies}
-use Rattle.laws.proofs.ByteLaws.{Bytes}
 use Rattle.laws.proofs.PartLaws.{whole-sized, inside-parts, inside-lies, part-after}
 use Rattle.listlaws.proofs.ValidLaws.{valid-parts}
 use Rattle.termlaws.specs.Words.{listAt, Agreeing, Writable, Passed, ListsPass}

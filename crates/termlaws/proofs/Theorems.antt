@@ -8,12 +8,12 @@ use borrow.Author.Tests.{le-ltb, ltb-false, not-false}
 use lib.Dec.{ltb, lit<}
 use lib.ListN.{length, take}
 use Rattle.rules.specs.declared.Refusal.the-variants.{Accepted, Limit, Lists}
+use Rattle.rules.specs.Bytes.{Bytes}
 use Rattle.rules.specs.Limits.{limit}
 use Rattle.rules.specs.ReadList.{listU}
 use Rattle.rules.specs.Write.{Made, refused, stored}
 use Rattle.rules.specs.Term.{Word, next, places, validWord, termBlock, writeTerm}
 use Rattle.rules.specs.ReadTerm.{pagesOf, readWord, termRefusal}
-use Rattle.laws.proofs.ByteLaws.{Bytes}
 use Rattle.laws.proofs.RoomLaws.{success, take-laid, drop-laid, made-passed, stored-fits, fits-stored}
 use Rattle.termlaws.specs.Words.{Writable, Sizes, ListsPass, Written}
 use Rattle.termlaws.proofs.BlockLaws.{term-short, term-header, term-whole, term-accepted, term-N, term-read}

@@ -10,12 +10,13 @@ use lib.Dec.{ltb}
 use lib.ListN.{set, length-set, length, getD, take, drop, length-take, length-drop}
 use lib.Seq.{getD-set-same, getD-set-other, take-take, drop-drop, take-nil}
 use Rattle.rules.specs.declared.Refusal.the-variants.{Accepted}
+use Rattle.rules.specs.Bytes.{Bytes}
 use Rattle.rules.specs.Parts.{part}
 use Rattle.rules.specs.ReadTerm.{listsOf}
 use Rattle.rules.specs.Index.{termPart, indexRefusal}
 use Rattle.rules.specs.Questions.{allBelow}
 use Rattle.rules.specs.ReadList.{stated}
-use Rattle.laws.proofs.ByteLaws.{Bytes, beAt-lt}
+use Rattle.laws.proofs.ByteLaws.{beAt-lt}
 use Rattle.cardlaws.proofs.PassedLaws.{accepted-passed}
 use Rattle.parts.specs.declared.Place.{Place}
 use Rattle.parts.specs.Places.{Placed}

@@ -9,12 +9,12 @@ use native.Mathlib.Omega.{arith}
 use lib.ListN.{length, getD, drop, length-append, length-drop, List·getD-append}
 use lib.Pow.{shr-mono}
 use lib.Seq.{ext-getD, getD-append-add, getD-drop}
-use Rattle.rules.specs.Bytes.{beAt}
+use Rattle.rules.specs.Bytes.{Bytes, beAt}
 use Rattle.rules.specs.Runs.{runWord, wordsFor}
 use Rattle.rules.specs.List.{width, zeros, lower, upper, size, pointer, block}
 use Rattle.rules.specs.ReadList.{stated, listU, listN}
 use Rattle.rules.specs.Write.{laid}
-use Rattle.laws.proofs.ByteLaws.{Bytes, Alike, alike-append, alike-read, alike-reads}
+use Rattle.laws.proofs.ByteLaws.{Alike, alike-append, alike-read, alike-reads}
 use Rattle.shape.specs.declared.Shape.{Shape}
 use Rattle.listlaws.specs.Sound.{least, onesTo, After}
 use Rattle.listlaws.proofs.AfterLaws.{ones-steps, ones-none, after-le, after-unique, afterZero-is}

@@ -5,12 +5,12 @@ use Prim.Native.Nat.{ℕ, _≤_}
 use lib.ListN.{length, take, drop}
 use Rattle.rules.specs.declared.Refusal.the-variants.{Accepted}
 use Rattle.rules.specs.declared.Written.{Written}
+use Rattle.rules.specs.Bytes.{Bytes}
 use Rattle.rules.specs.ReadList.{listU}
 use Rattle.rules.specs.Write.{made}
 use Rattle.rules.specs.Term.{Word, termBlock, writeTerm}
 use Rattle.rules.specs.ReadTerm.{pagesOf, readWord, termRefusal}
 use Rattle.rules.specs.Promises.{TermWritten}
-use Rattle.laws.proofs.ByteLaws.{Bytes}
 use Rattle.laws.proofs.RoomLaws.{success}
 use Rattle.termlaws.specs.Words.{Writable}
 use Rattle.termlaws.proofs.Theorems.{written, write-again}

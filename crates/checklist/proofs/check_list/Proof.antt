@@ -6,9 +6,9 @@ use native.Mathlib.Omega.{arith}
 use borrow.Author.Needs.{needs}
 use borrow.Author.Tests.{not-true, not-false}
 use lib.ListN.{length}
+use Rattle.rules.specs.Bytes.{Bytes}
 use Rattle.rules.specs.List.{size}
 use Rattle.rules.specs.ReadList.{stated, listU, listN}
-use Rattle.laws.proofs.ByteLaws.{Bytes}
 use Rattle.shape.specs.declared.Shape.{Shape}
 use Rattle.shape.specs.Shape.{shapeOf}
 use Rattle.listlaws.specs.Sound.{Framed}

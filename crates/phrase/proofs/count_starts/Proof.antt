@@ -1,132 +1,96 @@
--- `count_starts` goes through the first word's positions:
--- those found so far are counted, and what is left is still to count.
-use Prim.Native.Nat.{_+_, _-_, _<_}
+-- `count_starts` goes through the first word's positions: those tried are counted, and what is left is still to count.
+use mathlib.Core.Path.{sym, ap, _∙_}
+use Prim.Native.Nat.{_-_}
 use native.Mathlib.Omega.{arith}
-use borrow.Author.Needs.{needs}
-use lib.Dec.{lit<}
-use Rattle.seek.specs.Cursors.{unused}
-use Rattle.query.specs.Queries.{cursorIn}
-use Rattle.phrase.specs.Words.{spanIn}
-use Rattle.phrase.proofs.CountLaws.{Counting, Tried, counting-begins, counting-ends}
-use Rattle.phrase.proofs.CountLaws.{counting-tries, counting-goes, stood-one, stood-ready}
+use borrow.Author.Tests.{not-true, not-false}
+use Rattle.span.specs.declared.Walk.{Walk}
+use Rattle.phrase.specs.Words.{walkIn, endIn}
+use Rattle.phrase.proofs.CountLaws.{Counting, Trying, counting-begins, counting-ready, counting-ends, counting-tries, counting-goes, counting-last, stood-one}
 use Rattle.phrase.proofs.count_starts.Statement.{statement}
 use Rattle.phrase.proofs.count_starts.Tie as tie
 
 abbrev Inv-loop : tie.InvT-loop
-Inv-loop card shapes spans k x q₀ count₀ mark₀ q count mark = Counting card shapes spans k q count mark
+Inv-loop card shapes spans k walks₀ count₀ walks count = Counting card shapes spans k walks count
 
 abbrev μ-loop : tie.MeasureT-loop
-μ-loop card shapes spans k x q₀ count₀ mark₀ q count mark = x .end + 1 - mark
-
-span-in-requires : tie.Need-span-in-requires Inv-loop μ-loop
-span-in-requires c κs = (c .before .before .before .pre .0 .room, lit< tt)
-
-seek-on-requires : tie.Need-seek-on-requires Inv-loop μ-loop
-seek-on-requires c κs =
-    let p = c .before .before .before .before .pre in
-    let some = p .0 .some in
-    (p .0 .lists 0 some, record { eight = p .1 .eight; held = p .1 .each 0 some .held })
+μ-loop card shapes spans k walks₀ count₀ walks count = endIn spans 0 - walkIn walks 0 .next
 
 loop-holds : tie.Need-loop-holds Inv-loop μ-loop
-unfolding unused
 loop-holds c =
-    let x = c .before .before .before in
-    let start = x .before .before .before .before in
+    let start = c .before .before .before .before in
     let a = start .args in
-    counting-begins (a .card .now) (a .shapes .now) (a .spans .now) (a .k) (start .pre .0) (a .query) (start .pre .1)
-    (c .before .before .seek-on .result) (rw (x .span-in .ensures) at (c .before .before .seek-on .ensures))
+    counting-begins (a .card .now) (a .shapes .now) (a .spans .now) (a .k) (start .pre .0) (a .walks .now) (start .pre .1)
 
--- the first word's span, and the start, seen from the loop's head
-abbrev spanned : tie.At-loop Inv-loop μ-loop → tie.After-span-in Inv-loop μ-loop
-spanned c = c .before .before .before .before
-
-abbrev entry : tie.At-loop Inv-loop μ-loop → tie.Start Inv-loop μ-loop
-entry c = spanned c .before .before .before .before
-
-tried : (c : tie.Then1 Inv-loop μ-loop)
-    → let a = entry (c .before .before) .args in
-    let l = c .before .before .loop in
-    Tried (a .card .now) (a .shapes .now) (a .spans .now) (a .k) (l .q) (l .count) (l .mark)
-tried c =
+pass-on-requires : tie.Need-pass-on-requires Inv-loop μ-loop
+pass-on-requires c κs =
+    let start = c .before .before .before .before .before .before .before in
+    let a = start .args in
+    let w = start .pre .0 in
     let at = c .before .before .loop in
-    let start = entry (c .before .before) in
-    let a = start .args in
-    counting-tries (a .card .now) (a .shapes .now) (a .spans .now) (a .k) (start .pre .0) (at .q) (at .count)
-    (at .mark) (at .inv)
-    (rw (spanned (c .before .before) .span-in .ensures) at (c .if1 .taken))
+    (w .lists 0 (w .some), w .room, counting-ready (a .card .now) (a .shapes .now) (a .spans .now) (a .k) w (at .walks) (at .count) (at .inv))
 
-sub-stand-2 : tie.Need-sub-stand-2 Inv-loop μ-loop
-sub-stand-2 c = rw (spanned (c .before .before .before) .span-in .ensures) (omega (arith, tried (c .before) .behind))
-
-stand-requires : tie.Need-stand-requires Inv-loop μ-loop
-stand-requires c κs =
-    let t = tried (c .before) in
-    rw (spanned (c .before .before .before) .span-in .ensures)
-    (entry (c .before .before .before) .pre .0, t .beside, omega (arith, t .small))
-
-add-count : tie.Need-add-count Inv-loop μ-loop
-add-count c =
-    let n = c .before .before .before in
-    let a = entry (n .before .before) .args in
-    let t = tried n in
-    let stood = c .before .stand in
-    let st = rw (spanned (n .before .before) .span-in .ensures) at (stood .ensures) in
-    omega (
-      arith,
-      t .few,
-      t .small,
-      stood-one (a .card .now) (a .shapes .now) (a .spans .now) (a .k) (n .before .before .loop .q)
-          (n .before .before .loop .mark - 1 - spanIn (a .spans .now) 0 .base) (stood .result) st,
-    )
-
-seek-on-requires-2 : tie.Need-seek-on-requires-2 Inv-loop μ-loop
-seek-on-requires-2 c κs =
-    let n = c .before .before .before in
-    let at = n .before .before .loop in
-    let start = entry (n .before .before) in
-    let a = start .args in
-    let stood = c .before .stand in
-    let r =
-    stood-ready (a .card .now) (a .shapes .now) (a .spans .now) (a .k) (start .pre .0) (at .q) (at .count)
-    (at .mark) (at .inv)
-    (at .mark - 1 - spanned (n .before .before) .span-in .result .base) (stood .result) (stood .ensures) in
-    (start .pre .0 .lists 0 (start .pre .0 .some), record { eight = stood .ensures .beside .eight; held = r .held })
-
--- the count after a turn, and its mark
-goes : (c : tie.After-seek-on2 Inv-loop μ-loop)
-    → let a = entry (c .before .before .before .before .before .before) .args in
-    let l = c .before .before .before .before .before .before .loop in
-    Counting (a .card .now) (a .shapes .now) (a .spans .now) (a .k) (c .seek-on2 .result)
-    (l .count + c .before .before .stand .result .count) (cursorIn (c .seek-on2 .result) 0 .mark)
-    × (l .mark < cursorIn (c .seek-on2 .result) 0 .mark)
-goes c =
-    let n = c .before .before .before .before in
-    let at = n .before .before .loop in
-    let x = spanned (n .before .before) in
-    let start = entry (n .before .before) in
-    let a = start .args in
-    let stood = c .before .before .stand in
-    counting-goes (a .card .now) (a .shapes .now) (a .spans .now) (a .k) (start .pre .0) (at .q) (at .count)
-    (at .mark) (at .inv)
-    (rw (x .span-in .ensures) at (n .if1 .taken)) (stood .result) (rw (x .span-in .ensures) at (stood .ensures))
-    (c .seek-on2 .result) (c .seek-on2 .ensures)
-
-loop-less : tie.Need-loop-less Inv-loop μ-loop
-unfolding unused
-loop-less c = omega (arith, goes (c .before .before) .1, c .before .before .before .before .before .before .if1 .taken)
-
-loop-again : tie.Need-loop-again Inv-loop μ-loop
-unfolding unused
-loop-again c = goes (c .before .before) .0
+same-length : tie.Need-same-length Inv-loop μ-loop
+same-length c =
+    c .before .before .before .pass-on .ensures .ready .room ∙ sym (c .before .before .before .before .before .before .before .before .before .before .before .pre .1 .room)
 
 returns : tie.Need-returns Inv-loop μ-loop
 returns c =
-    let at = c .before .before .loop in
-    let start = entry (c .before .before) in
+    let start = c .before .before .before .before .before .before .before .before .before .before .before in
     let a = start .args in
-    counting-ends (a .card .now) (a .shapes .now) (a .spans .now) (a .k) (start .pre .0) (at .q) (at .count)
-    (at .mark) (at .inv)
-    (rw (spanned (c .before .before) .span-in .ensures) at (c .if1 .left))
+    let at = c .before .before .before .before .before .before .loop in
+    counting-ends (a .card .now) (a .shapes .now) (a .spans .now) (a .k) (start .pre .0) (at .walks) (at .count) (at .inv) _ _ (c .before .before .before .pass-on .ensures) (not-true _ (c .if1 .taken))
+
+-- the position to try
+trying : (c : tie.Else1 Inv-loop μ-loop)
+    → Trying (c .before .before .before .before .before .before .before .before .before .before .before .args .card .now)
+    (c .before .before .before .before .before .before .before .before .before .before .before .args .shapes .now)
+    (c .before .before .before .before .before .before .before .before .before .before .before .args .spans .now)
+    (c .before .before .before .before .before .before .before .before .before .before .before .args .k)
+    (c .before .before .before .before .before .before .loop .walks) (c .before .before .before .pass-on .last .1 .1 .1 .1 .1 .0)
+trying c =
+    let start = c .before .before .before .before .before .before .before .before .before .before .before in
+    let a = start .args in
+    let at = c .before .before .before .before .before .before .loop in
+    counting-tries (a .card .now) (a .shapes .now) (a .spans .now) (a .k) (start .pre .0) (at .walks) (at .count) (at .inv) _ _ (c .before .before .before .pass-on .ensures) (not-false _ (c .if1 .left))
+
+stand-requires : tie.Need-stand-requires Inv-loop μ-loop
+stand-requires c κs =
+    let y = trying (c .before .before .before) in
+    let p = c .before .before .before .before .before .before .before .before .before .before .before .before .before .before .pre in
+    (p .0, y .beside, omega (arith, y .small))
+
+add-count : tie.Need-add-count Inv-loop μ-loop
+add-count c =
+    let y = trying (c .before .before .before .before .before .before .before) in
+    let at = c .before .before .before .before .before .before .before .before .before .before .before .before .before .loop in
+    omega (arith, y .few, y .next-is, at .inv .few, stood-one _ _ _ _ _ _ _ _ (c .before .before .before .stand .ensures))
+
+same-length-2 : tie.Need-same-length-2 Inv-loop μ-loop
+same-length-2 c =
+    c .before .before .before .before .stand .ensures .beside .room
+    ∙ sym (c .before .before .before .before .before .before .before .before .before .before .before .before .before .before .before .before .before .before .before .pre .1 .room)
+
+returns-2 : tie.Need-returns-2 Inv-loop μ-loop
+returns-2 c =
+    let tried = c .before .before .before .before .before .before .before .before in
+    let at = tried .before .before .before .before .before .before .loop in
+    let start = tried .before .before .before .before .before .before .before .before .before .before .before in
+    let a = start .args in
+    counting-last (a .card .now) (a .shapes .now) (a .spans .now) (a .k) (start .pre .0) (at .walks) (at .count) (at .inv) _ (trying tried) _ _ (c .before .before .before .before .stand .ensures) (c .if2 .taken)
+
+loop-less : tie.Need-loop-less Inv-loop μ-loop
+loop-less c =
+    let y = trying (c .before .before .before .before .before .before .before .before) in
+    let e = ap (λ (v : Walk). v .next) (c .before .before .before .before .stand .ensures .first) in
+    omega (arith, y .inside, y .next-is, e)
+
+loop-again : tie.Need-loop-again Inv-loop μ-loop
+loop-again c =
+    let tried = c .before .before .before .before .before .before .before .before in
+    let at = tried .before .before .before .before .before .before .loop in
+    let start = tried .before .before .before .before .before .before .before .before .before .before .before in
+    let a = start .args in
+    counting-goes (a .card .now) (a .shapes .now) (a .spans .now) (a .k) (start .pre .0) (at .walks) (at .count) (at .inv) _ (trying tried) _ _ (c .before .before .before .before .stand .ensures)
 
 pub count-starts-spec : {M : Type 1} → statement M
 count-starts-spec =
@@ -134,18 +98,18 @@ count-starts-spec =
     (tie.spec
     Inv-loop
     μ-loop
-    span-in-requires
-    seek-on-requires
-    (λ c. search needs)
-    (λ c. search needs)
     loop-holds
-    (λ c. omega (arith, tried c .behind))
-    sub-stand-2
+    (λ c. omega (arith, c .before .loop .inv .beside .room))
+    pass-on-requires
+    same-length
+    returns
+    (λ c. omega (arith, trying (c .before) .beside .room))
+    (λ c. omega (arith, trying (c .before) .behind))
+    (λ c. omega (arith, c .before .before .before .before .before .before .before .before .before .before .before .before .before .pre .0 .room))
+    (λ c. omega (arith, trying (c .before .before) .behind))
     stand-requires
     add-count
-    seek-on-requires-2
-    (λ c. search needs)
-    (λ c. search needs)
+    same-length-2
+    returns-2
     loop-less
-    loop-again
-    returns)
+    loop-again)

@@ -1,26 +1,72 @@
--- `page_starts` puts the page's spans, and counts the starts by them.
+-- `page_starts` takes a word's positions where it is alone, else turns the words to the page and counts their starts.
+use mathlib.Core.Path.{_≡_, ap, _∙_}
 use borrow.Author.Needs.{needs}
-use Rattle.phrases.proofs.PageLaws.{spanned-words, spanned-paged, page-counted}
+use Rattle.openlists.specs.Places.{slotOf}
+use Rattle.kinds.specs.Ranks.{rankBy}
+use Rattle.phrases.proofs.RankLaws.{asked-list, asked-rank, rank-ready}
+use Rattle.phrases.proofs.PageLaws.{turned-words, turned-begun, page-counted, lone-counted}
 use Rattle.phrases.proofs.page_starts.Statement.{statement}
 use Rattle.phrases.proofs.page_starts.Tie as tie
 
-count-starts-requires : tie.Need-count-starts-requires
-count-starts-requires c κs =
+rank-in-requires : tie.Need-rank-in-requires
+rank-in-requires c κs =
     let b = c .before .before .before .before .before .before .before .before .before in
-    let f = c .before .before .put-spans .ensures in
-    (spanned-words _ _ _ _ _ _ (b .pre .0) _ _ f, spanned-paged _ _ _ _ _ _ (b .pre .0) _ _ f _ (b .pre .2))
+    let h = b .pre .0 .pages .lists .some in
+    let r = asked-rank _ _ _ _ _ _ (b .pre .0) 0 h _ _ (b .pre .1) in
+    let l = asked-list _ _ _ _ _ _ (b .pre .0) 0 h in
+    rw (c .slot-of .ensures) (l .room, l .few, b .pre .1 .eight, r .on-element)
+
+-- the rank that was read
+ranked : (c : tie.After-rank-in) → c .rank-in .result ≡ rankBy (c .before .before .before .before .before .before .before .before .before .before .args .pages .now) (c .before .before .before .before .before .before .before .before .before .before .args .q) (slotOf (c .before .before .before .before .before .before .before .before .before .before .args .lead) 0)
+ranked c = c .rank-in .ensures ∙ ap (rankBy (c .before .before .before .before .before .before .before .before .before .before .args .pages .now) (c .before .before .before .before .before .before .before .before .before .before .args .q)) (c .before .slot-of .ensures)
+
+ranks-at-requires : tie.Need-ranks-at-requires
+ranks-at-requires c κs =
+    let b = c .before .before .before .before .before .before .before .before .before .before .before in
+    let h = b .pre .0 .pages .lists .some in
+    let f = b .pre .2 in
+    rw (ranked (c .before)) (rank-ready _ _ _ _ _ _ (b .pre .0) _ _ (b .pre .1) 0 h _ _ (f .counted-room) (f .each 0 h))
+
+sub-result : tie.Need-sub-result
+sub-result c =
+    let b = c .before .before .before .before .before .before .before .before .before .before .before .before .before .before .before in
+    let x = c .before .before .before .ranks-at in
+    let e = rw (ranked (c .before .before .before .before .before)) at (x .ensures) in
+    lone-counted _ _ _ _ _ _ (b .pre .0) _ _ (b .pre .1) (c .before .before .before .before .before .before .before .if1 .taken) _ _ (b .pre .2) (x .result) (e .0) _ (e .1) .0
 
 returns : tie.Need-returns
 returns c =
-    let b = c .before .before .before .before .before .before .before .before .before .before in
-    page-counted _ _ _ _ _ _ (b .pre .0) _ _ (c .before .before .before .put-spans .ensures) (c .count-starts .result) (c .count-starts .ensures)
+    let b = c .before .before .before .before .before .before .before .before .before .before .before .before .before .before .before in
+    let x = c .before .before .before .ranks-at in
+    let e = rw (ranked (c .before .before .before .before .before)) at (x .ensures) in
+    let r = lone-counted _ _ _ _ _ _ (b .pre .0) _ _ (b .pre .1) (c .before .before .before .before .before .before .before .if1 .taken) _ _ (b .pre .2) (x .result) (e .0) _ (e .1) in
+    (r .1, r .2, r .3)
+
+count-starts-requires : tie.Need-count-starts-requires
+count-starts-requires c κs =
+    let b = c .before .before .before .before .before .before .before .before .before .before .before .before .before .before .before .before .before .before .before in
+    let f = c .before .before .before .before .before .before .before .turn-words .ensures in
+    (turned-words _ _ _ _ _ _ (b .pre .0) _ _ _ _ f, turned-begun _ _ _ _ _ _ (b .pre .0) _ _ _ _ f)
+
+returns-2 : tie.Need-returns-2
+returns-2 c =
+    let b = c .before .before .before .before .before .before .before .before .before .before .before .before .before .before .before .before .before .before .before .before .before .before in
+    page-counted _ _ _ _ _ _ (b .pre .0) _ _ _ _ (c .before .before .before .before .before .before .before .before .before .before .turn-words .ensures) _ _ (c .before .before .count-starts .ensures)
 
 pub page-starts-spec : {M : Type 1} → statement M
 page-starts-spec =
     tie.close
     (tie.spec
+    (λ c κs. search needs)
+    rank-in-requires
+    ranks-at-requires
+    sub-result
+    (λ c. search needs)
+    returns
     (λ c. search needs)
     (λ c κs. search needs)
     (λ c. search needs)
     count-starts-requires
-    returns)
+    (λ c. search needs)
+    (λ c. search needs)
+    returns-2)

@@ -1,11 +1,12 @@
 -- `high_near` answers with the pointer below one that was compared, or with the last.
-use mathlib.Core.Path.{_≡_, sym, _∙_}
-use Prim.Native.Nat.{ℕ, _+_, _-_, _*_}
+use mathlib.Core.Path.{sym, _∙_}
+use Prim.Native.Nat.{ℕ, _+_, _*_}
 use native.Mathlib.Omega.{arith}
 use borrow.Author.Needs.{needs}
 use borrow.Author.Tests.{leb-false}
 use Rattle.readlist.specs.Open.{pointerOf}
 use Rattle.readlist.proofs.ReadLaws.{open-reads}
+use Rattle.readlist.proofs.NearLaws.{below-ends}
 use Rattle.readlist.proofs.high_near.Statement.{statement}
 use Rattle.readlist.proofs.high_near.Tie as tie
 
@@ -23,11 +24,11 @@ add-i c =
 
 returns-3 : tie.Need-returns-3
 returns-3 c =
-    let a = c .before .before .before .before .before .args in
+    let start = c .before .before .before .before .before in
+    let a = start .args in
     let i : ℕ = a .guess + 8 in
-    let e : i - 1 + 1 ≡ i = omega arith in
     let l = leb-false (pointerOf (a .block .now) (a .g) i) (256 * i + a .rank) (sym (c .before .precedes .ensures) ∙ c .if2 .left) in
-    (omega arith, record { within = omega arith; beyond = λ h. rw e l })
+    (omega arith, below-ends (a .block .now) (a .g) (start .pre .0) (a .rank) i (omega arith) (omega arith) l)
 
 pub high-near-spec : {M : Type 1} → statement M
 high-near-spec =

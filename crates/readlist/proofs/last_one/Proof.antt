@@ -86,7 +86,7 @@ mul-result c =
     record { fits = omega arith }
 
 sub-result : tie.Need-sub-result Inv-loop μ-loop
-sub-result c = leading-some (c .before .loop .x) (found c) (c .before .loop .inv .2)
+sub-result c = omega (arith, leading-some (c .before .loop .x) (found c) (c .before .loop .inv .2))
 
 add-result : tie.Need-add-result Inv-loop μ-loop
 add-result c =

@@ -5,6 +5,7 @@ use native.Mathlib.Omega.{arith}
 use borrow.Author.Needs.{needs}
 use borrow.Author.Tests.{leb-true, leb-false}
 use Rattle.readlist.specs.Open.{pointerOf, Among}
+use Rattle.readlist.proofs.NearLaws.{below-ends}
 use Rattle.readlist.proofs.pointer_before.Statement.{statement}
 use Rattle.readlist.proofs.pointer_before.Tie as tie
 
@@ -33,14 +34,15 @@ loop-again c =
 loop-again-2 : tie.Need-loop-again-2 Inv-loop μ-loop
 loop-again-2 c =
     let at = c .before .before .before .loop in
-    let a = c .before .before .before .before .before .before .args in
+    let start = c .before .before .before .before .before .before in
+    let a = start .args in
     let mid : ℕ = at .high - (at .high - at .low) / 2 in
-    let e : mid - 1 + 1 ≡ mid = omega arith in
+    let within = at .inv .ends .within in
     let l = leb-false (pointerOf (a .block .now) (a .g) mid) (256 * mid + a .rank) (sym (c .before .precedes .ensures) ∙ c .if1 .left) in
     record {
       order = omega arith;
       before = at .inv .before;
-      ends = record { within = omega (arith, at .inv .ends .within); beyond = λ h. rw e l };
+      ends = below-ends (a .block .now) (a .g) (start .pre .0) (a .rank) mid (omega arith) (omega arith) l;
     }
 
 returns : tie.Need-returns Inv-loop μ-loop

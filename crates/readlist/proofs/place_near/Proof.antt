@@ -1,0 +1,31 @@
+-- `place_near` goes on from the place where that is near, else from a pointer.
+use native.Mathlib.Omega.{arith}
+use borrow.Author.Needs.{needs}
+use Rattle.readlist.proofs.ReadLaws.{open-reads}
+use Rattle.readlist.proofs.PartLaws.{run-ahead, run-one}
+use Rattle.readlist.proofs.place_near.Statement.{statement}
+use Rattle.readlist.proofs.place_near.Tie as tie
+
+add-if1 : tie.Need-add-if1
+add-if1 c =
+    let r = open-reads (c .before .args .block .now) (c .before .args .g) (c .before .pre .0) in
+    omega (arith, c .before .pre)
+
+one-past-requires : tie.Need-one-past-requires
+one-past-requires c κs =
+    let start = c .before .before .before in
+    let a = start .args in
+    let p = start .pre in
+    run-ahead (a .block .now) (a .g) (p .0) (c .upper-of .result .now) (c .upper-of .ensures) (a .start) (a .before) (a .rank) (p .2) (p .3) (p .1)
+
+returns-2 : tie.Need-returns-2
+returns-2 c =
+    let start = c .before .before .before .before in
+    let a = start .args in
+    let u = c .before .upper-of in
+    run-one (a .block .now) (a .g) (start .pre .0) (u .result .now) (u .ensures) (a .rank) (c .one-past .result) (c .one-past .ensures .0) (c .one-past .ensures .1)
+
+pub place-near-spec : {M : Type 1} → statement M
+place-near-spec =
+    tie.close
+    (tie.spec add-if1 (λ c κs. search needs) (λ c. search needs) (λ c κs. search needs) one-past-requires returns-2)

@@ -1,0 +1,92 @@
+-- Laws of a list gone through by rank: one past the elements passed, and where reading stands after one more.
+use mathlib.Core.Bool.{true}
+use mathlib.Core.Path.{_≡_, refl, sym, ap, _∙_}
+use mathlib.Core.List.{List, [], _∷_}
+use Prim.Native.Nat.{ℕ, zero, suc, _+_, _-_, _≤_, _<_}
+use native.Mathlib.Numerals.{add-one}
+use native.Mathlib.Decide.{ℕ-discrete}
+use native.Mathlib.Omega.{arith}
+use lib.ListN.{length, getD, take}
+use Rattle.rules.specs.List.{rising}
+use Rattle.rules.specs.Term.{next}
+use Rattle.rules.specs.ReadList.{decode}
+use Rattle.laws.proofs.CountLaws.{below-none, below-suc}
+use Rattle.shape.specs.declared.Shape.{Shape}
+use Rattle.seeklaws.specs.Cursors.{firstAt}
+use Rattle.seeklaws.proofs.FirstLaws.{rising-lt, rising-below, firstAt-unique}
+use Rattle.readlist.specs.Open.{Open, OneAt}
+use Rattle.readlist.proofs.ReadLaws.{one-ranks}
+use Rattle.seek.proofs.OpenLaws.{open-length}
+use Rattle.span.specs.declared.Walk.{Walk}
+use Rattle.span.specs.Walks.{past, WalkOn, PassedTo, Passing}
+
+-- ---- one past the first elements
+
+next-take : (b : ℕ) (xs : List ℕ) (i : ℕ) → i < length xs → next b (take (suc i) xs) ≡ getD xs i 0 + 1
+unfolding next
+next-take b [] i h = absurd (omega arith)
+next-take b (x ∷ xs) zero h = refl
+next-take b (x ∷ xs) (suc i) h = next-take (x + 1) xs i (omega arith)
+
+pub past-none : (xs : List ℕ) → past xs 0 ≡ 0
+unfolding past next
+past-none xs = refl
+
+pub past-some : (xs : List ℕ) (i : ℕ) → 0 < i → i ≤ length xs → past xs i ≡ getD xs (i - 1) 0 + 1
+unfolding past
+past-some xs zero p h = absurd (omega arith)
+past-some xs (suc i) p h =
+    let e : suc i - 1 ≡ i = omega arith in
+    rw e (next-take 0 xs i (omega arith))
+
+pub past-le : (U : ℕ) (xs : List ℕ) → rising 0 U xs ≡ true → (i : ℕ) → i ≤ length xs → past xs i ≤ U
+past-le U xs r zero h = rw (past-none xs) (omega arith)
+past-le U xs r (suc i) h = omega (arith, past-some xs (suc i) (omega arith) h, rising-below 0 U xs r (suc i - 1) (omega arith))
+
+pub past-lt : (U : ℕ) (xs : List ℕ) → rising 0 U xs ≡ true → (i j : ℕ) → i < j → j ≤ length xs → past xs i < past xs j
+past-lt U xs r zero j l h = omega (arith, past-none xs, past-some xs j l h)
+past-lt U xs r (suc i) j l h =
+    omega (arith, past-some xs (suc i) (omega arith) (omega arith), past-some xs j (omega arith) h, rising-lt 0 U xs r (suc i - 1) (j - 1) (omega arith) (omega arith))
+
+pub past-mono : (U : ℕ) (xs : List ℕ) → rising 0 U xs ≡ true → (i j : ℕ) → i ≤ j → j ≤ length xs → past xs i ≤ past xs j
+past-mono U xs r i j l h = elim (ℕ-discrete i j) [ yes e ↦ rw e (omega arith) | no e ↦ omega (arith, past-lt U xs r i j (omega (arith, e)) h) ]
+
+-- number i is that of the first element past those before it
+pub first-past : (U : ℕ) (xs : List ℕ) → rising 0 U xs ≡ true → (i : ℕ) → i ≤ length xs → firstAt (past xs i) xs ≡ i
+first-past U xs r zero h = firstAt-unique (past xs 0) xs 0 h (λ j l. absurd (omega arith)) (λ l. rw (past-none xs) (omega arith))
+first-past U xs r (suc i) h =
+    let e : suc i - 1 ≡ i = omega arith in
+    let p : past xs (suc i) ≡ getD xs i 0 + 1 = rw e at (past-some xs (suc i) (omega arith) h) in
+    firstAt-unique (past xs (suc i)) xs (suc i) h
+    (λ j l. elim (ℕ-discrete j i) [ yes d ↦ rw (p, d) (omega arith) | no d ↦ omega (arith, p, rising-lt 0 U xs r j i (omega arith) (omega arith)) ])
+    (λ l. omega (arith, p, rising-lt 0 U xs r i (suc i) (omega arith) l))
+
+-- ---- where reading stands
+
+module _ (s : List ℕ) (g : Shape) (o : Open s g) where
+  -- at the start
+  pub walk-new : WalkOn s g (record { next = 0; past = 0; place = 0 })
+  walk-new = record { opened = o; within = omega arith; past-is = sym (past-none (decode s)); counted = below-none s (g .upper) }
+
+  -- past the element whose one stands at `place`
+  pub walk-past : (rank place value : ℕ) → OneAt s (g .upper) rank place → value ≡ getD (decode s) rank 0
+      → PassedTo s g (rank + 1) (record { next = rank + 1; past = value + 1; place = place + 1 })
+  walk-past rank place value one e =
+      let r = one-ranks s g o place rank one in
+      let d : rank + 1 - 1 ≡ rank = omega arith in
+      let p = rw d at (past-some (decode s) (rank + 1) (omega arith) (omega (arith, r .number, open-length s g o))) in
+      record {
+        on = record {
+          opened = o;
+          within = omega (arith, r .number);
+          past-is = ap (λ (v : ℕ). v + 1) e ∙ sym p;
+          counted = rw (add-one place) (omega (arith, below-suc s (g .upper) place, one .set, one .below));
+        };
+        at = refl;
+      }
+
+-- one more is passed where all that are passed lie below b
+pub passing-on : (s : List ℕ) (g : Shape) (to b : ℕ) (w r : Walk) → Passing s g to b w → w .next < to → w .past ≤ b → PassedTo s g (w .next + 1) r → Passing s g to b r
+passing-on s g to b w r p l h d =
+    let e : r .next - 1 ≡ w .next = omega (arith, d .at) in
+    record { on = d .on; inside = omega (arith, d .at); below = rw e (omega (arith, p .on .past-is)) }

@@ -1,0 +1,40 @@
+-- A list gone through by rank.
+--
+--   past xs i         one past the last of the first i elements of xs; 0 for i = 0
+--   WalkOn s g w      s is an accepted block of shape g, and reading stands where w says
+--   PassedTo s g n w  so it does, with n elements passed
+--   Passing s g to b w  so it does, with no element at least b passed but for the last; up to `to` of them
+--   PassedBelow s g to b w r  r has passed what w has and those after, up to the first at least b, or `to` of them
+use mathlib.Core.Path.{_≡_}
+use mathlib.Core.List.{List}
+use Prim.Native.Nat.{ℕ, _-_, _≤_}
+use lib.ListN.{take}
+use Rattle.rules.specs.Counts.{onesBelow}
+use Rattle.rules.specs.Term.{next}
+use Rattle.rules.specs.ReadList.{decode}
+use Rattle.shape.specs.declared.Shape.{Shape}
+use Rattle.readlist.specs.Open.{Open}
+use Rattle.span.specs.declared.Walk.{Walk}
+
+unfoldable pub past : List ℕ → ℕ → ℕ
+past xs i = next 0 (take i xs)
+
+pub record WalkOn (s : List ℕ) (g : Shape) (w : Walk) : Type 0 where
+  pub opened : Open s g
+  pub within : w .next ≤ g .n
+  pub past-is : w .past ≡ past (decode s) (w .next)
+  pub counted : onesBelow s (g .upper) (w .place) ≡ w .next
+
+pub record PassedTo (s : List ℕ) (g : Shape) (n : ℕ) (w : Walk) : Type 0 where
+  pub on : WalkOn s g w
+  pub at : w .next ≡ n
+
+pub record Passing (s : List ℕ) (g : Shape) (to b : ℕ) (w : Walk) : Type 0 where
+  pub on : WalkOn s g w
+  pub inside : w .next ≤ to
+  pub below : past (decode s) (w .next - 1) ≤ b
+
+pub record PassedBelow (s : List ℕ) (g : Shape) (to b : ℕ) (w r : Walk) : Type 0 where
+  pub passing : Passing s g to b r
+  pub onward : w .next ≤ r .next
+  pub all : r .past ≤ b → r .next ≡ to
