@@ -20,11 +20,13 @@ module _ (s qs room : List ℕ) where
   unfolding ask put reply joined laid
   ask-refused r e a = rw (← e, a)
 
-  pub ask-question : accepted (indexRefusal s) ≡ true → formed (indexT s) qs ≡ false → outcome Question 0 0 room ≡ ask s qs room
+  pub ask-question : accepted (indexRefusal s) ≡ true → formed (indexT s) qs ≡ false → outcome Question 0 0 room
+      ≡ ask s qs room
   unfolding ask put reply joined laid formed
   ask-question a f = rw (a, f)
 
-  pub ask-good : accepted (indexRefusal s) ≡ true → formed (indexT s) qs ≡ true → put (fitted (length room) (answersTo s qs)) room ≡ ask s qs room
+  pub ask-good : accepted (indexRefusal s) ≡ true → formed (indexT s) qs ≡ true
+      → put (fitted (length room) (answersTo s qs)) room ≡ ask s qs room
   unfolding ask reply formed answersTo
   ask-good a f = rw (a, f)
 

@@ -15,7 +15,8 @@ use Rattle.rules.specs.Ask.{fitting, fitted, joined, put}
 use Rattle.ask.specs.Running.{outcome, halted, running}
 
 -- two outcomes are one where their parts are
-same-outcome : (r q : Refusal) (n m u v : ℕ) (s t : List ℕ) → r ≡ q → n ≡ m → u ≡ v → s ≡ t → outcome r n u s ≡ outcome q m v t
+same-outcome : (r q : Refusal) (n m u v : ℕ) (s t : List ℕ) → r ≡ q → n ≡ m → u ≡ v → s ≡ t → outcome r n u s
+    ≡ outcome q m v t
 same-outcome r q n m u v s t a b c d = cc
 
 pub run-start : (given : List (List ℕ)) (room : List ℕ) → running 0 0 given room ≡ put (fitted (length room) given) room
@@ -25,7 +26,8 @@ run-start given room =
     rw l (same-outcome _ _ _ _ _ _ _ _ refl (omega arith) (omega arith) refl)
 
 -- nothing more is put
-halt-none : (n u m : ℕ) (room : List ℕ) → halted n u m [] (take u room) (drop u room) ≡ outcome (cond (ltb 0 m) Room Accepted) n u room
+halt-none : (n u m : ℕ) (room : List ℕ) → halted n u m [] (take u room) (drop u room)
+    ≡ outcome (cond (ltb 0 m) Room Accepted) n u room
 unfolding halted joined laid
 halt-none n u m room = same-outcome _ _ _ _ _ _ _ _ refl (omega arith) (omega arith) (take-append-drop u room)
 
@@ -40,19 +42,22 @@ module _ (n u : ℕ) (a : List ℕ) (rest : List (List ℕ)) (room : List ℕ) w
       (halt-none n u (suc (length rest)) room ∙ rw (lt-ltb 0 (suc (length rest)) (omega arith)))
 
   -- one answer more in front of those that are put
-  halt-cons : (m : ℕ) (fs : List (List ℕ)) (front back : List ℕ) → halted (n + 1) (u + length a) m fs (front ++ a) (drop (length a) back) ≡ halted n u (suc m) (a ∷ fs) front back
+  halt-cons : (m : ℕ) (fs : List (List ℕ)) (front back : List ℕ)
+      → halted (n + 1) (u + length a) m fs (front ++ a) (drop (length a) back) ≡ halted n u (suc m) (a ∷ fs) front back
   unfolding halted joined laid
   halt-cons m fs front back =
       let l = length-append a (joined fs) in
       let j = joined fs in
-      let d : drop (length j) (drop (length a) back) ≡ drop (length (a ++ j)) back = drop-drop (length j) (length a) back ∙ ap (λ (k : ℕ). drop k back) (sym l) in
+      let d : drop (length j) (drop (length a) back) ≡ drop (length (a ++ j)) back =
+      drop-drop (length j) (length a) back ∙ ap (λ (k : ℕ). drop k back) (sym l) in
       same-outcome _ _ _ _ _ _ _ _
       (ap (λ b. cond b Room Accepted) (sym (leb·suc-suc (suc (length fs)) m)))
       (omega arith)
       (omega arith)
       (rw (d, append-assoc, append-assoc))
 
-  pub run-on : u + length a ≤ length room → running (n + 1) (u + length a) rest (take u room ++ laid a (drop u room)) ≡ running n u (a ∷ rest) room
+  pub run-on : u + length a ≤ length room → running (n + 1) (u + length a) rest (take u room ++ laid a (drop u room))
+      ≡ running n u (a ∷ rest) room
   unfolding running fitting laid
   run-on h =
       let front = take u room ++ a in
@@ -65,5 +70,13 @@ module _ (n u : ℕ) (a : List ℕ) (rest : List (List ℕ)) (room : List ℕ) w
       let d = length-drop (length a) (drop u room) in
       let d' = length-drop u room in
       let m : length (front ++ back) - (u + length a) ≡ length room - u - length a = omega arith in
-      rw (e, take-at front back (u + length a) l, drop-at front back (u + length a) l, m, le-leb (length a) (length room - u) (omega arith), fitting)
+      rw (
+        e,
+        take-at front back (u + length a) l,
+        drop-at front back (u + length a) l,
+        m,
+        le-leb (length a)
+            (length room - u) (omega arith),
+        fitting,
+      )
       (halt-cons (length rest) (fitting (length room - u - length a) rest) (take u room) (drop u room))

@@ -22,7 +22,14 @@ use Rattle.ask.proofs.RunLaws.{run-start, run-end, run-on, run-stop}
 
 module _ (s qs room₀ : List ℕ) where
   pub under-start : formed (indexT s) qs ≡ true → Under s qs room₀ room₀ 0 0 0
-  under-start f = record { inside = omega arith; few = omega arith; fits = omega arith; same = refl; good = f; rest = run-start (answersTo s qs) room₀ }
+  under-start f = record {
+    inside = omega arith;
+    few = omega arith;
+    fits = omega arith;
+    same = refl;
+    good = f;
+    rest = run-start (answersTo s qs) room₀;
+  }
 
   module _ (room : List ℕ) (at n u : ℕ) (i : Under s qs room₀ room at n u) where
     pub under-end : length qs ≤ at → outcome Accepted n u room ≡ put (fitted (length room₀) (answersTo s qs)) room₀
@@ -39,7 +46,9 @@ module _ (s qs room₀ : List ℕ) where
       pub turn-good : goodQuestion (indexT s) (getD qs at 0) (take (to - (at + 2)) (drop (at + 2) qs)) ≡ true
       turn-good = formed-good qs at to h e (indexT s) (i .good) .0
 
-      module _ (r : ℕ) (ys : List ℕ) (w : Wrote (answer s (getD qs at 0) (take (to - (at + 2)) (drop (at + 2) qs))) (midOf u (length room - u) room) r ys) where
+      module _ (r : ℕ) (ys : List ℕ)
+          (w : Wrote (answer s (getD qs at 0) (take (to - (at + 2)) (drop (at + 2) qs)))
+          (midOf u (length room - u) room) r ys) where
         -- an answer that fits is behind the others, and the run goes on
         turn-on : 0 < r → Under s qs room₀ (putMid u (length room - u) room ys) to (n + 1) (u + r)
         turn-on p =
@@ -47,31 +56,42 @@ module _ (s qs room₀ : List ℕ) where
             let m = length-drop u room in
             let k : r ≤ length (drop u room) = rw (tail-part u room) at (w .whole p .1) in
             let y : ys ≡ laid a (drop u room) = rw (tail-part u room) at (w .whole p .2) in
-            let b : putMid u (length room - u) room ys ≡ take u room ++ laid a (drop u room) = tail-back u room ys ∙ ap (λ (t : List ℕ). take u room ++ t) y in
+            let b : putMid u (length room - u) room ys ≡ take u room ++ laid a (drop u room) =
+            tail-back u room ys ∙ ap (λ (t : List ℕ). take u room ++ t) y in
             let z = w .whole p .0 in
-            let l : length (take u room ++ laid a (drop u room)) ≡ length room = length-append (take u room) (laid a (drop u room)) ∙ omega (arith, length-take u room, length-laid a (drop u room) (omega arith), i .fits) in
+            let l : length (take u room ++ laid a (drop u room)) ≡ length room =
+            length-append (take u room) (laid a (drop u room))
+            ∙ omega (arith, length-take u room, length-laid a (drop u room) (omega arith), i .fits) in
             rw b (record {
               inside = turn-inside;
               few = omega (arith, i .few);
               fits = omega (arith, i .fits);
               same = l ∙ i .same;
               good = formed-good qs at to h e (indexT s) (i .good) .1;
-              rest = rw z (run-on n u a (answersTo s (drop to qs)) room (omega (arith, i .fits)) ∙ sym (ap (λ (g : List (List ℕ)). running n u g room) (answers-at qs at to h e s)) ∙ i .rest);
+              rest =
+                  rw z (run-on n u a (answersTo s (drop to qs)) room (omega (arith, i .fits))
+                  ∙ sym (ap (λ (g : List (List ℕ)). running n u g room) (answers-at qs at to h e s)) ∙ i .rest);
             })
 
         -- one that does not leaves the room as it is, and the run stops
-        turn-stop : r ≡ 0 → (putMid u (length room - u) room ys ≡ room) × (outcome Room n u room ≡ put (fitted (length room₀) (answersTo s qs)) room₀)
+        turn-stop : r ≡ 0 → (putMid u (length room - u) room ys ≡ room)
+            × (outcome Room n u room ≡ put (fitted (length room₀) (answersTo s qs)) room₀)
         turn-stop p =
             let a = answer s (getD qs at 0) (take (to - (at + 2)) (drop (at + 2) qs)) in
             let m = length-drop u room in
             let k : length (drop u room) < length a = rw (tail-part u room) at (w .none p .0) in
             let y : ys ≡ drop u room = rw (tail-part u room) at (w .none p .1) in (
               tail-back u room ys ∙ ap (λ (t : List ℕ). take u room ++ t) y ∙ take-append-drop u room,
-              sym (run-stop n u a (answersTo s (drop to qs)) room (omega arith)) ∙ sym (ap (λ (g : List (List ℕ)). running n u g room) (answers-at qs at to h e s)) ∙ i .rest,
+              sym (run-stop n u a (answersTo s (drop to qs)) room (omega arith))
+                  ∙ sym (ap (λ (g : List (List ℕ)). running n u g room) (answers-at qs at to h e s)) ∙ i .rest,
             )
 
         pub turned : Turned s qs room₀ n u to r (putMid u (length room - u) room ys)
-        turned = record { same = long r refl; on = turn-on; stop = λ p. ap (outcome Room n u) (turn-stop p .0) ∙ turn-stop p .1 }
+        turned = record {
+          same = long r refl;
+          on = turn-on;
+          stop = λ p. ap (outcome Room n u) (turn-stop p .0) ∙ turn-stop p .1;
+        }
           where
             long : (k : ℕ) → r ≡ k → length (putMid u (length room - u) room ys) ≡ length room₀
             long zero p = ap length (turn-stop p .0) ∙ i .same

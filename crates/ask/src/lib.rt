@@ -17,7 +17,8 @@ use rules::Refusal;
 // The answer of a question that may be asked, whole at the front of the room; 0 where it does not fit.
 fn answer_one(card: &[u8], kind: u32, args: &[u32], room: &mut [u32]) -> usize
     requires { ⌜ (indexRefusal (now card) ≡ Accepted) × (goodQuestion (indexT (now card)) kind (now args) ≡ true) ⌝ }
-    ensures { λ r. ⌜ Wrote (answer (now (card .entry)) kind (now (args .entry))) (now (room .entry)) r (now (room .exit)) ⌝ }
+    ensures { λ r. ⌜ Wrote (answer (now (card .entry)) kind (now (args .entry))) (now (room .entry)) r
+        (now (room .exit)) ⌝ }
 {
     if kind == 1 {
         return kinds::by_rank(card, args[0] as usize, args[1] as usize, room);
@@ -34,7 +35,9 @@ fn answer_one(card: &[u8], kind: u32, args: &[u32], room: &mut [u32]) -> usize
 // Answers well-formed questions in turn, each behind the answers before it.
 fn answer_all(card: &[u8], questions: &[u32], room: &mut [u32]) -> Outcome
     requires { ⌜ (indexRefusal (now card) ≡ Accepted) × (formed (indexT (now card)) (now questions) ≡ true) ⌝ }
-    ensures { λ r. ⌜ asked r (now (room .exit)) ≡ put (fitted (length (now (room .entry))) (answersTo (now (card .entry)) (now (questions .entry)))) (now (room .entry)) ⌝ }
+    ensures { λ r. ⌜ asked r (now (room .exit))
+        ≡ put (fitted (length (now (room .entry))) (answersTo (now (card .entry)) (now (questions .entry))))
+        (now (room .entry)) ⌝ }
 {
     let mut at = 0;
     let mut answered = 0;

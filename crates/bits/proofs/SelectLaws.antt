@@ -338,11 +338,15 @@ byte-tests = tt
 
 byte-first : (b j : ℕ) → b < 256 → j < 8 → firstAbove b j ≡ placeOfOne 8 b j
 unfolding sameByte
-byte-first b j h l = eqb→eq (firstAbove b j) (placeOfOne 8 b j) (every-at 8 (sameByte b) (every-at 256 (λ i. every 8 (sameByte i)) byte-tests b h) j l)
+byte-first b j h l =
+    eqb→eq (firstAbove b j) (placeOfOne 8 b j)
+    (every-at 8 (sameByte b) (every-at 256 (λ i. every 8 (sameByte i)) byte-tests b h) j l)
 
 -- as `one_of_byte` has it, where s holds the sums and t the marks
-pub byte-place : (b j s t : ℕ) → b < 256 → j < 8 → s ≡ spaced b * each 8 1 % 2 ^ 64 → t ≡ marked 8 s j → trailingZeros 64 t / 8 ≡ placeOfOne 8 b j
-byte-place b j s t h l e f = ap (λ (n : ℕ). trailingZeros 64 n / 8) (f ∙ ap (λ (n : ℕ). marked 8 n j) e) ∙ byte-first b j h l
+pub byte-place : (b j s t : ℕ) → b < 256 → j < 8 → s ≡ spaced b * each 8 1 % 2 ^ 64 → t ≡ marked 8 s j
+    → trailingZeros 64 t / 8 ≡ placeOfOne 8 b j
+byte-place b j s t h l e f =
+    ap (λ (n : ℕ). trailingZeros 64 n / 8) (f ∙ ap (λ (n : ℕ). marked 8 n j) e) ∙ byte-first b j h l
 
 -- the one number j of the word, as a one of the byte that holds it
 pub place-byte : (x j i : ℕ) → i < 8 → ones (x % 2 ^ (8 * i)) ≤ j → j < ones (x % 2 ^ (8 * i + 8))
@@ -384,20 +388,31 @@ held-at x j t i e h b r =
       least = omega arith;
       most = omega arith;
       below = omega (arith, q);
-      few = omega (arith, q, ones-parts x (8 * i) 8, ones-le 8 (x / 2 ^ (8 * i) % 2 ^ 8) (mod-lt (x / 2 ^ (8 * i)) (pow-pos 8)));
+      few =
+          omega (
+            arith,
+            q,
+            ones-parts x (8 * i) 8,
+            ones-le 8 (x / 2 ^ (8 * i) % 2 ^ 8)
+                (mod-lt (x / 2 ^ (8 * i)) (pow-pos 8)),
+          );
       byte = omega (arith, and-le-r (x / 2 ^ (t - 7)) 255);
       lands = λ n u. ap₂ _+_ p (u ∙ ap₂ (placeOfOne 8) y (ap (λ (k : ℕ). j - k) q)) ∙ place-byte x j i h b r;
     }
 
 module _ (x j s p : ℕ) (counts : s ≡ runningOnes 8 0 x) (marks : p ≡ marked 8 s j) (small : j < 64) where
   outcome : Search 8 0 x j p
-  outcome = subst (Search 8 0 x j) (ap (λ (n : ℕ). marked 8 n j) (sym counts) ∙ sym marks) (searched 8 0 x j (omega arith) (omega arith) (lit< tt))
+  outcome =
+      subst (Search 8 0 x j) (ap (λ (n : ℕ). marked 8 n j) (sym counts) ∙ sym marks)
+      (searched 8 0 x j (omega arith) (omega arith) (lit< tt))
 
   pub held : (p ≡ 0 → ⊥) → Held x j s (trailingZeros 64 p)
   held some =
       elim outcome [
         | inl n ↦ absurd (some (n .0))
-        | inr f ↦ subst (λ (n : ℕ). Held x j n (trailingZeros 64 p)) (sym counts) (held-at x j (trailingZeros 64 p) (f .byte) (place-trailing 64 p ∙ f .place) (f .within) (omega (arith, f .below)) (omega (arith, f .reach)))
+        | inr f ↦ subst (λ (n : ℕ). Held x j n (trailingZeros 64 p)) (sym counts)
+            (held-at x j (trailingZeros 64 p) (f .byte) (place-trailing 64 p ∙ f .place) (f .within)
+            (omega (arith, f .below)) (omega (arith, f .reach)))
       ]
 
   pub none-held : p ≡ 0 → placeOfOne 64 x j ≡ 64

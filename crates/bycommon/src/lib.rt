@@ -15,8 +15,10 @@ ghost use Rattle.bycommon.specs.Tallies.{tallied};
 
 // Puts the answer into room that is enough for it.
 fn put_common(card: &[u8], shapes: &[u32], k: usize, room: &mut [u32]) -> usize
-    requires { ⌜ Lists (now card) (now shapes) k × (length (wholeFrom (now card) (now shapes) k 0 .listed) + 3 ≤ length (now room)) ⌝ }
-    ensures { λ r. ⌜ Wrote (tallied (wholeFrom (now (card .entry)) (now (shapes .entry)) k 0)) (now (room .entry)) r (now (room .exit)) ⌝ }
+    requires { ⌜ Lists (now card) (now shapes) k
+        × (length (wholeFrom (now card) (now shapes) k 0 .listed) + 3 ≤ length (now room)) ⌝ }
+    ensures { λ r. ⌜ Wrote (tallied (wholeFrom (now (card .entry)) (now (shapes .entry)) k 0)) (now (room .entry)) r
+        (now (room .exit)) ⌝ }
 {
     let listed = query::list_common(card, shapes, k, 0, &mut room[3..]);
     room[0] = (listed.found + 2) as u32;
@@ -28,7 +30,9 @@ fn put_common(card: &[u8], shapes: &[u32], k: usize, room: &mut [u32]) -> usize
 // The pages of the words; they are counted first only where the room may be too small for them.
 pub fn by_common(card: &[u8], terms: &[u32], room: &mut [u32]) -> usize
     requires { ⌜ (indexRefusal (now card) ≡ Accepted) × (wordsGood (indexT (now card)) (now terms) ≡ true) ⌝ }
-    ensures { λ r. ⌜ Wrote (byCommon (indexN (now (card .entry))) (listsIn (now (card .entry)) (now (terms .entry)))) (now (room .entry)) r (now (room .exit)) ⌝ }
+    ensures { λ r. ⌜ Wrote
+        (byCommon (indexN (now (card .entry))) (listsIn (now (card .entry)) (now (terms .entry))))
+        (now (room .entry)) r (now (room .exit)) ⌝ }
 {
     let k = terms.len();
     let mut shapes = [0u32; 64];

@@ -14,14 +14,18 @@ use Rattle.cardlaws.proofs.Theorems.{closing}
 use Rattle.closeindex.proofs.CloseLaws.{close-told, close-kept}
 
 -- A success leaves an accepted index of that N and T with the terms that lay there, and changes its header's bytes alone.
-pub close-accepts : (buffer : List ℕ) (used N T : ℕ) (r : Written) (room : List ℕ) → IndexClosed buffer used N T r room → r .refusal ≡ Accepted
-    → (indexRefusal (take used room) ≡ Accepted) × (indexN (take used room) ≡ N) × (indexT (take used room) ≡ T) × (drop indexHeader room ≡ drop indexHeader buffer)
+pub close-accepts : (buffer : List ℕ) (used N T : ℕ) (r : Written) (room : List ℕ)
+    → IndexClosed buffer used N T r room → r .refusal ≡ Accepted
+    → (indexRefusal (take used room) ≡ Accepted) × (indexN (take used room) ≡ N) × (indexT (take used room) ≡ T)
+    × (drop indexHeader room ≡ drop indexHeader buffer)
 close-accepts buffer used N T r room e a =
     let m : room ≡ closeIndex buffer used N T .room = ap (λ (k : Made). k .room) e in
-    let c : Closed buffer used N T = closing buffer used N T (close-told buffer used N T (sym (ap (λ (k : Made). k .refusal) e) ∙ a)) in
+    let c : Closed buffer used N T =
+    closing buffer used N T (close-told buffer used N T (sym (ap (λ (k : Made). k .refusal) e) ∙ a)) in
     rw m (c .accepts, c .N-is, c .T-is, c .others-same)
 
 -- A refusal leaves the buffer as it was.
-pub close-keeps : (buffer : List ℕ) (used N T : ℕ) (r : Written) (room : List ℕ) → IndexClosed buffer used N T r room → (r .refusal ≡ Accepted → ⊥) → room ≡ buffer
+pub close-keeps : (buffer : List ℕ) (used N T : ℕ) (r : Written) (room : List ℕ) → IndexClosed buffer used N T r room
+    → (r .refusal ≡ Accepted → ⊥) → room ≡ buffer
 close-keeps buffer used N T r room e n =
     ap (λ (k : Made). k .room) e ∙ close-kept buffer used N T (λ a. n (ap (λ (k : Made). k .refusal) e ∙ a))

@@ -11,7 +11,8 @@ use lib.Dec.{ltb, eqb}
 use lib.ListN.{length, getD, take, drop, length-append}
 use lib.Seq.{take-all, take-append-seam, drop-append-seam}
 use Rattle.rules.specs.declared.Refusal.{Refusal}
-use Rattle.rules.specs.declared.Refusal.the-variants.{Accepted, Short, Length, Version, Limit, Layout, Runs, Parts, Question, Room}
+use Rattle.rules.specs.declared.Refusal.the-variants.{Accepted, Short, Length, Version, Limit, Layout, Runs, Parts}
+use Rattle.rules.specs.declared.Refusal.the-variants.{Question, Room}
 use Rattle.rules.specs.Refusal.{number, accepted, andThen}
 use Rattle.rules.specs.Limits.{limit, termLimit, version, listHeader, termHeader, indexHeader}
 use Rattle.rules.specs.List.{size}

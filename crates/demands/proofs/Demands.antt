@@ -30,11 +30,17 @@ use Rattle.closeindex.proofs.CloseLaws.{close-told}
 use Rattle.questions.specs.Formed.{formed, answersTo}
 use Rattle.jundefola.specs.declared.HostWritten.{HostWritten}
 use Rattle.jundefola.specs.declared.HostAsked.{HostAsked}
-use Rattle.jundefola.specs.Host.{Told, HostListChecked, HostListWritten, HostTermChecked, HostTermWritten, HostIndexChecked, HostIndexClosed, HostAnswered}
-use Rattle.demands.specs.Asking.{ValidWord, Query, written, Good, pagesAt, named, pagesNamed, plain, plainAll, upperRuns}
-use Rattle.demands.proofs.WriteLaws.{number-le, to-writable, from-writable, list-keeps, term-keeps, close-keeps, close-size, list-writes, list-wrote, told-accepts, accepts-told, told-refused, told-success}
-use Rattle.demands.proofs.AskLaws.{Reads, fits, reply-nothing, reply-room, reply-all, all-reply, reads, written-formed}
-use Rattle.demands.proofs.KindLaws.{states-T, may-ask, plain-answers, length-plain, common-told, common-lists, seeks-most, looks-most, counts-fit}
+use Rattle.jundefola.specs.Host.{Told, HostListChecked, HostListWritten, HostTermChecked, HostTermWritten}
+use Rattle.jundefola.specs.Host.{HostIndexChecked, HostIndexClosed, HostAnswered}
+use Rattle.demands.specs.Asking.{ValidWord, Query, written, Good, pagesAt, named, pagesNamed, plain, plainAll}
+use Rattle.demands.specs.Asking.{upperRuns}
+use Rattle.demands.proofs.WriteLaws.{number-le, to-writable, from-writable, list-keeps, term-keeps, close-keeps}
+use Rattle.demands.proofs.WriteLaws.{close-size, list-writes, list-wrote, told-accepts, accepts-told}
+use Rattle.demands.proofs.WriteLaws.{told-refused, told-success}
+use Rattle.demands.proofs.AskLaws.{Reads, fits, reply-nothing, reply-room, reply-all, all-reply, reads}
+use Rattle.demands.proofs.AskLaws.{written-formed}
+use Rattle.demands.proofs.KindLaws.{states-T, may-ask, plain-answers, length-plain, common-told, common-lists}
+use Rattle.demands.proofs.KindLaws.{seeks-most, looks-most, counts-fit}
 use Rattle.demands.proofs.PlainLaws.{rank-in, rank-past, bound-at, bound-none, rank-length, bound-length}
 
 -- ---- 1. "Any bytes, lists and questions are answered and every call ends. Each refusal is one of document 01's

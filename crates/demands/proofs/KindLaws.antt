@@ -17,7 +17,8 @@ use Rattle.rules.specs.Term.{Word}
 use Rattle.rules.specs.Index.{card, validCard, indexN, indexT, wordOf}
 use Rattle.rules.specs.Seek.{widthOf, bitsOf, upperWords}
 use Rattle.rules.specs.Common.{common}
-use Rattle.rules.specs.Questions.{commonPages, numbered, pagesIn, listsIn, wordsIn, byCommon, answer, allBelow, goodQuestion, replies}
+use Rattle.rules.specs.Questions.{commonPages, numbered, pagesIn, listsIn, wordsIn, byCommon, answer, allBelow}
+use Rattle.rules.specs.Questions.{goodQuestion, replies}
 use Rattle.listlaws.proofs.RisingLaws.{and-parts, rising-length}
 use Rattle.termlaws.proofs.WordLaws.{valid-agreeing}
 use Rattle.cardlaws.proofs.PassedLaws.{card-valid}
@@ -28,7 +29,8 @@ use Rattle.commonlaws.proofs.CommonLaws as laws
 use Rattle.questions.specs.Formed.{answersTo, wordsGood}
 use Rattle.questions.proofs.FrontLaws.{answers-front}
 use Rattle.questions.proofs.GoodLaws.{good-pair, good-words, pair-parts, good-rest, words-parts}
-use Rattle.demands.specs.Asking.{Query, written, Good, wordAt, pagesAt, named, pagesNamed, plain, plainAll, upperRuns}
+use Rattle.demands.specs.Asking.{Query, written, Good, wordAt, pagesAt, named, pagesNamed, plain, plainAll}
+use Rattle.demands.specs.Asking.{upperRuns}
 use Rattle.demands.proofs.AskLaws.{front-kind, front-args, front-behind, front-some}
 
 -- ---- the words that a question names

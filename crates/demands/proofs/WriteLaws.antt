@@ -9,7 +9,8 @@ use borrow.Author.Tests.{le-ltb, ltb-false, not-false}
 use lib.Dec.{ltb, lit<}
 use lib.ListN.{length}
 use Rattle.rules.specs.declared.Refusal.{Refusal}
-use Rattle.rules.specs.declared.Refusal.the-variants.{Accepted, Short, Length, Version, Limit, Layout, Runs, Parts, Question, Room, Lists}
+use Rattle.rules.specs.declared.Refusal.the-variants.{Accepted, Short, Length, Version, Limit, Layout, Runs, Parts}
+use Rattle.rules.specs.declared.Refusal.the-variants.{Question, Room, Lists}
 use Rattle.rules.specs.Limits.{limit}
 use Rattle.rules.specs.Refusal.{number, accepted}
 use Rattle.rules.specs.List.{rising, validList, block}

@@ -72,7 +72,8 @@ pub extern "C" fn jf_write_term(
     positions: &[u32],
     room: &mut [u8],
 ) -> HostWritten
-    ensures { λ r. ⌜ HostTermWritten n (wordOf (now (pages .entry)) (now (counts .entry)) (now (positions .entry))) (now (room .entry)) r (now (room .exit)) ⌝ }
+    ensures { λ r. ⌜ HostTermWritten n (wordOf (now (pages .entry)) (now (counts .entry)) (now (positions .entry)))
+        (now (room .entry)) r (now (room .exit)) ⌝ }
 {
     written(writeterm::write_term(n, pages, counts, positions, room))
 }
@@ -104,7 +105,8 @@ pub extern "C" fn jf_check_index(card: &[u8]) -> u32
 // Asks the card: the answers stand one after the other in the room.
 #[no_mangle]
 pub extern "C" fn jf_ask(card: &[u8], questions: &[u32], room: &mut [u32]) -> HostAsked
-    ensures { λ r. ⌜ HostAnswered (now (card .entry)) (now (questions .entry)) (now (room .entry)) r (now (room .exit)) ⌝ }
+    ensures { λ r. ⌜ HostAnswered (now (card .entry)) (now (questions .entry)) (now (room .entry)) r
+        (now (room .exit)) ⌝ }
 {
     outcome(ask::ask(card, questions, room))
 }

@@ -51,7 +51,8 @@ module _ (s : List ℕ) (t : ℕ) (r : List ℕ) (o : OpenedPages s (t ∷ []) r
     found-first : nextFor s r 1 newQuery b .found ≡ firstFrom b 0 (pagesBy s t)
     unfolding span readerAt pagesOf
     found-first =
-        next-first (boundIn r) (leadIn s r newQuery) (othersIn s r 1 newQuery) b (lead-ready s r 1 newQuery b apt) (others-ready s r 1 newQuery b apt)
+        next-first (boundIn r) (leadIn s r newQuery) (othersIn s r 1 newQuery) b (lead-ready s r 1 newQuery b apt)
+        (others-ready s r 1 newQuery b apt)
         ∙ alone-first (boundIn r) (pagesAt s r 0) (list-rises s r 0 (o .lists .each 0 (o .lists .some))) b
         ∙ ap (firstFrom b 0) alone
 
@@ -61,13 +62,16 @@ module _ (s : List ℕ) (t : ℕ) (r : List ℕ) (o : OpenedPages s (t ∷ []) r
     pub bound-marked : (u .mark ≡ spentMark → ⊥) → 0 < u .mark
     bound-marked m = omega (arith, turned-page s r 1 newQuery b apt u n m .2)
 
-    pub bound-some : (u .mark ≡ spentMark → ⊥) → byBound (pagesBy s t) b ≡ 2 ∷ ((u .mark - 1) ∷ (rankBy r (u .q) 0 ∷ []))
+    pub bound-some : (u .mark ≡ spentMark → ⊥) → byBound (pagesBy s t) b
+        ≡ 2 ∷ ((u .mark - 1) ∷ (rankBy r (u .q) 0 ∷ []))
     bound-some m =
         let p = turned-page s r 1 newQuery b apt u n m in
         let k = turned-ranked s r 1 newQuery b apt u n m 0 (omega arith) in
         let d : u .mark - 1 ≡ p .0 = omega (arith, p .2) in
         let hit = rw (p .3) at (came s r 1 newQuery b apt .ends) in
         let f = first-page (p .0) (pagesAt s r 0) (p .0) (p .1) (unfold readerAt in (hit .first)) in
-        let g = firstAt-self 0 (boundIn r) (pagesAt s r 0) (list-rises s r 0 (o .lists .each 0 (o .lists .some))) (rankBy r (u .q) 0) (k .within) in
+        let g =
+        firstAt-self 0 (boundIn r) (pagesAt s r 0) (list-rises s r 0 (o .lists .each 0 (o .lists .some)))
+        (rankBy r (u .q) 0) (k .within) in
         let e : p .1 ≡ rankBy r (u .q) 0 = sym (f .0) ∙ rw (k .there, d) at g in
         rw (d, ← e) (by-page (pagesBy s t) b (p .0) (p .1) (sym found-first ∙ p .3))

@@ -24,7 +24,8 @@ pub pages-are : (s : List ℕ) (t : ℕ) → pagesIn s t ≡ decode (pagesOf (te
 unfolding pagesIn wordOf readWord
 pages-are s t = refl
 
-pub pages-accepted : (s : List ℕ) (t : ℕ) → indexRefusal s ≡ Accepted → t < indexT s → listRefusal (pagesOf (termPart t s)) ≡ Accepted
+pub pages-accepted : (s : List ℕ) (t : ℕ) → indexRefusal s ≡ Accepted → t < indexT s
+    → listRefusal (pagesOf (termPart t s)) ≡ Accepted
 pages-accepted s t a h = accepted-lists (termPart t s) (accepted-term s a t h .accepts) .pages
 
 -- ---- by rank
@@ -33,7 +34,13 @@ pages-accepted s t a h = accepted-lists (termPart t s) (accepted-term s a t h .a
 pub element-below : (s : List ℕ) (g : Shape) → Open s g → (i : ℕ) → i < g .n → getD (decode s) i 0 < 16777216
 element-below s g o i h =
     let l = open-length s g o in
-    omega (arith, rising-below 0 (listU s) (decode s) (open-rising s g o) i (omega arith), open-U s g o, open-reads s g o .within)
+    omega (
+      arith,
+      rising-below 0 (listU s) (decode s) (open-rising s g o) i (omega arith),
+      open-U s g o,
+      open-reads s
+          g o .within,
+    )
 
 module _ (xs : List ℕ) (r : ℕ) where
   pub rank-none : length xs ≤ r → byRank xs r ≡ 0 ∷ []

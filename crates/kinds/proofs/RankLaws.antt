@@ -32,21 +32,25 @@ pub record Ranked (s sh : List ℕ) (q : Query) (i c : ℕ) : Type 0 where
   pub there : getD (pagesAt s sh i) (rankBy sh q i) 0 ≡ c
   pub small : rankBy sh q i < 16777216
 
-pub ranked : (s sh : List ℕ) (q : Query) (i c : ℕ) → ListAt s sh i → Held (boundIn sh) (pagesAt s sh i) (cursorIn q i) → OnPage c (readerAt s sh q i) → Ranked s sh q i c
+pub ranked : (s sh : List ℕ) (q : Query) (i c : ℕ) → ListAt s sh i → Held (boundIn sh) (pagesAt s sh i) (cursorIn q i)
+    → OnPage c (readerAt s sh q i) → Ranked s sh q i c
 unfolding readerAt rankBy markOf cursorBit placeOf pagesAt shapeIn
 ranked s sh q i c l h p =
     let U = boundIn sh in
     let xs = decode (partAt s sh i) in
     let cu = cursorIn q i in
     let o = l .opened in
-    let e : h .place ≡ on (p .rank) = sym (held-rule U xs (list-rises s sh i l) (list-within s sh i l) cu h) ∙ p .stands in
+    let e : h .place ≡ on (p .rank) =
+    sym (held-rule U xs (list-rises s sh i l) (list-within s sh i l) cu h) ∙ p .stands in
     let m : cu .mark ≡ getD xs (p .rank) 0 + 1 = h .mark-is ∙ ap (markOf xs) e in
     let b : cu .bit ≡ getD xs (p .rank) 0 / 2 ^ widthOf U xs + p .rank = h .bit-is ∙ ap (cursorBit U xs) e in
     let n = open-length (partAt s sh i) (shapeIn sh i) o in
     let z = open-reads (partAt s sh i) (shapeIn sh i) o in
-    let w : widthOf U xs ≡ numberOf sh i 3 = rw (l .bound) at (open-ruled (partAt s sh i) (shapeIn sh i) o (omega (arith, p .within)) .wide) in
+    let w : widthOf U xs ≡ numberOf sh i 3 =
+    rw (l .bound) at (open-ruled (partAt s sh i) (shapeIn sh i) o (omega (arith, p .within)) .wide) in
     let x : cu .mark - 1 ≡ getD xs (p .rank) 0 = omega arith in
-    let y : (cu .mark - 1) / 2 ^ numberOf sh i 3 ≡ getD xs (p .rank) 0 / 2 ^ widthOf U xs = ap₂ (λ (a v : ℕ). a / 2 ^ v) x (sym w) in
+    let y : (cu .mark - 1) / 2 ^ numberOf sh i 3 ≡ getD xs (p .rank) 0 / 2 ^ widthOf U xs =
+    ap₂ (λ (a v : ℕ). a / 2 ^ v) x (sym w) in
     let r : cu .bit - (cu .mark - 1) / 2 ^ numberOf sh i 3 ≡ p .rank = omega arith in
     record {
       on-element = record { marked = omega arith; narrow = omega (arith, z .narrow); high = omega arith };
@@ -57,7 +61,8 @@ ranked s sh q i c l h p =
 
 -- ---- all of them
 
-pub all-on : (c : ℕ) (f : ℕ → Reader) (n i : ℕ) → AllOnPage c (span f i n) → (j : ℕ) → i ≤ j → j < i + n → OnPage c (f j)
+pub all-on : (c : ℕ) (f : ℕ → Reader) (n i : ℕ) → AllOnPage c (span f i n) → (j : ℕ) → i ≤ j → j < i + n
+    → OnPage c (f j)
 unfolding span
 all-on c f zero i a j l h = absurd (omega arith)
 all-on c f (suc n) i a j l h =
@@ -66,14 +71,17 @@ all-on c f (suc n) i a j l h =
       | no e ↦ all-on c f n (i + 1) (a .1) j (omega arith) (omega arith)
     ]
 
-pub turned-ranked : (s sh : List ℕ) (k : ℕ) (q : Query) (b : ℕ) → Apt s sh k q b → (t : Turn) → Turned s sh k q b t → (t .mark ≡ spentMark → ⊥)
+pub turned-ranked : (s sh : List ℕ) (k : ℕ) (q : Query) (b : ℕ) → Apt s sh k q b → (t : Turn) → Turned s sh k q b t
+    → (t .mark ≡ spentMark → ⊥)
     → (i : ℕ) → i < k → Ranked s sh (t .q) i (t .mark - 1)
 turned-ranked s sh k q b a t u m i h =
     let p = turned-page s sh k q b a t u m in
     let c = p .0 in
     let hit = rw (p .3) at (came s sh k q b a .ends) in
     let z : k - 0 ≡ k = omega arith in
-    let on : AllOnPage c (span (readerAt s sh (t .q)) 0 k) = rw (rw z at (span-cons (readerAt s sh (t .q)) 0 k (a .lists .some)), u .lead, u .others) (hit .on-page) in
+    let on : AllOnPage c (span (readerAt s sh (t .q)) 0 k) =
+    rw (rw z at (span-cons (readerAt s sh (t .q)) 0 k (a .lists .some)), u .lead, u .others) (hit .on-page) in
     let d : t .mark - 1 ≡ c = omega (arith, p .2) in
     let next = u .running (t .mark) m (omega arith) .apt in
-    rw d (ranked s sh (t .q) i c (a .lists .each i h) (next .held i h) (all-on c (readerAt s sh (t .q)) k 0 on i (omega arith) (omega arith)))
+    rw d (ranked s sh (t .q) i c (a .lists .each i h) (next .held i h)
+    (all-on c (readerAt s sh (t .q)) k 0 on i (omega arith) (omega arith)))

@@ -31,7 +31,8 @@ and-false false = refl
 pub printed-large : (s qs : List ℕ) → (fileLimit < length s) ⊎ (fileLimit < length qs) → printed s qs ≡ refusedLine Room
 unfolding printed
 printed-large s qs (inl h) = rw (lt-ltb fileLimit (length s) h)
-printed-large s qs (inr h) = rw (or-true (ltb fileLimit (length s)) (ltb fileLimit (length qs)) (lt-ltb fileLimit (length qs) h))
+printed-large s qs (inr h) =
+    rw (or-true (ltb fileLimit (length s)) (ltb fileLimit (length qs)) (lt-ltb fileLimit (length qs) h))
 
 module _ (s qs : List ℕ) (h : length s ≤ fileLimit) (l : length qs ≤ fileLimit) where
   abbrev whole : List ℕ
@@ -52,10 +53,12 @@ module _ (s qs : List ℕ) (h : length s ≤ fileLimit) (l : length qs ≤ fileL
   pub printed-rest : 0 < length qs % 4 → printed s qs ≡ refusedLine (andThen (indexRefusal s) Question)
   printed-rest g = printed-small ∙ rw (lt-ltb 0 (length qs % 4) g) (go (accepted (indexRefusal s)) refl)
     where
-      go : (b : Bool) → accepted (indexRefusal s) ≡ b → cond (b && true) (refusedLine Question) whole ≡ refusedLine (andThen (indexRefusal s) Question)
+      go : (b : Bool) → accepted (indexRefusal s) ≡ b → cond (b && true) (refusedLine Question) whole
+          ≡ refusedLine (andThen (indexRefusal s) Question)
       go true e = ap refusedLine (sym (andThen-next (indexRefusal s) Question (accepted-true (indexRefusal s) e)))
       go false e = stopped e ∙ ap refusedLine (sym (andThen-stop (indexRefusal s) Question e))
 
 -- a text that is laid at the front of room enough
-pub printed-laid : (s qs : List ℕ) {b : List ℕ} {r : ℕ} (d : List ℕ) {e : List ℕ} → printed s qs ≡ b → length b ≤ length d → Put b 0 r d e → (e ≡ laid (printed s qs) d) × (r ≡ length (printed s qs))
+pub printed-laid : (s qs : List ℕ) {b : List ℕ} {r : ℕ} (d : List ℕ) {e : List ℕ} → printed s qs ≡ b
+    → length b ≤ length d → Put b 0 r d e → (e ≡ laid (printed s qs) d) × (r ≡ length (printed s qs))
 printed-laid s qs d g h p = put-laid (printed s qs) d (put-same (sym g) p) (omega (arith, ap length g))

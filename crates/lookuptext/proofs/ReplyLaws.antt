@@ -14,7 +14,8 @@ use Rattle.rules.specs.Term.{Word}
 use Rattle.rules.specs.Index.{indexN, indexT, indexRefusal}
 use Rattle.rules.specs.Seek.{Found, none, page}
 use Rattle.rules.specs.Common.{common}
-use Rattle.rules.specs.Questions.{firstFrom, commonPages, withStarts, numbered, pagesIn, listsIn, wordsIn, byRank, byBound, byCommon, byPhrase, answer, kindOf, argsOf, behind, wellFormed, replies}
+use Rattle.rules.specs.Questions.{firstFrom, commonPages, withStarts, numbered, pagesIn, listsIn, wordsIn, byRank}
+use Rattle.rules.specs.Questions.{byBound, byCommon, byPhrase, answer, kindOf, argsOf, behind, wellFormed, replies}
 use Rattle.rules.specs.Ask.{Replied, fitting, fitted, reply, joined}
 use Rattle.text.specs.Laid.{Counted}
 
@@ -33,7 +34,9 @@ count-numbered xs = omega arith
 
 count-rank : (xs : List ℕ) (r : ℕ) → Count (byRank xs r)
 unfolding byRank
-count-rank xs r = count-cond (ltb r (length xs)) (numbered (getD xs r 0 ∷ [])) (numbered []) (count-numbered (getD xs r 0 ∷ [])) (count-numbered [])
+count-rank xs r =
+    count-cond (ltb r (length xs)) (numbered (getD xs r 0 ∷ [])) (numbered []) (count-numbered (getD xs r 0 ∷ []))
+    (count-numbered [])
 
 count-bound : (xs : List ℕ) (b : ℕ) → Count (byBound xs b)
 unfolding byBound
@@ -71,7 +74,8 @@ replies-counted : (s : List ℕ) (f : ℕ) (qs : List ℕ) → Counted (replies 
 unfolding replies
 replies-counted s zero qs = tt
 replies-counted s (suc f) qs = elim (decLt 0 (length qs)) [
-  | yes h ↦ rw (ne-eqb (length qs) 0 (λ e. omega arith), replies) (count-answer s (kindOf qs) (argsOf qs), replies-counted s f (behind qs))
+  | yes h ↦ rw (ne-eqb (length qs) 0 (λ e. omega arith), replies)
+      (count-answer s (kindOf qs) (argsOf qs), replies-counted s f (behind qs))
   | no h ↦ rw (eq-eqb (length qs) 0 (omega arith), replies) tt
 ]
 
@@ -91,10 +95,14 @@ fitting-fits size (a ∷ rest) w = elim (decLt size (length a)) [
   | yes h ↦ rw (lt-leb (length a) size h, fitting) (fitting-none size)
   | no h ↦
       let f = fitting-fits (size - length a) rest (w .1) in
-      rw (le-leb (length a) size (omega arith), fitting) (record { counted = (w .0, f .counted); within = rw length-append (omega (arith, f .within)) })
+      rw (le-leb (length a) size (omega arith), fitting) (record {
+        counted = (w .0, f .counted);
+        within = rw length-append (omega (arith, f .within));
+      })
 ]
 
-fits-cond : (size : ℕ) (b : Bool) (x y : Replied) → Fitting size (x .answers) → Fitting size (y .answers) → Fitting size ((cond b x y) .answers)
+fits-cond : (size : ℕ) (b : Bool) (x y : Replied) → Fitting size (x .answers) → Fitting size (y .answers)
+    → Fitting size ((cond b x y) .answers)
 fits-cond size true x y p q = p
 fits-cond size false x y p q = q
 
@@ -102,7 +110,16 @@ pub reply-fits : (s qs : List ℕ) (size : ℕ) → Fitting size (reply s qs siz
 unfolding reply fitted
 reply-fits s qs size =
     let given : List (List ℕ) = replies s (length qs) qs in
-    let asked : Replied = cond (not (wellFormed (indexT s) (length qs) qs)) (record { refusal = Question; answers = [] }) (fitted size given) in
-    fits-cond size (not (accepted (indexRefusal s))) (record { refusal = indexRefusal s; answers = [] }) asked (fitting-none size)
-    (fits-cond size (not (wellFormed (indexT s) (length qs) qs)) (record { refusal = Question; answers = [] }) (fitted size given) (fitting-none size)
+    let asked : Replied = cond (not (wellFormed (indexT s) (length qs) qs)) (record {
+      refusal = Question;
+      answers = [];
+    }) (fitted size given) in
+    fits-cond size (not (accepted (indexRefusal s))) (record {
+      refusal = indexRefusal s;
+      answers = [];
+    }) asked (fitting-none size)
+    (fits-cond size (not (wellFormed (indexT s) (length qs) qs)) (record {
+      refusal = Question;
+      answers = [];
+    }) (fitted size given) (fitting-none size)
     (fitting-fits size given (replies-counted s (length qs) qs)))

@@ -19,7 +19,8 @@ use Rattle.lookuptext.proofs.ReplyLaws.{Fitting, reply-fits}
 -- ---- the numbers read
 
 -- a file of at most 4 * length d bytes, read over d
-module _ (qs : List ℕ) {r : ℕ} (d : List ℕ) {e : List ℕ} (p : Put (wordsOf qs) 0 r d e) (h : length qs ≤ 4 * length d) where
+module _ (qs : List ℕ) {r : ℕ} (d : List ℕ) {e : List ℕ} (p : Put (wordsOf qs) 0 r d e)
+    (h : length qs ≤ 4 * length d) where
   words-fit : length (wordsOf qs) ≤ length d
   words-fit = omega (arith, words-length qs)
 
@@ -43,7 +44,8 @@ pub record Told (p : Replied) (o : Outcome) (room : List ℕ) : Type 0 where
   pub within : o .used ≤ length room
   pub numbers : answersIn (take (o .used - 0) room) ≡ p .answers
 
-pub told : (s qs ns : List ℕ) (o : Outcome) (before after : List ℕ) → ns ≡ qs → length before ≡ answerRoom → asked o after ≡ ask s ns before → Told (reply s qs answerRoom) o after
+pub told : (s qs ns : List ℕ) (o : Outcome) (before after : List ℕ) → ns ≡ qs → length before ≡ answerRoom
+    → asked o after ≡ ask s ns before → Told (reply s qs answerRoom) o after
 unfolding ask put
 told s qs ns o before after g l e =
     let p : Replied = reply s qs answerRoom in
@@ -76,6 +78,7 @@ module _ (p : Replied) (o : Outcome) (room : List ℕ) (t : Told p o room) where
   pub told-lines : length (lines (answersIn (take (o .used - 0) room))) ≤ 90112
   told-lines = rw (t .numbers) (lines-fit p (t .fits))
 
-  pub put-told : {m n : ℕ} {d e f : List ℕ} → Put (lines (answersIn (take (o .used - 0) room))) 0 m d e → Put (refusedLine (o .refusal)) m n e f → Put (printedReply p) 0 n d f
+  pub put-told : {m n : ℕ} {d e f : List ℕ} → Put (lines (answersIn (take (o .used - 0) room))) 0 m d e
+      → Put (refusedLine (o .refusal)) m n e f → Put (printedReply p) 0 n d f
   unfolding printedReply
   put-told x y = put-cat (put-same (ap lines (t .numbers)) x) (put-same (ap refusedLine (t .refusal)) y)

@@ -22,20 +22,25 @@ unfolding sharedBy
 shared-le ls [] = omega arith
 shared-le ls (x ∷ xs) = go (shared-le ls xs) (inAll x ls) refl
   where
-    go : length (sharedBy ls xs) ≤ length xs → (b : Bool) → inAll x ls ≡ b → length (sharedBy ls (x ∷ xs)) ≤ length (x ∷ xs)
+    go : length (sharedBy ls xs) ≤ length xs → (b : Bool) → inAll x ls ≡ b
+        → length (sharedBy ls (x ∷ xs)) ≤ length (x ∷ xs)
     go ih true e = rw (shared-yes ls x xs e) (omega arith)
     go ih false e = rw (shared-no ls x xs e) (omega arith)
 
 -- the first list has no fewer pages than all share, and no list has more than 2 ^ 24
-pub whole-few : (s sh : List ℕ) (k b : ℕ) → Lists s sh k → (length (wholeFrom s sh k b .listed) ≤ numberOf sh 0 7) × (numberOf sh 0 7 ≤ 16777216)
+pub whole-few : (s sh : List ℕ) (k b : ℕ) → Lists s sh k → (length (wholeFrom s sh k b .listed) ≤ numberOf sh 0 7)
+    × (numberOf sh 0 7 ≤ 16777216)
 unfolding readerAt pagesAt shapeIn
 whole-few s sh k b l =
     let lead = leadIn s sh newQuery in
     let others = othersIn s sh k newQuery in
     let a = new-running s sh k l b .apt in
-    let t = rounds-tallied (boundIn sh) lead others b (lead-ready s sh k newQuery b a) (others-ready s sh k newQuery b a) .listed in
+    let t =
+    rounds-tallied (boundIn sh) lead others b (lead-ready s sh k newQuery b a)
+    (others-ready s sh k newQuery b a) .listed in
     let at = l .each 0 (l .some) in
     let n = open-length (partAt s sh 0) (shapeIn sh 0) (at .opened) in (
-      rw (← new-whole s sh k l b, t) (omega (arith, shared-le (pagesOf others) (from b (lead .pages)), from-le b (lead .pages))),
+      rw (← new-whole s sh k l b, t)
+          (omega (arith, shared-le (pagesOf others) (from b (lead .pages)), from-le b (lead .pages))),
       omega (arith, list-length s sh 0 at),
     )

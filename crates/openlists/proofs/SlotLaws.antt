@@ -16,7 +16,8 @@ use Rattle.readlist.specs.Open.{Open}
 use Rattle.readlist.proofs.ReadLaws.{open-reads}
 use Rattle.query.specs.Lists.{numberOf, partAt, shapeIn, pagesAt, pagesIn, boundIn, ListAt}
 use Rattle.query.proofs.SpanLaws.{span-same}
-use Rattle.openlists.specs.Places.{fromOf, toOf, placePart, placePages, placedIn, shapeAt, numbersAt, sourceOf, PlaceOk, Places, Alike, Slots, Opened}
+use Rattle.openlists.specs.Places.{fromOf, toOf, placePart, placePages, placedIn, shapeAt, numbersAt, sourceOf}
+use Rattle.openlists.specs.Places.{PlaceOk, Places, Alike, Slots, Opened}
 use Rattle.openlists.proofs.SourceLaws.{source-lt, source-order}
 
 pub record Narrow (g : Shape) : Type 0 where
@@ -47,7 +48,8 @@ module _ (d ns : List ℕ) (at n : ℕ) (room : at + n ≤ length d) (some : n �
 
   pub paste-in : (j : ℕ) → j < n → getD (paste d at ns n) (at + j) 0 ≡ getD ns j 0
   paste-in j h =
-      let l : at + j < length (take at d ++ take n ns) = omega (arith, head-length, length-append (take at d) (take n ns), length-take-le n ns some) in
+      let l : at + j < length (take at d ++ take n ns) =
+      omega (arith, head-length, length-append (take at d) (take n ns), length-take-le n ns some) in
       List·getD-append (take at d ++ take n ns) (drop (at + n) d) 0 (at + j) l
       ∙ rw head-length at (getD-append-add (take at d) (take n ns) j 0)
       ∙ getD-take n ns j 0 h
@@ -56,13 +58,15 @@ module _ (d ns : List ℕ) (at n : ℕ) (room : at + n ≤ length d) (some : n �
   paste-before j h =
       let l : j < length (take at d ++ take n ns) = omega (arith, head-length, length-append (take at d) (take n ns)) in
       let m : j < length (take at d) = omega (arith, head-length) in
-      List·getD-append (take at d ++ take n ns) (drop (at + n) d) 0 j l ∙ List·getD-append (take at d) (take n ns) 0 j m ∙ getD-take at d j 0 h
+      List·getD-append (take at d ++ take n ns) (drop (at + n) d) 0 j l
+      ∙ List·getD-append (take at d) (take n ns) 0 j m ∙ getD-take at d j 0 h
 
 module _ (s ps : List ℕ) (lead : ℕ) where
   pub slots-none : (r : List ℕ) → length r ≡ 64 → Slots s ps lead 0 r
   slots-none r h = record { room = h; slot = λ i j l m. absurd (omega arith) }
 
-  pub slots-more : (r : List ℕ) (t : ℕ) → t < 8 → Slots s ps lead t r → Slots s ps lead (t + 1) (paste r (8 * t) (numbersAt s ps (sourceOf lead t)) 8)
+  pub slots-more : (r : List ℕ) (t : ℕ) → t < 8 → Slots s ps lead t r
+      → Slots s ps lead (t + 1) (paste r (8 * t) (numbersAt s ps (sourceOf lead t)) 8)
   slots-more r t h k = record {
     room = length-paste r (8 * t) ns 8 (omega (arith, k .room)) (omega arith) ∙ k .room;
     slot = λ i j l m. elim (ℕ-discrete i t) [
@@ -70,7 +74,8 @@ module _ (s ps : List ℕ) (lead : ℕ) where
           ap (λ (x : ℕ). numberOf (paste r (8 * t) ns 8) x j) e
           ∙ paste-in r ns (8 * t) 8 (omega (arith, k .room)) (omega arith) j m
           ∙ ap (λ (x : ℕ). getD (numbersAt s ps (sourceOf lead x)) j 0) (sym e)
-      | no e ↦ paste-before r ns (8 * t) 8 (omega (arith, k .room)) (omega arith) (8 * i + j) (omega arith) ∙ k .slot i j (omega arith) m
+      | no e ↦ paste-before r ns (8 * t) 8 (omega (arith, k .room)) (omega arith) (8 * i + j) (omega arith)
+          ∙ k .slot i j (omega arith) m
     ];
   }
     where
@@ -88,29 +93,46 @@ module _ (s ps : List ℕ) (lead : ℕ) where
     slot-part i l = rw (f .slot i 0 l (omega arith), f .slot i 1 l (omega arith))
 
     -- the block ends where its shape says
-    slot-end : (i : ℕ) → i < k → toOf ps (sourceOf lead i) - fromOf ps (sourceOf lead i) ≡ shapeAt s ps (sourceOf lead i) .end
+    slot-end : (i : ℕ) → i < k → toOf ps (sourceOf lead i) - fromOf ps (sourceOf lead i)
+        ≡ shapeAt s ps (sourceOf lead i) .end
     unfolding shapeAt
     slot-end i l =
         let o = source-ok i l in
         let x : ℕ = sourceOf lead i in
         let part : List ℕ = placePart s ps x in
-        let n : length part ≡ toOf ps x - fromOf ps x = unfold placePart in length-take-le (toOf ps x - fromOf ps x) (drop (fromOf ps x) s) (omega (arith, length-drop (fromOf ps x) s, o .starts, o .ends)) in
+        let n : length part ≡ toOf ps x - fromOf ps x =
+        unfold placePart in length-take-le (toOf ps x - fromOf ps x) (drop (fromOf ps x) s)
+        (omega (arith, length-drop (fromOf ps x) s, o .starts, o .ends)) in
         sym n ∙ accepted-framed part (o .accepted) .0 .length-is ∙ sym (shape-end (listU part) (listN part))
 
     pub slot-shape : (i : ℕ) → i < k → shapeIn r i ≡ shapeAt s ps (sourceOf lead i)
     unfolding shapeIn
     slot-shape i l =
-        let e : (j : ℕ) → j < 8 → numberOf r i j ≡ getD (numbersAt s ps (sourceOf lead i)) j 0 = λ j m. f .slot i j l m in
-        rw (e 0 (omega arith), e 1 (omega arith), e 2 (omega arith), e 3 (omega arith), e 4 (omega arith), e 5 (omega arith), e 6 (omega arith), e 7 (omega arith), slot-end i l)
+        let e : (j : ℕ) → j < 8 → numberOf r i j ≡ getD (numbersAt s ps (sourceOf lead i)) j 0 =
+        λ j m. f .slot i j l m in
+        rw (
+          e 0 (omega arith),
+          e 1 (omega arith),
+          e 2 (omega arith),
+          e 3 (omega arith),
+          e 4 (omega arith),
+          e 5
+              (omega arith),
+          e 6 (omega arith),
+          e 7 (omega arith),
+          slot-end i l,
+        )
 
     pub opened-bound : Alike s ps k → boundIn r ≡ listU (placePart s ps 0)
     unfolding boundIn shapeAt
     opened-bound a =
         let part : List ℕ = placePart s ps (sourceOf lead 0) in
-        f .slot 0 2 (p .some) (omega arith) ∙ shape-u (listU part) (listN part) ∙ a (sourceOf lead 0) (source-lt lead 0 k h (p .some))
+        f .slot 0 2 (p .some) (omega arith) ∙ shape-u (listU part) (listN part)
+        ∙ a (sourceOf lead 0) (source-lt lead 0 k h (p .some))
 
     -- an accepted block with its numbers
-    pub slot-open : (i : ℕ) → i < k → (numberOf r i 0 ≤ numberOf r i 1) × (numberOf r i 1 ≤ length s) × Open (partAt s r i) (shapeIn r i)
+    pub slot-open : (i : ℕ) → i < k → (numberOf r i 0 ≤ numberOf r i 1) × (numberOf r i 1 ≤ length s)
+        × Open (partAt s r i) (shapeIn r i)
     slot-open i l =
         let o = source-ok i l in (
           rw (f .slot i 0 l (omega arith), f .slot i 1 l (omega arith)) (o .starts),
@@ -132,7 +154,9 @@ module _ (s ps : List ℕ) (lead : ℕ) where
     pub slots-opened : Alike s ps k → lead ≡ leadOf (placedIn s ps k) → Opened s ps k r
     unfolding placedIn
     slots-opened a e =
-        let same = span-same (pagesAt s r) (λ t. placePages s ps (sourceOf lead t)) k 0 (λ j m l. unfold pagesAt placePages in ap decode (slot-part j (omega arith))) in record {
+        let same =
+        span-same (pagesAt s r) (λ t. placePages s ps (sourceOf lead t)) k 0
+        (λ j m l. unfold pagesAt placePages in ap decode (slot-part j (omega arith))) in record {
           lists = record { some = p .some; few = p .few; each = slot-list a };
           pages = unfold pagesIn in same ∙ source-order (placePages s ps) k lead h e;
           bound = opened-bound a;

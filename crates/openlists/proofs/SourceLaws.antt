@@ -32,12 +32,14 @@ module _ {A : Type 0} (f : ℕ → A) where
   pub span-at : (k m : ℕ) (d : A) → m < k → getD (span f 0 k) m d ≡ f m
   span-at k m d h =
       let l : m ≤ k = omega arith in
-      rw (span-parts k m l, span-cons f m k h) (getD-at (span f 0 m) (f m) (span f (m + 1) (k - (m + 1))) d m (length-span f 0 m))
+      rw (span-parts k m l, span-cons f m k h)
+      (getD-at (span f 0 m) (f m) (span f (m + 1) (k - (m + 1))) d m (length-span f 0 m))
 
   span-shift : (g : ℕ → A) (n i : ℕ) → ((j : ℕ) → i ≤ j → j < i + n → f (j + 1) ≡ g j) → span f (i + 1) n ≡ span g i n
   unfolding span
   span-shift g zero i h = refl
-  span-shift g (suc n) i h = ap₂ _∷_ (h i (omega arith) (omega arith)) (span-shift g n (i + 1) (λ j l m. h j (omega arith) (omega arith)))
+  span-shift g (suc n) i h =
+      ap₂ _∷_ (h i (omega arith) (omega arith)) (span-shift g n (i + 1) (λ j l m. h j (omega arith) (omega arith)))
 
 -- ---- the sources
 

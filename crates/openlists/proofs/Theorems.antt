@@ -19,10 +19,12 @@ use Rattle.query.specs.Listings.{ruleFrom, wholeFrom}
 use Rattle.query.proofs.SpanLaws.{length-span}
 use Rattle.openlists.specs.Places.{placePart, placePages, placedIn, Places, Alike, Opened}
 
-span-rise : (U : ℕ) (f : ℕ → List ℕ) (n i : ℕ) → ((j : ℕ) → i ≤ j → j < i + n → rising 0 U (f j) ≡ true) → Rise U (span f i n)
+span-rise : (U : ℕ) (f : ℕ → List ℕ) (n i : ℕ) → ((j : ℕ) → i ≤ j → j < i + n → rising 0 U (f j) ≡ true)
+    → Rise U (span f i n)
 unfolding span
 span-rise U f zero i h = tt
-span-rise U f (suc n) i h = (h i (omega arith) (omega arith), span-rise U f n (i + 1) (λ j l m. h j (omega arith) (omega arith)))
+span-rise U f (suc n) i h =
+    (h i (omega arith) (omega arith), span-rise U f n (i + 1) (λ j l m. h j (omega arith) (omega arith)))
 
 module _ (s ps : List ℕ) (k : ℕ) (p : Places s ps k) (a : Alike s ps k) where
   pub placed-length : length (placedIn s ps k) ≡ k
@@ -48,11 +50,15 @@ module _ (s ps : List ℕ) (k : ℕ) (p : Places s ps k) (a : Alike s ps k) wher
     opened-listed = rw opened-rule (from-listed (listU (placePart s ps 0)) (placedIn s ps k) some placed-rise b)
 
     pub opened-seeks : (j : ℕ) → j < k → wholeFrom s r k b .seeks ≤ k * length (getD (placedIn s ps k) j []) + 1
-    opened-seeks j h = rw opened-rule (rw placed-length at (from-seeks (listU (placePart s ps 0)) (placedIn s ps k) some placed-rise b j (rw placed-length h)))
+    opened-seeks j h =
+        rw opened-rule (rw placed-length at
+        (from-seeks (listU (placePart s ps 0)) (placedIn s ps k) some placed-rise b j (rw placed-length h)))
 
-    pub opened-looks : wholeFrom s r k b .looks ≤ wholeFrom s r k b .seeks + wordsOf (listU (placePart s ps 0)) (placedIn s ps k)
+    pub opened-looks : wholeFrom s r k b .looks ≤ wholeFrom s r k b .seeks + wordsOf (listU (placePart s ps 0))
+        (placedIn s ps k)
     opened-looks = rw opened-rule (from-looks (listU (placePart s ps 0)) (placedIn s ps k) some placed-rise b)
 
   -- from the start: the step rule itself
-  pub opened-common : (r : List ℕ) → Opened s ps k r → wholeFrom s r k 0 ≡ common (listU (placePart s ps 0)) (placedIn s ps k)
+  pub opened-common : (r : List ℕ) → Opened s ps k r → wholeFrom s r k 0
+      ≡ common (listU (placePart s ps 0)) (placedIn s ps k)
   opened-common r o = opened-rule r o 0 ∙ sym (common-from (listU (placePart s ps 0)) (placedIn s ps k))

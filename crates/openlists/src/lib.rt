@@ -116,7 +116,8 @@ pub fn open_slots(card: &[u8], places: &[u32], k: usize, lead: usize, shapes: &m
 // Opens them with the shortest first, and returns its place.
 pub fn open_lists(card: &[u8], places: &[u32], k: usize, shapes: &mut [u32]) -> usize
     requires { ⌜ Places (now card) (now places) k × Alike (now card) (now places) k × (length (now shapes) ≡ 64) ⌝ }
-    ensures { λ r. ⌜ (r ≡ leadOf (placedIn (now (card .entry)) (now (places .entry)) k)) × Opened (now (card .entry)) (now (places .entry)) k (now (shapes .exit)) ⌝ }
+    ensures { λ r. ⌜ (r ≡ leadOf (placedIn (now (card .entry)) (now (places .entry)) k))
+        × Opened (now (card .entry)) (now (places .entry)) k (now (shapes .exit)) ⌝ }
 {
     let lead = lead_of(card, places, k);
     open_slots(card, places, k, lead, shapes);

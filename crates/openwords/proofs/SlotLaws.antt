@@ -24,7 +24,8 @@ use Rattle.wordlists.specs.Lying.{listOf}
 use Rattle.openwords.specs.Slots.{bytesOf, Within, Slot, Filled}
 
 -- each of a word's lists is accepted
-pub list-accepted : (s : List ℕ) (t k : ℕ) → indexRefusal s ≡ Accepted → t < indexT s → k < 3 → listRefusal (listOf s t k) ≡ Accepted
+pub list-accepted : (s : List ℕ) (t k : ℕ) → indexRefusal s ≡ Accepted → t < indexT s → k < 3
+    → listRefusal (listOf s t k) ≡ Accepted
 unfolding listOf pagesOf countsOf positionsOf
 list-accepted s t zero a h l = accepted-lists (termPart t s) (accepted-term s a t h .accepts) .pages
 list-accepted s t (suc zero) a h l = accepted-lists (termPart t s) (accepted-term s a t h .accepts) .counts
@@ -32,10 +33,22 @@ list-accepted s t (suc (suc zero)) a h l = accepted-lists (termPart t s) (accept
 list-accepted s t (suc (suc (suc k))) a h l = absurd (omega arith)
 
 -- a slot is what its numbers are
-slot-same : (s sh r : List ℕ) (i : ℕ) (b : List ℕ) → length r ≡ 64 → ((j : ℕ) → j < 8 → numberOf r i j ≡ numberOf sh i j) → Slot s sh i b → Slot s r i b
+slot-same : (s sh r : List ℕ) (i : ℕ) (b : List ℕ) → length r ≡ 64
+    → ((j : ℕ) → j < 8 → numberOf r i j ≡ numberOf sh i j) → Slot s sh i b → Slot s r i b
 slot-same s sh r i b l e o =
     let p : partAt s r i ≡ partAt s sh i = unfold partAt in rw (e 0 (omega arith), e 1 (omega arith)) in
-    let g : shapeIn r i ≡ shapeIn sh i = unfold shapeIn in rw (e 0 (omega arith), e 1 (omega arith), e 2 (omega arith), e 3 (omega arith), e 4 (omega arith), e 5 (omega arith), e 6 (omega arith), e 7 (omega arith)) in
+    let g : shapeIn r i ≡ shapeIn sh i =
+    unfold shapeIn in rw (
+      e 0 (omega arith),
+      e 1 (omega arith),
+      e 2 (omega arith),
+      e 3 (omega arith),
+      e 4
+          (omega arith),
+      e 5 (omega arith),
+      e 6 (omega arith),
+      e 7 (omega arith),
+    ) in
     record {
       block = record {
         room = l;
@@ -47,19 +60,34 @@ slot-same s sh r i b l e o =
       part-is = p ∙ o .part-is;
     }
 
-module _ (s : List ℕ) (from to : ℕ) (b : List ℕ) (w : Within s from to) (bytes : bytesOf s from to ≡ b) (a : listRefusal b ≡ Accepted) where
+module _ (s : List ℕ) (from to : ℕ) (b : List ℕ) (w : Within s from to) (bytes : bytesOf s from to ≡ b)
+    (a : listRefusal b ≡ Accepted) where
   abbrev numbers : List ℕ
   numbers = numbersOf from to (shapeOf (listU b) (listN b))
 
   ends-at : to - from ≡ shapeOf (listU b) (listN b) .end
   ends-at =
-      let n : length (bytesOf s from to) ≡ to - from = length-take-le (to - from) (drop from s) (omega (arith, length-drop from s, w .starts, w .ends)) in
+      let n : length (bytesOf s from to) ≡ to - from =
+      length-take-le (to - from) (drop from s) (omega (arith, length-drop from s, w .starts, w .ends)) in
       sym n ∙ ap length bytes ∙ accepted-framed b a .0 .length-is ∙ sym (shape-end (listU b) (listN b))
 
-  slot-made : (sh : List ℕ) (i : ℕ) → length sh ≡ 64 → i < 8 → ((j : ℕ) → j < 8 → numberOf sh i j ≡ getD numbers j 0) → Slot s sh i b
+  slot-made : (sh : List ℕ) (i : ℕ) → length sh ≡ 64 → i < 8 → ((j : ℕ) → j < 8 → numberOf sh i j ≡ getD numbers j 0)
+      → Slot s sh i b
   slot-made sh i l h e =
       let p : partAt s sh i ≡ b = unfold partAt in rw (e 0 (omega arith), e 1 (omega arith)) bytes in
-      let g : shapeIn sh i ≡ shapeOf (listU b) (listN b) = unfold shapeIn in rw (e 0 (omega arith), e 1 (omega arith), e 2 (omega arith), e 3 (omega arith), e 4 (omega arith), e 5 (omega arith), e 6 (omega arith), e 7 (omega arith), ends-at) in
+      let g : shapeIn sh i ≡ shapeOf (listU b) (listN b) =
+      unfold shapeIn in rw (
+        e 0 (omega arith),
+        e 1 (omega arith),
+        e 2 (omega arith),
+        e 3 (omega arith),
+        e 4
+            (omega arith),
+        e 5 (omega arith),
+        e 6 (omega arith),
+        e 7 (omega arith),
+        ends-at,
+      ) in
       record {
         block = record {
           room = l;
@@ -72,14 +100,18 @@ module _ (s : List ℕ) (from to : ℕ) (b : List ℕ) (w : Within s from to) (b
       }
 
   module _ (ts : List ℕ) (k t : ℕ) (sh : List ℕ) (few : t < 8) where
-    pub filled-more : b ≡ listOf s (getD ts t 0) k → Filled s ts k t sh → Filled s ts k (t + 1) (paste sh (8 * t) numbers 8)
+    pub filled-more : b ≡ listOf s (getD ts t 0) k → Filled s ts k t sh
+        → Filled s ts k (t + 1) (paste sh (8 * t) numbers 8)
     filled-more is f =
         let room = length-paste sh (8 * t) numbers 8 (omega (arith, f .room)) (omega arith) ∙ f .room in record {
           room = room;
           slot = λ i h. elim (ℕ-discrete i t) [
-            | yes e ↦ rw (e, ← is) (slot-made (paste sh (8 * t) numbers 8) t room few (λ j m. paste-in sh numbers (8 * t) 8 (omega (arith, f .room)) (omega arith) j m))
+            | yes e ↦ rw (e, ← is)
+                (slot-made (paste sh (8 * t) numbers 8) t room few
+                (λ j m. paste-in sh numbers (8 * t) 8 (omega (arith, f .room)) (omega arith) j m))
             | no e ↦
                 slot-same s sh (paste sh (8 * t) numbers 8) i (listOf s (getD ts i 0) k) room
-                (λ j m. paste-before sh numbers (8 * t) 8 (omega (arith, f .room)) (omega arith) (8 * i + j) (omega arith)) (f .slot i (omega arith))
+                (λ j m. paste-before sh numbers (8 * t) 8 (omega (arith, f .room)) (omega arith) (8 * i + j)
+                (omega arith)) (f .slot i (omega arith))
           ];
         }

@@ -15,7 +15,8 @@ ghost use Rattle.openwords.specs.Slots.{bytesOf, Within, Filled};
 // The numbers of the accepted list from byte `from` up to byte `to`.
 fn numbers_at(card: &[u8], from: usize, to: usize) -> [u32; 8]
     requires { ⌜ Within (now card) from to × (listRefusal (bytesOf (now card) from to) ≡ Accepted) ⌝ }
-    ensures { λ r. ⌜ r ≡ numbersOf from to (shapeOf (listU (bytesOf (now (card .entry)) from to)) (listN (bytesOf (now (card .entry)) from to))) ⌝ }
+    ensures { λ r. ⌜ r ≡ numbersOf from to
+        (shapeOf (listU (bytesOf (now (card .entry)) from to)) (listN (bytesOf (now (card .entry)) from to))) ⌝ }
 {
     let g = readlist::shape_at(&card[from..to]);
     [
@@ -32,8 +33,10 @@ fn numbers_at(card: &[u8], from: usize, to: usize) -> [u32; 8]
 
 // Opens the words' lists number k: 0 pages, 1 counts, 2 positions; each in its word's slot of the 64 numbers.
 pub fn open_words(card: &[u8], terms: &[u32], k: usize, shapes: &mut [u32])
-    requires { ⌜ (indexRefusal (now card) ≡ Accepted) × (wordsGood (indexT (now card)) (now terms) ≡ true) × (k < 3) × (length (now shapes) ≡ 64) ⌝ }
-    ensures { λ _. ⌜ Filled (now (card .entry)) (now (terms .entry)) k (length (now (terms .entry))) (now (shapes .exit)) ⌝ }
+    requires { ⌜ (indexRefusal (now card) ≡ Accepted) × (wordsGood (indexT (now card)) (now terms) ≡ true) × (k < 3)
+        × (length (now shapes) ≡ 64) ⌝ }
+    ensures { λ _. ⌜ Filled (now (card .entry)) (now (terms .entry)) k (length (now (terms .entry)))
+        (now (shapes .exit)) ⌝ }
 {
     let mut i = 0;
     while i < terms.len() {

@@ -27,7 +27,8 @@ use Rattle.span.specs.Spans.{onPage}
 use Rattle.span.proofs.WalkLaws.{past-some, past-le, past-lt, past-mono, first-past}
 use Rattle.phrase.specs.declared.Tried.{Tried}
 use Rattle.phrase.specs.Starts.{standsIn, startsOver, startsIn}
-use Rattle.phrase.specs.Words.{elementsAt, walkIn, baseIn, endIn, pageAt, pageIn, BlockAt, Words, Ready, PassedOn, Beside, Stood, Begun, Counted}
+use Rattle.phrase.specs.Words.{elementsAt, walkIn, baseIn, endIn, pageAt, pageIn, BlockAt, Words, Ready, PassedOn}
+use Rattle.phrase.specs.Words.{Beside, Stood, Begun, Counted}
 use Rattle.phrase.proofs.StartLaws.{over-none}
 use Rattle.phrase.proofs.PageLaws.{getD-less, page-has}
 use Rattle.phrase.proofs.StandLaws.{ready-same, ready-more, beside-more}
@@ -40,7 +41,9 @@ pub record Counting (s sh xs : List ℕ) (k : ℕ) (ws : List ℕ) (count : ℕ)
   pub few : count ≤ walkIn ws 0 .next
   pub beside : Beside s sh xs k ws (walkIn ws 0 .past - baseIn xs 0)
   pub left :
-      count + startsOver (pageIn s sh xs k) (less (baseIn xs 0) (slice (walkIn ws 0 .next) (endIn xs 0) (elementsAt s sh 0))) ≡ startsIn (pageIn s sh xs k)
+      count + startsOver (pageIn s sh xs k)
+      (less (baseIn xs 0) (slice (walkIn ws 0 .next) (endIn xs 0) (elementsAt s sh 0)))
+      ≡ startsIn (pageIn s sh xs k)
 
 -- the next of them is passed, and to be tried
 pub record Trying (s sh xs : List ℕ) (k : ℕ) (ws after : List ℕ) : Type 0 where
@@ -57,8 +60,10 @@ one-at-most : (b : Bool) → cond b 1 0 ≤ 1
 one-at-most true = omega arith
 one-at-most false = omega arith
 
-pub stood-one : (s sh xs : List ℕ) (k : ℕ) (ws : List ℕ) (a : ℕ) (t : Tried) (after : List ℕ) → Stood s sh xs k ws a t after → t .count ≤ 1
-stood-one s sh xs k ws a t after st = omega (arith, st .counted, one-at-most (standsIn (span (pageAt s sh xs) 1 (k - 1)) (a + 1)))
+pub stood-one : (s sh xs : List ℕ) (k : ℕ) (ws : List ℕ) (a : ℕ) (t : Tried) (after : List ℕ)
+    → Stood s sh xs k ws a t after → t .count ≤ 1
+stood-one s sh xs k ws a t after st =
+    omega (arith, st .counted, one-at-most (standsIn (span (pageAt s sh xs) 1 (k - 1)) (a + 1)))
 
 module _ (s sh xs : List ℕ) (k : ℕ) (w : Words s sh xs k) where
   abbrev base : ℕ
@@ -109,7 +114,8 @@ module _ (s sh xs : List ℕ) (k : ℕ) (w : Words s sh xs k) where
           inside = g .inside i h;
           below = omega (
             arith,
-            past-mono (listU (partAt s sh i)) (elementsAt s sh i) (open-rising (partAt s sh i) (shapeIn sh i) (on .opened)) (walkIn ws i .next - 1) (walkIn ws i .next)
+            past-mono (listU (partAt s sh i)) (elementsAt s sh i)
+                (open-rising (partAt s sh i) (shapeIn sh i) (on .opened)) (walkIn ws i .next - 1) (walkIn ws i .next)
                 (omega arith) (omega (arith, size, on .within)),
             on .past-is,
             g .before i h,
@@ -122,7 +128,9 @@ module _ (s sh xs : List ℕ) (k : ℕ) (w : Words s sh xs k) where
   counting-begins ws g =
       let on = g .on 0 (w .some) in
       let e : base ≡ past es (walkIn ws 0 .next) = sym (g .before 0 (w .some)) ∙ on .past-is in
-      let f : firstAt base es ≡ walkIn ws 0 .next = ap (λ (b : ℕ). firstAt b es) e ∙ first-past U es rises (walkIn ws 0 .next) (omega (arith, within, g .inside 0 (w .some))) in
+      let f : firstAt base es ≡ walkIn ws 0 .next =
+      ap (λ (b : ℕ). firstAt b es) e
+      ∙ first-past U es rises (walkIn ws 0 .next) (omega (arith, within, g .inside 0 (w .some))) in
       record {
         on = on;
         inside = g .inside 0 (w .some);
@@ -130,7 +138,9 @@ module _ (s sh xs : List ℕ) (k : ℕ) (w : Words s sh xs k) where
         few = omega arith;
         beside = record {
           room = g .room;
-          others = λ i p h. ready-more s sh xs ws i (baseIn xs i) (baseIn xs i + (walkIn ws 0 .past - base) + i) (omega arith) (begun-ready ws g i h);
+          others =
+              λ i p h. ready-more s sh xs ws i (baseIn xs i) (baseIn xs i + (walkIn ws 0 .past - base) + i)
+              (omega arith) (begun-ready ws g i h);
         };
         left = omega (arith, rw f at starts-all);
       }
@@ -148,7 +158,12 @@ module _ (s sh xs : List ℕ) (k : ℕ) (w : Words s sh xs k) where
       passing = record {
         on = c .on;
         inside = c .inside;
-        below = omega (arith, past-mono U es rises (n - 1) n (omega arith) (omega (arith, within, c .inside)), c .on .past-is);
+        below =
+            omega (
+              arith,
+              past-mono U es rises (n - 1) n (omega arith) (omega (arith, within, c .inside)),
+              c .on .past-is,
+            );
       };
     }
 
@@ -156,7 +171,9 @@ module _ (s sh xs : List ℕ) (k : ℕ) (w : Words s sh xs k) where
       beside-after : Beside s sh xs k after (walkIn ws 0 .past - base)
       beside-after = record {
         room = p .ready .room;
-        others = λ i l h. ready-same s sh xs ws after i (baseIn xs i + (walkIn ws 0 .past - base) + i) (p .ready .room) (p .others i (λ e. omega arith)) (c .beside .others i l h);
+        others =
+            λ i l h. ready-same s sh xs ws after i (baseIn xs i + (walkIn ws 0 .past - base) + i) (p .ready .room)
+            (p .others i (λ e. omega arith)) (c .beside .others i l h);
       }
 
       -- ---- the end
@@ -168,15 +185,24 @@ module _ (s sh xs : List ℕ) (k : ℕ) (w : Words s sh xs k) where
           let l : walkIn after 0 .past ≤ walkIn ws 0 .past = ltb-false _ _ (sym (p .found) ∙ e) in
           let q : walkIn after 0 .next ≡ end = p .all l in
           let done : end ≤ n = elim (decLt n end) [
-            | yes h ↦ absurd (omega (arith, past-lt U es rises n end h within, on .past-is, ap (past es) q, c .on .past-is))
+            | yes h ↦ absurd (omega
+                (arith, past-lt U es rises n end h within, on .past-is, ap (past es) q, c .on .past-is))
             | no h ↦ omega arith
           ] in
-          let none : slice n end es ≡ [] = drop-of-length-le (take end es) {i = n} (rw (length-take-le end es within) done) in
+          let none : slice n end es ≡ [] =
+          drop-of-length-le (take end es) {i = n} (rw (length-take-le end es within) done) in
           record {
             counted = sym (omega arith) ∙ rw none at (c .left);
             room = p .ready .room;
-            on = λ i h. elim (decLt 0 i) [ yes z ↦ beside-after .others i z h .passing .on | no z ↦ (let d : i ≡ 0 = omega arith in rw d on) ];
-            inside = λ i h. elim (decLt 0 i) [ yes z ↦ beside-after .others i z h .passing .inside | no z ↦ (let d : i ≡ 0 = omega arith in rw d (p .ready .passing .inside)) ];
+            on =
+                λ i h. elim (decLt 0 i)
+                [ yes z ↦ beside-after .others i z h .passing .on | no z ↦ (let d : i ≡ 0 = omega arith in rw d on) ];
+            inside =
+                λ i h. elim (decLt 0 i) [
+                  | yes z ↦ beside-after .others i z h .passing .inside
+                  | no z ↦
+                      (let d : i ≡ 0 = omega arith in rw d (p .ready .passing .inside))
+                ];
           }
 
       -- ---- a position to try
@@ -189,10 +215,22 @@ module _ (s sh xs : List ℕ) (k : ℕ) (w : Words s sh xs k) where
           let inside = p .ready .passing .inside in
           let more : n < walkIn after 0 .next = elim (decLt n (walkIn after 0 .next)) [
             | yes h ↦ h
-            | no h ↦ absurd (omega (arith, on .past-is, c .on .past-is, past-mono U es rises (walkIn after 0 .next) n (omega arith) (omega (arith, within, c .inside))))
+            | no h ↦ absurd (omega (
+              arith,
+              on .past-is,
+              c .on .past-is,
+              past-mono U es rises (walkIn after 0 .next) n (omega arith)
+                  (omega (arith, within, c .inside)),
+            ))
           ] in
           let next : walkIn after 0 .next ≡ n + 1 = elim (decLt n (walkIn after 0 .next - 1)) [
-            | yes h ↦ absurd (omega (arith, p .ready .passing .below, c .on .past-is, past-lt U es rises n (walkIn after 0 .next - 1) h (omega (arith, within, inside))))
+            | yes h ↦ absurd (omega (
+              arith,
+              p .ready .passing .below,
+              c .on .past-is,
+              past-lt U es rises n (walkIn after 0 .next - 1) h
+                  (omega (arith, within, inside)),
+            ))
             | no h ↦ omega arith
           ] in
           let d : walkIn after 0 .next - 1 ≡ n = omega arith in
@@ -203,11 +241,19 @@ module _ (s sh xs : List ℕ) (k : ℕ) (w : Words s sh xs k) where
             next-is = next;
             element-is = sym (on .past-is ∙ some ∙ ap (λ (j : ℕ). getD es j 0 + 1) d);
             behind = omega (arith, c .behind);
-            small = omega (arith, on .past-is, past-le U es rises (walkIn after 0 .next) (omega (arith, within, inside)), open-within (partAt s sh 0) (shapeIn sh 0) (on .opened));
+            small =
+                omega (
+                  arith,
+                  on .past-is,
+                  past-le U es rises (walkIn after 0 .next) (omega (arith, within, inside)),
+                  open-within (partAt s sh 0) (shapeIn sh 0) (on .opened),
+                );
             few =
                 let r = open-reads (partAt s sh 0) (shapeIn sh 0) (on .opened) in
                 omega (arith, on .within, r .below, r .within);
-            beside = beside-more s sh xs k after (walkIn ws 0 .past - base) (walkIn after 0 .past - 1 - base) (omega arith) beside-after;
+            beside =
+                beside-more s sh xs k after (walkIn ws 0 .past - base) (walkIn after 0 .past - 1 - base) (omega arith)
+                beside-after;
           }
 
     module _ (after : List ℕ) (y : Trying s sh xs k ws after) where
@@ -226,7 +272,8 @@ module _ (s sh xs : List ℕ) (k : ℕ) (w : Words s sh xs k) where
           rw (page-cons, has)
 
       -- what is left is that position and the others
-      left-next : startsOver (pageIn s sh xs k) (less base (slice n end es)) ≡ cond (standsIn (span (pageAt s sh xs) 1 (k - 1)) (a + 1)) 1 0 + startsOver (pageIn s sh xs k) rest
+      left-next : startsOver (pageIn s sh xs k) (less base (slice n end es))
+          ≡ cond (standsIn (span (pageAt s sh xs) 1 (k - 1)) (a + 1)) 1 0 + startsOver (pageIn s sh xs k) rest
       unfolding startsOver less rest
       left-next =
           let e : getD es n 0 - base ≡ a = omega (arith, y .element-is) in
@@ -248,7 +295,8 @@ module _ (s sh xs : List ℕ) (k : ℕ) (w : Words s sh xs k) where
               inside = omega (arith, first-next, y .inside);
               behind = omega (arith, first-past-is, y .behind);
               few = omega (arith, first-next, c .few, stood-one s sh xs k after a t fin st);
-              beside = beside-more s sh xs k fin a (walkIn fin 0 .past - base) (omega (arith, first-past-is)) (st .beside);
+              beside =
+                  beside-more s sh xs k fin a (walkIn fin 0 .past - base) (omega (arith, first-past-is)) (st .beside);
               left = rw e (omega (arith, c .left, left-next, st .counted));
             }
 
@@ -257,15 +305,36 @@ module _ (s sh xs : List ℕ) (k : ℕ) (w : Words s sh xs k) where
         unfolding rest standsIn
         rest-none e =
             over-none (pageIn s sh xs k) rest (λ j l.
-            let m : suc n + j < end = omega (arith, length-less base (slice (suc n) end es), length-slice (suc n) end es within) in
-            let q : getD rest j 0 ≡ getD es (suc n + j) 0 - base = getD-less base (slice (suc n) end es) j ∙ ap (λ (v : ℕ). v - base) (getD-drop (suc n) (take end es) j 0 ∙ getD-take end es (suc n + j) 0 m) in
-            let f = st .last e (getD rest j 0) (omega (arith, q, y .element-is, rising-lt 0 U es rises n (suc n + j) (omega arith) (omega (arith, within)))) in
+            let m : suc n + j < end =
+            omega (arith, length-less base (slice (suc n) end es), length-slice (suc n) end es within) in
+            let q : getD rest j 0 ≡ getD es (suc n + j) 0 - base =
+            getD-less base (slice (suc n) end es) j
+            ∙ ap (λ (v : ℕ). v - base) (getD-drop (suc n) (take end es) j 0 ∙ getD-take end es (suc n + j) 0 m) in
+            let f =
+            st .last e (getD rest j 0)
+            (omega (
+              arith,
+              q,
+              y .element-is,
+              rising-lt 0 U es rises n (suc n + j) (omega arith)
+                  (omega (arith, within)),
+            )) in
             rw (page-cons, f) (and-false (member (getD rest j 0) (pageAt s sh xs 0))))
 
         pub counting-last : t .last ≡ true → Counted s sh xs k (count + t .count) fin
         counting-last e = record {
           counted = omega (arith, c .left, left-next, st .counted, rest-none e);
           room = st .beside .room;
-          on = λ i h. elim (decLt 0 i) [ yes z ↦ st .beside .others i z h .passing .on | no z ↦ (let d : i ≡ 0 = omega arith in rw (d, st .first) (y .on)) ];
-          inside = λ i h. elim (decLt 0 i) [ yes z ↦ st .beside .others i z h .passing .inside | no z ↦ (let d : i ≡ 0 = omega arith in rw d (omega (arith, first-next, y .inside))) ];
+          on =
+              λ i h. elim (decLt 0 i) [
+                | yes z ↦ st .beside .others i z h .passing .on
+                | no z ↦
+                    (let d : i ≡ 0 = omega arith in rw (d, st .first) (y .on))
+              ];
+          inside =
+              λ i h. elim (decLt 0 i) [
+                | yes z ↦ st .beside .others i z h .passing .inside
+                | no z ↦
+                    (let d : i ≡ 0 = omega arith in rw d (omega (arith, first-next, y .inside)))
+              ];
         }

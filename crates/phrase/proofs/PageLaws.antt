@@ -40,7 +40,9 @@ module _ (U : ℕ) (es : List ℕ) (rises : rising 0 U es ≡ true) (base to : �
 
   page-at : (j : ℕ) → f + j < to → getD (onPage es base to) j 0 ≡ getD es (f + j) 0 - base
   unfolding onPage
-  page-at j h = getD-less base (slice f to es) j ∙ ap (λ (e : ℕ). e - base) (getD-drop f (take to es) j 0 ∙ getD-take to es (f + j) 0 h)
+  page-at j h =
+      getD-less base (slice f to es) j
+      ∙ ap (λ (e : ℕ). e - base) (getD-drop f (take to es) j 0 ∙ getD-take to es (f + j) 0 h)
 
   -- its elements lie behind the base
   page-from : (j : ℕ) → f ≤ j → j < to → base ≤ getD es j 0
@@ -60,7 +62,8 @@ module _ (U : ℕ) (es : List ℕ) (rises : rising 0 U es ≡ true) (base to : �
 
   pub page-has : (x j : ℕ) → j < to → getD es j 0 ≡ base + x → member x (onPage es base to) ≡ true
   page-has x j h e =
-      let l : f ≤ j = elim (decLt j f) [ yes g ↦ absurd (omega (arith, firstAt-before base es j g)) | no g ↦ omega arith ] in
+      let l : f ≤ j =
+      elim (decLt j f) [ yes g ↦ absurd (omega (arith, firstAt-before base es j g)) | no g ↦ omega arith ] in
       let n : f + (j - f) ≡ j = omega (arith, l) in
       let p : getD (onPage es base to) (j - f) 0 ≡ x = page-at (j - f) (omega arith) ∙ rw (n, e) (omega arith) in
       rw p at (member-at (onPage es base to) (j - f) (omega (arith, page-length, l)))

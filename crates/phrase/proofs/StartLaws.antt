@@ -61,7 +61,8 @@ module _ (pss : List (List ℕ)) where
   over-none [] h = refl
   over-none (q ∷ qs) h = rw (h 0 (omega arith)) (omega (arith, over-none qs (λ j l. h (suc j) (omega arith))))
 
-  over-all : (qs : List ℕ) → ((j : ℕ) → j < length qs → standsIn pss (getD qs j 0) ≡ true) → startsOver pss qs ≡ length qs
+  over-all : (qs : List ℕ) → ((j : ℕ) → j < length qs → standsIn pss (getD qs j 0) ≡ true) → startsOver pss qs
+      ≡ length qs
   unfolding startsOver
   over-all [] h = refl
   over-all (q ∷ qs) h = rw (h 0 (omega arith)) (omega (arith, over-all qs (λ j l. h (suc j) (omega arith))))

@@ -27,7 +27,8 @@ use Rattle.phrase.proofs.PageLaws.{page-length}
 
 -- what each word of a question gives, one after the other
 words-map : {A : Type 0} (s : List ℕ) (g : Word → A) (f : ℕ → A) (args : List ℕ) (i : ℕ)
-    → ((j : ℕ) → j < length args → f (i + j) ≡ g (readWord (termPart (getD args j 0) s))) → span f i (length args) ≡ map g (wordsIn s args)
+    → ((j : ℕ) → j < length args → f (i + j) ≡ g (readWord (termPart (getD args j 0) s))) → span f i (length args)
+    ≡ map g (wordsIn s args)
 unfolding span wordsIn wordOf
 words-map s g f [] i h = refl
 words-map s g f (t ∷ args) i h =
@@ -44,13 +45,16 @@ module _ (s sh xs : List ℕ) (p i : ℕ) (t : List ℕ) (at : TermAt s sh xs p 
   page-positions : pageAt s sh xs i ≡ positionsOn p (readWord t)
   unfolding pageAt
   page-positions =
-      rw (at .part-is, at .base-is, at .end-is) (sym (on-page .positions-are) ∙ ap (λ (q : ℕ). positionsOn q (readWord t)) (at .page-is))
+      rw (at .part-is, at .base-is, at .end-is)
+      (sym (on-page .positions-are) ∙ ap (λ (q : ℕ). positionsOn q (readWord t)) (at .page-is))
 
   -- its span lies among its elements
   page-bounds : (endIn xs i ≤ length (elementsAt s sh i)) × (baseIn xs i ≤ listU (partAt s sh i))
   page-bounds = (
     rw (at .part-is, at .end-is) (on-page .within),
-    rw (at .part-is, at .base-is) (past-le (listU (positionsOf t)) (decode (positionsOf t)) (positions-listed t (at .accepts) .rises) (positionsBefore t (at .rank))
+    rw (at .part-is, at .base-is)
+        (past-le (listU (positionsOf t)) (decode (positionsOf t)) (positions-listed t (at .accepts) .rises)
+        (positionsBefore t (at .rank))
         (omega (arith, on-page .some, on-page .within))),
   )
 
@@ -60,26 +64,42 @@ module _ (s sh xs : List ℕ) (p : ℕ) (args : List ℕ)
   pub page-starts : startsIn (pageIn s sh xs (length args)) ≡ starts (wordsIn s args) p
   unfolding pageIn
   page-starts =
-      let e : (j : ℕ) → j < length args → pageAt s sh xs (0 + j) ≡ positionsOn p (readWord (termPart (getD args j 0) s)) =
+      let e : (j : ℕ) → j < length args → pageAt s sh xs (0 + j)
+      ≡ positionsOn p (readWord (termPart (getD args j 0) s)) =
       λ j l. rw (zero-add j) (page-positions s sh xs p j (termPart (getD args j 0) s) (at j l)) in
       ap startsIn (words-map s (positionsOn p) (pageAt s sh xs) args 0 e) ∙ sym (starts-in p (wordsIn s args))
 
   -- so their lists and spans may be walked
-  pub page-words : 0 < length args → length args ≤ 8 → length xs ≡ 16 → ((i : ℕ) → i < length args → BlockAt s sh i) → Words s sh xs (length args)
+  pub page-words : 0 < length args → length args ≤ 8 → length xs ≡ 16 → ((i : ℕ) → i < length args → BlockAt s sh i)
+      → Words s sh xs (length args)
   unfolding shapeIn
   page-words n m r b = record {
     some = n;
     few = m;
     room = r;
     lists = b;
-    within = λ i h. omega (arith, page-bounds s sh xs p i (termPart (getD args i 0) s) (at i h) .0, open-length (partAt s sh i) (shapeIn sh i) (b i h .opened));
-    bases = λ i h. omega (arith, page-bounds s sh xs p i (termPart (getD args i 0) s) (at i h) .1, open-within (partAt s sh i) (shapeIn sh i) (b i h .opened));
+    within =
+        λ i h. omega (
+          arith,
+          page-bounds s sh xs p i (termPart (getD args i 0) s) (at i h) .0,
+          open-length
+              (partAt s sh i) (shapeIn sh i) (b i h .opened),
+        );
+    bases =
+        λ i h. omega (
+          arith,
+          page-bounds s sh xs p i (termPart (getD args i 0) s) (at i h) .1,
+          open-within
+              (partAt s sh i) (shapeIn sh i) (b i h .opened),
+        );
   }
 
 -- a word alone starts at each of its positions
 pub lone-starts : (s args : List ℕ) (p rank : ℕ) → length args ≡ 1 → termRefusal (termPart (getD args 0 0) s) ≡ Accepted
-    → rank < length (decode (pagesOf (termPart (getD args 0 0) s))) → getD (decode (pagesOf (termPart (getD args 0 0) s))) rank 0 ≡ p
-    → positionsBefore (termPart (getD args 0 0) s) (rank + 1) - positionsBefore (termPart (getD args 0 0) s) rank ≡ starts (wordsIn s args) p
+    → rank < length (decode (pagesOf (termPart (getD args 0 0) s)))
+    → getD (decode (pagesOf (termPart (getD args 0 0) s))) rank 0 ≡ p
+    → positionsBefore (termPart (getD args 0 0) s) (rank + 1) - positionsBefore (termPart (getD args 0 0) s) rank
+    ≡ starts (wordsIn s args) p
 unfolding wordsIn wordOf
 lone-starts s [] p rank l a r e = absurd (omega arith)
 lone-starts s (x ∷ (y ∷ args)) p rank l a r e = absurd (omega arith)
@@ -92,4 +112,5 @@ lone-starts s (x ∷ []) p rank l a r e =
     let f = first-past U es rises (positionsBefore t rank) (omega (arith, g .some, g .within)) in
     let size = page-length U es rises (past es (positionsBefore t rank)) (positionsBefore t (rank + 1)) (g .within) in
     let is = sym (g .positions-are) ∙ ap (λ (q : ℕ). positionsOn q (readWord t)) e in
-    sym (starts-in p (readWord t ∷ []) ∙ starts-alone (positionsOn p (readWord t)) ∙ ap length (sym is) ∙ size ∙ ap (λ (n : ℕ). positionsBefore t (rank + 1) - n) f)
+    sym (starts-in p (readWord t ∷ []) ∙ starts-alone (positionsOn p (readWord t)) ∙ ap length (sym is) ∙ size
+    ∙ ap (λ (n : ℕ). positionsBefore t (rank + 1) - n) f)

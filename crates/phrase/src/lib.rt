@@ -52,8 +52,10 @@ pub struct Ranks {
 
 // Those of word i's page number `rank`, by the counts before it and with it.
 pub fn ranks_at(card: &[u8], counts: &[u32], i: usize, rank: usize, walks: &mut [usize]) -> Ranks
-    requires { ⌜ Readable (now card) (now counts) (now walks) i × (walkIn (now walks) i .next ≤ rank) × (rank < numberOf (now counts) i 7) ⌝ }
-    ensures { λ r. ⌜ (r ≡ ranksOf (elementsAt (now (card .entry)) (now (counts .entry)) i) rank) × Walked (now (card .entry)) (now (counts .entry)) (now (walks .entry)) i (rank + 1) (now (walks .exit)) ⌝ }
+    requires { ⌜ Readable (now card) (now counts) (now walks) i × (walkIn (now walks) i .next ≤ rank)
+        × (rank < numberOf (now counts) i 7) ⌝ }
+    ensures { λ r. ⌜ (r ≡ ranksOf (elementsAt (now (card .entry)) (now (counts .entry)) i) rank)
+        × Walked (now (card .entry)) (now (counts .entry)) (now (walks .entry)) i (rank + 1) (now (walks .exit)) ⌝ }
 {
     let block = part_at(card, counts, i);
     let g = query::shape_in(counts, i);
@@ -75,8 +77,12 @@ pub fn turn_to(
     spans: &mut [usize],
     walks: &mut [usize],
 )
-    requires { ⌜ Readable (now card) (now shapes) (now walks) i × (walkIn (now walks) i .next ≤ x .from) × (x .from ≤ numberOf (now shapes) i 7) × (length (now spans) ≡ 16) ⌝ }
-    ensures { λ _. ⌜ (now (spans .exit) ≡ withSpan (now (spans .entry)) i (past (elementsAt (now (card .entry)) (now (shapes .entry)) i) (x .from)) (x .to)) × Walked (now (card .entry)) (now (shapes .entry)) (now (walks .entry)) i (x .from) (now (walks .exit)) ⌝ }
+    requires { ⌜ Readable (now card) (now shapes) (now walks) i × (walkIn (now walks) i .next ≤ x .from)
+        × (x .from ≤ numberOf (now shapes) i 7) × (length (now spans) ≡ 16) ⌝ }
+    ensures { λ _. ⌜ (now (spans .exit)
+        ≡ withSpan (now (spans .entry)) i (past (elementsAt (now (card .entry)) (now (shapes .entry)) i) (x .from))
+        (x .to)) × Walked (now (card .entry)) (now (shapes .entry)) (now (walks .entry)) i (x .from)
+        (now (walks .exit)) ⌝ }
 {
     let w = walk_in(walks, i);
     let v = span::pass_to(
@@ -101,8 +107,10 @@ fn pass_on(
     b: usize,
     walks: &mut [usize],
 ) -> bool
-    requires { ⌜ BlockAt (now card) (now shapes) i × (length (now spans) ≡ 16) × Ready (now card) (now shapes) (now spans) (now walks) i b ⌝ }
-    ensures { λ r. ⌜ PassedOn (now (card .entry)) (now (shapes .entry)) (now (spans .entry)) (now (walks .entry)) i b r (now (walks .exit)) ⌝ }
+    requires { ⌜ BlockAt (now card) (now shapes) i × (length (now spans) ≡ 16)
+        × Ready (now card) (now shapes) (now spans) (now walks) i b ⌝ }
+    ensures { λ r. ⌜ PassedOn (now (card .entry)) (now (shapes .entry)) (now (spans .entry)) (now (walks .entry)) i
+        b r (now (walks .exit)) ⌝ }
 {
     let w = walk_in(walks, i);
     if b < w.past {
@@ -134,8 +142,10 @@ fn stand(
     a: usize,
     walks: &mut [usize],
 ) -> Tried
-    requires { ⌜ Words (now card) (now shapes) (now spans) k × Beside (now card) (now shapes) (now spans) k (now walks) a × (a < 2 ^ 32) ⌝ }
-    ensures { λ r. ⌜ Stood (now (card .entry)) (now (shapes .entry)) (now (spans .entry)) k (now (walks .entry)) a r (now (walks .exit)) ⌝ }
+    requires { ⌜ Words (now card) (now shapes) (now spans) k
+        × Beside (now card) (now shapes) (now spans) k (now walks) a × (a < 2 ^ 32) ⌝ }
+    ensures { λ r. ⌜ Stood (now (card .entry)) (now (shapes .entry)) (now (spans .entry)) k (now (walks .entry)) a r
+        (now (walks .exit)) ⌝ }
 {
     let mut i = 1;
     while i < k {
@@ -168,7 +178,8 @@ pub fn count_starts(
     k: usize,
     walks: &mut [usize],
 ) -> usize
-    requires { ⌜ Words (now card) (now shapes) (now spans) k × Begun (now card) (now shapes) (now spans) k (now walks) ⌝ }
+    requires { ⌜ Words (now card) (now shapes) (now spans) k
+        × Begun (now card) (now shapes) (now spans) k (now walks) ⌝ }
     ensures { λ r. ⌜ Counted (now (card .entry)) (now (shapes .entry)) (now (spans .entry)) k r (now (walks .exit)) ⌝ }
 {
     let mut count = 0;

@@ -24,7 +24,8 @@ use Rattle.openwords.specs.Slots.{Filled}
 use Rattle.phrases.specs.Asked.{foundIn, Asked}
 
 module _ (s ts : List ℕ) (a : indexRefusal s ≡ Accepted) (g : wordsGood (indexT s) ts ≡ true) where
-  pub good-asked : (lead : ℕ) (pg ct ps : List ℕ) → lead ≡ leadOf (listsIn s ts) → OpenedPages s ts pg → Filled s ts 1 (length ts) ct → Filled s ts 2 (length ts) ps
+  pub good-asked : (lead : ℕ) (pg ct ps : List ℕ) → lead ≡ leadOf (listsIn s ts) → OpenedPages s ts pg
+      → Filled s ts 1 (length ts) ct → Filled s ts 2 (length ts) ps
       → Asked s ts lead pg ct ps
   good-asked lead pg ct ps l x y z = record {
     accepts = λ i h. accepted-term s a (getD ts i 0) (word-below (indexT s) ts g i h) .accepts;
@@ -38,13 +39,18 @@ module _ (s ts : List ℕ) (a : indexRefusal s ≡ Accepted) (g : wordsGood (ind
   unfolding foundIn numbered
   answer-is = phrase-common s ts (words-parts (indexT s) ts g .0)
 
-  pub answer-none : (room : List ℕ) → ltb (length (foundIn s ts)) (length room) ≡ false → Wrote (byPhrase (wordsIn s ts)) room 0 room
-  answer-none room e = rw answer-is (wrote-none _ room room (omega (arith, ltb-false (length (foundIn s ts)) (length room) e)) refl)
+  pub answer-none : (room : List ℕ) → ltb (length (foundIn s ts)) (length room) ≡ false
+      → Wrote (byPhrase (wordsIn s ts)) room 0 room
+  answer-none room e =
+      rw answer-is (wrote-none _ room room (omega (arith, ltb-false (length (foundIn s ts)) (length room) e)) refl)
 
-  pub answer-whole : (room : List ℕ) (r : ℕ) (after : List ℕ) → r ≡ length (foundIn s ts) → r < length room → after ≡ laid (0 ∷ foundIn s ts) room
+  pub answer-whole : (room : List ℕ) (r : ℕ) (after : List ℕ) → r ≡ length (foundIn s ts) → r < length room → after
+      ≡ laid (0 ∷ foundIn s ts) room
       → Wrote (byPhrase (wordsIn s ts)) room (r + 1) (set after 0 r)
   unfolding laid
-  answer-whole room r after e h l = rw answer-is (wrote-whole _ room (r + 1) (set after 0 r) (omega arith) (omega (arith, e)) (omega arith) (rw (l, e)))
+  answer-whole room r after e h l =
+      rw answer-is (wrote-whole _ room (r + 1) (set after 0 r) (omega arith) (omega (arith, e)) (omega arith)
+      (rw (l, e)))
 
 pub laid-some : (x room : List ℕ) → 0 < length (laid (0 ∷ x) room)
 unfolding laid

@@ -28,7 +28,8 @@ use Rattle.span.proofs.WalkLaws.{walk-new}
 use Rattle.span.proofs.SpanLaws.{page-in, before-mono}
 use Rattle.phrase.specs.declared.Ranks.{Ranks}
 use Rattle.phrase.specs.Starts.{startsIn}
-use Rattle.phrase.specs.Words.{elementsAt, walkIn, ranksOf, baseIn, endIn, pageAt, pageIn, Walked, Words, Begun, Counted}
+use Rattle.phrase.specs.Words.{elementsAt, walkIn, ranksOf, baseIn, endIn, pageAt, pageIn, Walked, Words, Begun}
+use Rattle.phrase.specs.Words.{Counted}
 use Rattle.phrase.proofs.StartLaws.{over-few}
 use Rattle.phrase.proofs.PageLaws.{page-length}
 use Rattle.phrase.proofs.Theorems.{page-starts, page-words, lone-starts}
@@ -40,13 +41,15 @@ use Rattle.phrases.proofs.RankLaws.{is-ranked, page-there, from-is, to-
 
 -- ---- the cursors after a turn
 
-pub turned-least : (s pg : List ℕ) (k : ℕ) (q : Query) (b : ℕ) → Apt s pg k q b → (t : Turn) → Turned s pg k q b t → (t .mark ≡ spentMark → ⊥) → b ≤ t .mark - 1
+pub turned-least : (s pg : List ℕ) (k : ℕ) (q : Query) (b : ℕ) → Apt s pg k q b → (t : Turn) → Turned s pg k q b t
+    → (t .mark ≡ spentMark → ⊥) → b ≤ t .mark - 1
 turned-least s pg k q b a t u h =
     let p = turned-page s pg k q b a t u h in
     let hit = rw (p .3) at (came s pg k q b a .ends) in
     omega (arith, p .2, hit .later)
 
-pub turned-on : (s ts pg : List ℕ) (q : Query) (b : ℕ) → Apt s pg (length ts) q b → (t : Turn) → Turned s pg (length ts) q b t → (t .mark ≡ spentMark → ⊥) → OnAll s ts pg (t .q) (t .mark - 1)
+pub turned-on : (s ts pg : List ℕ) (q : Query) (b : ℕ) → Apt s pg (length ts) q b → (t : Turn)
+    → Turned s pg (length ts) q b t → (t .mark ≡ spentMark → ⊥) → OnAll s ts pg (t .q) (t .mark - 1)
 turned-on s ts pg q b a t u h =
     let k : ℕ = length ts in
     let p = turned-page s pg k q b a t u h in
@@ -73,7 +76,8 @@ new-walk i h =
     let z : getD newWalks (3 * i + 2) 0 ≡ 0 = getD-replicate 24 (3 * i + 2) 0 0 (omega arith) in
     rw (x, y, z)
 
-pub ahead-new : (s ts : List ℕ) (lead : ℕ) (pg ct ps : List ℕ) → Asked s ts lead pg ct ps → Ahead s ts ct ps newWalks newWalks 0
+pub ahead-new : (s ts : List ℕ) (lead : ℕ) (pg ct ps : List ℕ) → Asked s ts lead pg ct ps
+    → Ahead s ts ct ps newWalks newWalks 0
 ahead-new s ts lead pg ct ps a = record {
   counted-room = length-replicate {A = ℕ} 24 0;
   walked-room = length-replicate {A = ℕ} 24 0;
@@ -92,17 +96,26 @@ pub ahead-more : (s ts ct ps cw pw : List ℕ) (b d : ℕ) → b ≤ d → Ahead
 ahead-more s ts ct ps cw pw b d l f = record {
   counted-room = f .counted-room;
   walked-room = f .walked-room;
-  each = λ i h. record { counted = f .each i h .counted; walked = f .each i h .walked; ahead = λ r m g. f .each i h .ahead r m (omega arith) };
+  each = λ i h. record {
+    counted = f .each i h .counted;
+    walked = f .each i h .walked;
+    ahead = λ r m g. f .each i h .ahead r m (omega arith);
+  };
 }
 
 -- a page behind that of a rank has a larger one
-rank-later : (t : List ℕ) → termRefusal t ≡ Accepted → (r q p : ℕ) → r < length (decode (pagesOf t)) → getD (decode (pagesOf t)) r 0 ≡ p → p + 1 ≤ getD (decode (pagesOf t)) q 0 → r < q
+rank-later : (t : List ℕ) → termRefusal t ≡ Accepted → (r q p : ℕ) → r < length (decode (pagesOf t))
+    → getD (decode (pagesOf t)) r 0 ≡ p → p + 1 ≤ getD (decode (pagesOf t)) q 0 → r < q
 rank-later t a r q p h e l =
     elim (decLt r q) [
       | yes g ↦ g
       | no g ↦ elim (ℕ-discrete r q) [
         | yes d ↦ absurd (omega (arith, ap (λ (j : ℕ). getD (decode (pagesOf t)) j 0) d))
-        | no d ↦ absurd (omega (arith, rising-lt 0 (listU (pagesOf t)) (decode (pagesOf t)) (pages-listed t a .rises) q r (omega (arith, d)) h))
+        | no d ↦ absurd (omega (
+          arith,
+          rising-lt 0 (listU (pagesOf t)) (decode (pagesOf t)) (pages-listed t a .rises) q r
+              (omega (arith, d)) h,
+        ))
       ]
     ]
 
@@ -111,7 +124,9 @@ module _ (s ts : List ℕ) (lead : ℕ) (pg ct ps : List ℕ) (a : Asked s ts le
 
   module _ (cw pw xs : List ℕ) (f : TurnedWords s ts ct ps p (length ts) cw pw xs) where
     pub turned-words : Words s ps xs (length ts)
-    turned-words = page-words s ps xs p ts (λ i h. f .turned i h .term) (a .pages .lists .some) (a .pages .lists .few) (f .spans-room) (λ i h. a .positions .slot i h .block)
+    turned-words =
+        page-words s ps xs p ts (λ i h. f .turned i h .term) (a .pages .lists .some) (a .pages .lists .few)
+        (f .spans-room) (λ i h. a .positions .slot i h .block)
 
     pub turned-begun : Begun s ps xs (length ts) pw
     turned-begun = record {
@@ -119,7 +134,8 @@ module _ (s ts : List ℕ) (lead : ℕ) (pg ct ps : List ℕ) (a : Asked s ts le
       on = λ i h. f .turned i h .walked .on;
       before = λ i h.
           let d = f .turned i h in
-          d .walked .on .past-is ∙ ap (past (elementsAt s ps i)) (d .walked .at) ∙ rw (d .term .part-is) (sym (d .term .base-is));
+          d .walked .on .past-is ∙ ap (past (elementsAt s ps i)) (d .walked .at)
+          ∙ rw (d .term .part-is) (sym (d .term .base-is));
       inside = λ i h.
           let d = f .turned i h in
           let g = page-in (termAt s ts i) (d .term .accepts) (d .term .rank) (d .term .ranked) in
@@ -135,10 +151,21 @@ module _ (s ts : List ℕ) (lead : ℕ) (pg ct ps : List ℕ) (a : Asked s ts le
         let o = a .positions .slot 0 (a .pages .lists .some) .block .opened in
         let r = open-reads (partAt s ps 0) (shapeIn ps 0) o in
         let w = turned-words .within 0 (a .pages .lists .some) in
-        let n = page-length (listU (partAt s ps 0)) (elementsAt s ps 0) (open-rising (partAt s ps 0) (shapeIn ps 0) o) (baseIn xs 0) (endIn xs 0) (omega (arith, open-length (partAt s ps 0) (shapeIn ps 0) o)) in
-        rw e (omega (arith, n, w, r .within, r .below, over-few (pageAt s ps xs 0 ∷ span (pageAt s ps xs) (0 + 1) (length ts - (0 + 1))) (pageAt s ps xs 0)))
+        let n =
+        page-length (listU (partAt s ps 0)) (elementsAt s ps 0) (open-rising (partAt s ps 0) (shapeIn ps 0) o)
+        (baseIn xs 0) (endIn xs 0) (omega (arith, open-length (partAt s ps 0) (shapeIn ps 0) o)) in
+        rw e (omega (
+          arith,
+          n,
+          w,
+          r .within,
+          r .below,
+          over-few
+              (pageAt s ps xs 0 ∷ span (pageAt s ps xs) (0 + 1) (length ts - (0 + 1))) (pageAt s ps xs 0),
+        ))
 
-    pub page-counted : (r : ℕ) (after : List ℕ) → Counted s ps xs (length ts) r after → (r ≡ starts (wordsIn s ts) p) × (r < 2 ^ 32) × Ahead s ts ct ps cw after (p + 1)
+    pub page-counted : (r : ℕ) (after : List ℕ) → Counted s ps xs (length ts) r after → (r ≡ starts (wordsIn s ts) p)
+        × (r < 2 ^ 32) × Ahead s ts ct ps cw after (p + 1)
     page-counted r after c = (
       c .counted ∙ page-starts s ps xs p ts (λ i h. f .turned i h .term),
       omega (arith, c .counted, starts-few),
@@ -152,8 +179,16 @@ module _ (s ts : List ℕ) (lead : ℕ) (pg ct ps : List ℕ) (a : Asked s ts le
               counted = d .counted .on;
               walked = c .on i h;
               ahead = λ q l b.
-                  let g = rank-later (termAt s ts i) (y .accepts) (y .rank) q p (y .ranked) (y .page-is) b in
-                  (omega (arith, d .counted .at, g), omega (arith, c .inside i h, y .end-is, before-mono (termAt s ts i) (y .accepts) (y .rank + 1) q (omega (arith, g)) (omega arith)));
+                  let g = rank-later (termAt s ts i) (y .accepts) (y .rank) q p (y .ranked) (y .page-is) b in (
+                    omega (arith, d .counted .at, g),
+                    omega (
+                      arith,
+                      c .inside i h,
+                      y .end-is,
+                      before-mono (termAt s ts i) (y .accepts) (y .rank + 1) q
+                          (omega (arith, g)) (omega arith),
+                    ),
+                  );
             };
       },
     )
@@ -161,8 +196,10 @@ module _ (s ts : List ℕ) (lead : ℕ) (pg ct ps : List ℕ) (a : Asked s ts le
   -- ---- a word alone
 
   pub lone-counted : (q : Query) → OnAll s ts pg q p → length ts ≡ 1 → (cw pw : List ℕ) → Ahead s ts ct ps cw pw p
-      → (x : Ranks) → x ≡ ranksOf (elementsAt s ct 0) (rankBy pg q (slotOf lead 0)) → (after : List ℕ) → Walked s ct cw 0 (rankBy pg q (slotOf lead 0) + 1) after
-      → (x .from ≤ x .to) × (x .to - x .from ≡ starts (wordsIn s ts) p) × (x .to - x .from < 2 ^ 32) × Ahead s ts ct ps after pw (p + 1)
+      → (x : Ranks) → x ≡ ranksOf (elementsAt s ct 0) (rankBy pg q (slotOf lead 0)) → (after : List ℕ)
+      → Walked s ct cw 0 (rankBy pg q (slotOf lead 0) + 1) after
+      → (x .from ≤ x .to) × (x .to - x .from ≡ starts (wordsIn s ts) p) × (x .to - x .from < 2 ^ 32)
+      × Ahead s ts ct ps after pw (p + 1)
   lone-counted q o one cw pw f x is after w =
       let h : 0 < length ts = a .pages .lists .some in
       let t : List ℕ = termAt s ts 0 in
@@ -184,7 +221,12 @@ module _ (s ts : List ℕ) (lead : ℕ) (pg ct ps : List ℕ) (a : Asked s ts le
               rw z (record {
                 counted = w .readable .on;
                 walked = f .each 0 h .walked;
-                ahead = λ j m b. (omega (arith, w .at, rank-later t (a .accepts 0 h) rank j p r e b), f .each 0 h .ahead j m (omega arith) .1);
+                ahead =
+                    λ j m b. (
+                      omega (arith, w .at, rank-later t (a .accepts 0 h) rank j p r e b),
+                      f .each 0 h .ahead j
+                          m (omega arith) .1,
+                    );
               });
         },
       )

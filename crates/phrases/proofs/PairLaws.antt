@@ -33,11 +33,14 @@ module _ (ws : List Word) where
   pub with-more : (ps qs : List ℕ) → withStarts ws (ps ++ qs) ≡ withStarts ws ps ++ withStarts ws qs
   unfolding withStarts pairOf
   with-more [] qs = refl
-  with-more (p ∷ ps) qs = ap (λ (l : List ℕ). pairOf p (starts ws p) ++ l) (with-more ps qs) ∙ sym (append-assoc (pairOf p (starts ws p)) (withStarts ws ps) (withStarts ws qs))
+  with-more (p ∷ ps) qs =
+      ap (λ (l : List ℕ). pairOf p (starts ws p) ++ l) (with-more ps qs)
+      ∙ sym (append-assoc (pairOf p (starts ws p)) (withStarts ws ps) (withStarts ws qs))
 
   pub with-one : (ps : List ℕ) (p : ℕ) → withStarts ws (ps ++ (p ∷ [])) ≡ withStarts ws ps ++ pairOf p (starts ws p)
   unfolding withStarts pairOf
-  with-one ps p = with-more ps (p ∷ []) ∙ ap (λ (l : List ℕ). withStarts ws ps ++ l) (append-nil (pairOf p (starts ws p)))
+  with-one ps p =
+      with-more ps (p ∷ []) ∙ ap (λ (l : List ℕ). withStarts ws ps ++ l) (append-nil (pairOf p (starts ws p)))
 
   pair-few : (p n : ℕ) → length (pairOf p n) ≤ 2
   unfolding pairOf
@@ -56,7 +59,11 @@ module _ (ws : List Word) where
 module _ (a : List ℕ) (p : ℕ) where
   pub pair-none : (room : List ℕ) → Paired a room p 0 (length a) room
   unfolding pairOf
-  pair-none room = record { found = ap length (sym (append-nil a)); same = refl; laid = λ first e l. rw (append-nil a) e }
+  pair-none room = record {
+    found = ap length (sym (append-nil a));
+    same = refl;
+    laid = λ first e l. rw (append-nil a) e;
+  }
 
   module _ (n : ℕ) (some : 0 < n) where
     pair-some : pairOf p n ≡ p ∷ (n ∷ [])
@@ -73,20 +80,30 @@ module _ (a : List ℕ) (p : ℕ) where
       laid = λ first e l. put first e (omega (arith, l, pair-length));
     }
       where
-        put : (first : List ℕ) → room ≡ laid (0 ∷ a) first → length a + 2 < length first → set (set room (length a + 1) p) (length a + 2) n ≡ laid (0 ∷ (a ++ pairOf p n)) first
+        put : (first : List ℕ) → room ≡ laid (0 ∷ a) first → length a + 2 < length first
+            → set (set room (length a + 1) p) (length a + 2) n ≡ laid (0 ∷ (a ++ pairOf p n)) first
         put first e l =
             let x = laid-snoc (0 ∷ a) first (length a + 1) p (omega arith) (omega arith) in
-            let y = laid-snoc (0 ∷ (a ++ (p ∷ []))) first (length a + 2) n (ap suc (length-append a (p ∷ [])) ∙ omega arith) l in
-            rw (e, pair-some) (ap (λ (r : List ℕ). set r (length a + 2) n) x ∙ y ∙ ap (λ (r : List ℕ). laid (0 ∷ r) first) (append-assoc a (p ∷ []) (n ∷ [])))
+            let y =
+            laid-snoc (0 ∷ (a ++ (p ∷ []))) first (length a + 2) n (ap suc (length-append a (p ∷ [])) ∙ omega arith)
+            l in
+            rw (e, pair-some) (ap (λ (r : List ℕ). set r (length a + 2) n) x ∙ y
+            ∙ ap (λ (r : List ℕ). laid (0 ∷ r) first) (append-assoc a (p ∷ []) (n ∷ [])))
 
     pub pair-left : (room : List ℕ) → length room ≤ length a + 2 → Paired a room p n (length a + 2) room
-    pair-left room h = record { found = sym pair-length; same = refl; laid = λ first e l. absurd (over first e (omega (arith, l, pair-length))) }
+    pair-left room h = record {
+      found = sym pair-length;
+      same = refl;
+      laid = λ first e l. absurd (over first e (omega (arith, l, pair-length)));
+    }
       where
         over : (first : List ℕ) → room ≡ laid (0 ∷ a) first → length a + 2 < length first → ⊥
         over first e l = omega (arith, ap length e, h, sized first l)
           where
             sized : (first : List ℕ) → length a + 2 < length first → length (laid (0 ∷ a) first) ≡ length first
-            sized first l = unfold laid in length-append (0 ∷ a) (drop (length (0 ∷ a)) first) ∙ rw (length-drop (length (0 ∷ a)) first) (omega arith)
+            sized first l =
+                unfold laid in length-append (0 ∷ a) (drop (length (0 ∷ a)) first)
+                ∙ rw (length-drop (length (0 ∷ a)) first) (omega arith)
 
 -- ---- all common pages
 
@@ -123,7 +140,8 @@ module _ (s ts : List ℕ) (lead : ℕ) (pg ct ps room : List ℕ) (a : Asked s 
     pub same : length now ≡ length room
     pub laid-so : length (foundIn s ts) < length room → now ≡ laid (0 ∷ withStarts ws seen) room
 
-  pub going-start : (first : List ℕ) → room ≡ set first 0 0 → 0 < length first → Going newQuery newWalks newWalks 0 0 room
+  pub going-start : (first : List ℕ) → room ≡ set first 0 0 → 0 < length first
+      → Going newQuery newWalks newWalks 0 0 room
   unfolding withStarts
   going-start first e h = record {
     number = 0;
@@ -137,33 +155,51 @@ module _ (s ts : List ℕ) (lead : ℕ) (pg ct ps room : List ℕ) (a : Asked s 
 
   module _ (q : Query) (cw pw : List ℕ) (b found : ℕ) (now : List ℕ) (g : Going q cw pw b found now) where
     pub going-few : found < 2 ^ 26
-    going-few = omega (arith, g .found-is, with-few ws (g .seen), g .partway .sized, partway-few s pg (length ts) 0 q b (g .number) (g .seen) (g .partway))
+    going-few =
+        omega (
+          arith,
+          g .found-is,
+          with-few ws (g .seen),
+          g .partway .sized,
+          partway-few s pg (length ts) 0 q b
+              (g .number) (g .seen) (g .partway),
+        )
 
     module _ (t : Turn) (u : Turned s pg (length ts) q b t) where
-      pub going-end : t .mark ≡ spentMark → (found ≡ length (foundIn s ts)) × (length (foundIn s ts) < length room → now ≡ laid (0 ∷ foundIn s ts) room)
+      pub going-end : t .mark ≡ spentMark → (found ≡ length (foundIn s ts))
+          × (length (foundIn s ts) < length room → now ≡ laid (0 ∷ foundIn s ts) room)
       going-end h =
           let r : Listed = record { found = g .number; seeks = seeksOf (t .q); looks = looksOf (t .q) } in
           let e = partway-end s pg (length ts) 0 q b (g .number) (g .seen) (g .partway) t u h r (refl, refl, refl) .0 in
-          let f : withStarts ws (g .seen) ≡ foundIn s ts = ap (withStarts ws) (sym e) ∙ whole-found s ts lead pg ct ps a in
+          let f : withStarts ws (g .seen) ≡ foundIn s ts =
+          ap (withStarts ws) (sym e) ∙ whole-found s ts lead pg ct ps a in
           (g .found-is ∙ ap length f, λ l. g .laid-so l ∙ ap (λ (x : List ℕ). laid (0 ∷ x) room) f)
 
-      module _ (h : t .mark ≡ spentMark → ⊥) (n : ℕ) (cw′ pw′ : List ℕ) (is : n ≡ starts ws (t .mark - 1)) (ahead′ : Ahead s ts ct ps cw′ pw′ (t .mark - 1 + 1)) where
+      module _ (h : t .mark ≡ spentMark → ⊥) (n : ℕ) (cw′ pw′ : List ℕ) (is : n ≡ starts ws (t .mark - 1))
+          (ahead′ : Ahead s ts ct ps cw′ pw′ (t .mark - 1 + 1)) where
         abbrev next-way : Partway s pg (length ts) 0 (t .q) (t .mark) (g .number + 1) (g .seen ++ (t .mark - 1) ∷ [])
         next-way = partway-step s pg (length ts) 0 q b (g .number) (g .seen) (g .partway) t u h
 
         more : withStarts ws (g .seen ++ (t .mark - 1) ∷ []) ≡ withStarts ws (g .seen) ++ pairOf (t .mark - 1) n
-        more = with-one ws (g .seen) (t .mark - 1) ∙ ap (λ (x : ℕ). withStarts ws (g .seen) ++ pairOf (t .mark - 1) x) (sym is)
+        more =
+            with-one ws (g .seen) (t .mark - 1)
+            ∙ ap (λ (x : ℕ). withStarts ws (g .seen) ++ pairOf (t .mark - 1) x) (sym is)
 
         within : length (withStarts ws (g .seen) ++ pairOf (t .mark - 1) n) ≤ length (foundIn s ts)
         unfolding counted
         within =
-            let rest : List ℕ = allRounds (boundIn pg) (leadIn s pg (t .q)) (othersIn s pg (length ts) (t .q)) (t .mark) .listed in
-            let e : (g .seen ++ (t .mark - 1) ∷ []) ++ rest ≡ wholeFrom s pg (length ts) 0 .listed = ap (λ (x : Tally). x .listed) (next-way .same) in
-            let f = sym (with-more ws (g .seen ++ (t .mark - 1) ∷ []) rest) ∙ ap (withStarts ws) e ∙ whole-found s ts lead pg ct ps a in
+            let rest : List ℕ =
+            allRounds (boundIn pg) (leadIn s pg (t .q)) (othersIn s pg (length ts) (t .q)) (t .mark) .listed in
+            let e : (g .seen ++ (t .mark - 1) ∷ []) ++ rest ≡ wholeFrom s pg (length ts) 0 .listed =
+            ap (λ (x : Tally). x .listed) (next-way .same) in
+            let f =
+            sym (with-more ws (g .seen ++ (t .mark - 1) ∷ []) rest) ∙ ap (withStarts ws) e
+            ∙ whole-found s ts lead pg ct ps a in
             let l = length-append (withStarts ws (g .seen ++ (t .mark - 1) ∷ [])) (withStarts ws rest) in
             omega (arith, ap length f, l, ap length more)
 
-        pub going-on : (r : ℕ) (now′ : List ℕ) → Paired (withStarts ws (g .seen)) now (t .mark - 1) n r now′ → Going (t .q) cw′ pw′ (t .mark) r now′
+        pub going-on : (r : ℕ) (now′ : List ℕ) → Paired (withStarts ws (g .seen)) now (t .mark - 1) n r now′
+            → Going (t .q) cw′ pw′ (t .mark) r now′
         going-on r now′ p =
             let m = turned-page s pg (length ts) q b (g .partway .running .apt) t u h .2 in
             let e : t .mark - 1 + 1 ≡ t .mark = omega (arith, m) in
@@ -174,5 +210,7 @@ module _ (s ts : List ℕ) (lead : ℕ) (pg ct ps room : List ℕ) (a : Asked s 
               ahead = rw e at ahead′;
               found-is = p .found ∙ ap length (sym more);
               same = p .same ∙ g .same;
-              laid-so = λ l. p .laid room (g .laid-so l) (omega (arith, within, l)) ∙ ap (λ (x : List ℕ). laid (0 ∷ x) room) (sym more);
+              laid-so =
+                  λ l. p .laid room (g .laid-so l) (omega (arith, within, l))
+                  ∙ ap (λ (x : List ℕ). laid (0 ∷ x) room) (sym more);
             }

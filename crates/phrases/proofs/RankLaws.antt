@@ -107,10 +107,18 @@ module _ (s ts : List ℕ) (lead : ℕ) (pg ct ps : List ℕ) (a : Asked s ts le
     positions-small =
         let o = a .positions .slot i h .block .opened in
         let r = open-reads (partAt s ps i) (shapeIn ps i) o in
-        omega (arith, r .below, r .within, open-length (partAt s ps i) (shapeIn ps i) o, ap (λ (l : List ℕ). length (decode l)) positions-part)
+        omega (
+          arith,
+          r .below,
+          r .within,
+          open-length (partAt s ps i) (shapeIn ps i) o,
+          ap
+              (λ (l : List ℕ). length (decode l)) positions-part,
+        )
 
     -- what is asked where the page's ranks are read
-    pub rank-ready : (cw pw : List ℕ) → length cw ≡ 24 → AheadOf s ts ct ps cw pw p i → Readable s ct cw i × (walkIn cw i .next ≤ rank) × (rank < numberOf ct i 7)
+    pub rank-ready : (cw pw : List ℕ) → length cw ≡ 24 → AheadOf s ts ct ps cw pw p i → Readable s ct cw i
+        × (walkIn cw i .next ≤ rank) × (rank < numberOf ct i 7)
     rank-ready cw pw r f = (
       record { block = a .counts .slot i h .block; room = r; on = f .counted },
       f .ahead rank is-ranked (rw page-there (omega arith)) .0,
@@ -125,17 +133,27 @@ module _ (s ts : List ℕ) (lead : ℕ) (pg ct ps : List ℕ) (a : Asked s ts le
       to-is = rw (is, counts-part)
 
       -- what is asked where the word is turned to them
-      pub turn-ready : (cw pw : List ℕ) → length pw ≡ 24 → AheadOf s ts ct ps cw pw p i → Readable s ps pw i × (walkIn pw i .next ≤ x .from) × (x .from ≤ numberOf ps i 7)
+      pub turn-ready : (cw pw : List ℕ) → length pw ≡ 24 → AheadOf s ts ct ps cw pw p i → Readable s ps pw i
+          × (walkIn pw i .next ≤ x .from) × (x .from ≤ numberOf ps i 7)
       unfolding shapeIn
       turn-ready cw pw r f =
           let b = a .positions .slot i h .block in
           let n = open-length (partAt s ps i) (shapeIn ps i) (b .opened) in (
             record { block = b; room = r; on = f .walked },
             omega (arith, from-is, f .ahead rank is-ranked (rw page-there (omega arith)) .1),
-            omega (arith, from-is, on-page .some, on-page .within, n, ap (λ (l : List ℕ). length (decode l)) positions-part),
+            omega (
+              arith,
+              from-is,
+              on-page .some,
+              on-page .within,
+              n,
+              ap (λ (l : List ℕ). length (decode l))
+                  positions-part,
+            ),
           )
 
-      module _ (cw pw xs cw′ pw′ xs′ : List ℕ) (f : TurnedWords s ts ct ps p i cw pw xs) (c : Walked s ct cw i (rank + 1) cw′) (w : Walked s ps pw i (x .from) pw′)
+      module _ (cw pw xs cw′ pw′ xs′ : List ℕ) (f : TurnedWords s ts ct ps p i cw pw xs)
+          (c : Walked s ct cw i (rank + 1) cw′) (w : Walked s ps pw i (x .from) pw′)
           (m : xs′ ≡ withSpan xs i (past (elementsAt s ps i) (x .from)) (x .to)) where
         few : i < 8
         few = omega (arith, a .pages .lists .few)
@@ -190,7 +208,10 @@ module _ (s ts : List ℕ) (lead : ℕ) (pg ct ps : List ℕ) (a : Asked s ts le
                 counted = rw y (d .counted);
                 walked = rw z (d .walked);
                 ahead = λ r m b.
-                    let e = d .ahead r m b in
-                    (omega (arith, e .0, ap (λ (v : Walk). v .next) y), omega (arith, e .1, ap (λ (v : Walk). v .next) z));
+                    let e = d .ahead r m b in (
+                      omega (arith, e .0, ap (λ (v : Walk). v .next) y),
+                      omega
+                          (arith, e .1, ap (λ (v : Walk). v .next) z),
+                    );
               };
         }

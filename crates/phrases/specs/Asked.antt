@@ -88,7 +88,8 @@ pub record TurnedWords (s ts ct ps : List ℕ) (p n : ℕ) (cw pw xs : List ℕ)
 pub record Paired (a room : List ℕ) (p n r : ℕ) (after : List ℕ) : Type 0 where
   pub found : r ≡ length (a ++ pairOf p n)
   pub same : length after ≡ length room
-  pub laid : (first : List ℕ) → room ≡ laid (0 ∷ a) first → length (a ++ pairOf p n) < length first → after ≡ laid (0 ∷ (a ++ pairOf p n)) first
+  pub laid : (first : List ℕ) → room ≡ laid (0 ∷ a) first → length (a ++ pairOf p n) < length first → after
+      ≡ laid (0 ∷ (a ++ pairOf p n)) first
 
 abbrev pub PairedBehind : ℕ → List ℕ → ℕ → ℕ → ℕ → List ℕ → Type 0
 PairedBehind found room p n r after = (a : List ℕ) → length a ≡ found → Paired a room p n r after

@@ -30,8 +30,13 @@ fn turn_words(
     walked: &mut [usize],
     spans: &mut [usize],
 )
-    requires { ⌜ Asked (now card) (now terms) lead (now pages) (now counts) (now positions) × OnAll (now card) (now terms) (now pages) q page × Ahead (now card) (now terms) (now counts) (now positions) (now counted) (now walked) page × (length (now spans) ≡ 16) ⌝ }
-    ensures { λ _. ⌜ TurnedWords (now (card .entry)) (now (terms .entry)) (now (counts .entry)) (now (positions .entry)) page (length (now (terms .entry))) (now (counted .exit)) (now (walked .exit)) (now (spans .exit)) ⌝ }
+    requires { ⌜ Asked (now card) (now terms) lead (now pages) (now counts) (now positions)
+        × OnAll (now card) (now terms) (now pages) q page
+        × Ahead (now card) (now terms) (now counts) (now positions) (now counted) (now walked) page
+        × (length (now spans) ≡ 16) ⌝ }
+    ensures { λ _. ⌜ TurnedWords (now (card .entry)) (now (terms .entry)) (now (counts .entry))
+        (now (positions .entry)) page (length (now (terms .entry))) (now (counted .exit)) (now (walked .exit))
+        (now (spans .exit)) ⌝ }
 {
     let mut i = 0;
     while i < terms.len() {
@@ -55,8 +60,12 @@ fn page_starts(
     counted: &mut [usize],
     walked: &mut [usize],
 ) -> usize
-    requires { ⌜ Asked (now card) (now terms) lead (now pages) (now counts) (now positions) × OnAll (now card) (now terms) (now pages) q page × Ahead (now card) (now terms) (now counts) (now positions) (now counted) (now walked) page ⌝ }
-    ensures { λ r. ⌜ (r ≡ starts (wordsIn (now (card .entry)) (now (terms .entry))) page) × (r < 2 ^ 32) × Ahead (now (card .entry)) (now (terms .entry)) (now (counts .entry)) (now (positions .entry)) (now (counted .exit)) (now (walked .exit)) (page + 1) ⌝ }
+    requires { ⌜ Asked (now card) (now terms) lead (now pages) (now counts) (now positions)
+        × OnAll (now card) (now terms) (now pages) q page
+        × Ahead (now card) (now terms) (now counts) (now positions) (now counted) (now walked) page ⌝ }
+    ensures { λ r. ⌜ (r ≡ starts (wordsIn (now (card .entry)) (now (terms .entry))) page) × (r < 2 ^ 32)
+        × Ahead (now (card .entry)) (now (terms .entry)) (now (counts .entry)) (now (positions .entry))
+        (now (counted .exit)) (now (walked .exit)) (page + 1) ⌝ }
 {
     if terms.len() == 1 {
         let rank = kinds::rank_in(pages, q, openlists::slot_of(lead, 0));
@@ -106,8 +115,11 @@ fn list_starts(
     positions: &[u32],
     room: &mut [u32],
 ) -> usize
-    requires { ⌜ Asked (now card) (now terms) lead (now pages) (now counts) (now positions) × (0 < length (now room)) ⌝ }
-    ensures { λ r. ⌜ (r ≡ length (foundIn (now (card .entry)) (now (terms .entry)))) × (r < 2 ^ 32) × (r < length (now (room .entry)) → now (room .exit) ≡ laid (0 ∷ foundIn (now (card .entry)) (now (terms .entry))) (now (room .entry))) ⌝ }
+    requires { ⌜ Asked (now card) (now terms) lead (now pages) (now counts) (now positions)
+        × (0 < length (now room)) ⌝ }
+    ensures { λ r. ⌜ (r ≡ length (foundIn (now (card .entry)) (now (terms .entry)))) × (r < 2 ^ 32)
+        × (r < length (now (room .entry)) → now (room .exit)
+        ≡ laid (0 ∷ foundIn (now (card .entry)) (now (terms .entry))) (now (room .entry))) ⌝ }
 {
     room[0] = 0;
     let mut q = Query::new();
@@ -161,7 +173,8 @@ fn fits(
 // Kind 4: the pages with a start of the phrase, each with the number of its starts.
 pub fn by_phrase(card: &[u8], terms: &[u32], room: &mut [u32]) -> usize
     requires { ⌜ (indexRefusal (now card) ≡ Accepted) × (wordsGood (indexT (now card)) (now terms) ≡ true) ⌝ }
-    ensures { λ r. ⌜ Wrote (byPhrase (wordsIn (now (card .entry)) (now (terms .entry)))) (now (room .entry)) r (now (room .exit)) ⌝ }
+    ensures { λ r. ⌜ Wrote (byPhrase (wordsIn (now (card .entry)) (now (terms .entry)))) (now (room .entry)) r
+        (now (room .exit)) ⌝ }
 {
     let mut pages = [0u32; 64];
     let mut counts = [0u32; 64];

@@ -30,7 +30,8 @@ use Rattle.query.proofs.NewLaws.{new-seeks, new-looks, new-running, new
 
 -- ---- one number more in the room
 
-laid-more : (ps room : List ℕ) (p : ℕ) → length ps < length room → set (laid ps room) (length ps) p ≡ laid (ps ++ p ∷ []) room
+laid-more : (ps room : List ℕ) (p : ℕ) → length ps < length room → set (laid ps room) (length ps) p
+    ≡ laid (ps ++ p ∷ []) room
 unfolding laid
 laid-more ps room p h =
     let e : length (ps ++ p ∷ []) ≡ suc (length ps) = length-append ps (p ∷ []) ∙ omega arith in
@@ -51,14 +52,17 @@ unfolding laid
 full ps room p h =
     let front = take (length room) ps in
     let n : length front ≡ length room = length-take-le (length room) ps h in
-    let l : length (fitted ps room) ≤ length ps = omega (arith, length-append front (drop (length front) room), length-drop (length front) room) in
+    let l : length (fitted ps room) ≤ length ps =
+    omega (arith, length-append front (drop (length front) room), length-drop (length front) room) in
     set-out (fitted ps room) (length ps) p l
 
 pub fitted-more : (ps room : List ℕ) (p : ℕ) → set (fitted ps room) (length ps) p ≡ fitted (ps ++ p ∷ []) room
 fitted-more ps room p = elim (decLt (length ps) (length room)) [
   | yes h ↦
-      rw (fitted-all ps room (omega arith), fitted-all (ps ++ p ∷ []) room (omega (arith, length-append ps (p ∷ [])))) (laid-more ps room p h)
-  | no h ↦ full ps room p (omega arith) ∙ ap (λ (xs : List ℕ). laid xs room) (sym (take-append-le (length room) ps (p ∷ []) (omega arith)))
+      rw (fitted-all ps room (omega arith), fitted-all (ps ++ p ∷ []) room (omega (arith, length-append ps (p ∷ []))))
+      (laid-more ps room p h)
+  | no h ↦ full ps room p (omega arith)
+      ∙ ap (λ (xs : List ℕ). laid xs room) (sym (take-append-le (length room) ps (p ∷ []) (omega arith)))
 ]
 
 -- ---- tallies
@@ -140,7 +144,8 @@ module _ (s sh : List ℕ) (k b₀ : ℕ) where
           same = same-step (f .0) (f .1) (f .2) (f .3);
         }
 
-    pub partway-end : t .mark ≡ spentMark → (r : Listed) → (r .found ≡ found) × (r .seeks ≡ seeksOf (t .q)) × (r .looks ≡ looksOf (t .q))
+    pub partway-end : t .mark ≡ spentMark → (r : Listed) → (r .found ≡ found) × (r .seeks ≡ seeksOf (t .q))
+        × (r .looks ≡ looksOf (t .q))
         → (wholeFrom s sh k b₀ .listed ≡ ps) × Tells (wholeFrom s sh k b₀) r
     unfolding counted nothing
     partway-end h r e =

@@ -21,7 +21,8 @@ use Rattle.seek.proofs.CursorLaws.{held-rule}
 use Rattle.seek.proofs.MoveLaws.{moved-held, moved-rule, moved-seeks, moved-looks, moved-found}
 use Rattle.query.specs.declared.Query.{Query}
 use Rattle.query.specs.Lists.{pagesAt, boundIn, ListAt}
-use Rattle.query.specs.Queries.{cursorIn, withCursor, readerAt, leadIn, othersIn, movedIn, total, seeksOf, looksOf, Apt}
+use Rattle.query.specs.Queries.{cursorIn, withCursor, readerAt, leadIn, othersIn, movedIn, total, seeksOf}
+use Rattle.query.specs.Queries.{looksOf, Apt}
 use Rattle.query.proofs.PendingLaws.{listAfter, pending, Moves, pending-none, pending-page}
 use Rattle.query.proofs.ListLaws.{list-within, list-rises}
 

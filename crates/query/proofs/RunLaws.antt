@@ -17,9 +17,11 @@ use Rattle.seek.specs.Cursors.{spentMark}
 use Rattle.query.specs.declared.Query.{Query}
 use Rattle.query.specs.declared.Turn.{Turn}
 use Rattle.query.specs.Lists.{pagesAt, boundIn}
-use Rattle.query.specs.Queries.{cursorIn, withCursor, readerAt, leadIn, othersIn, movedIn, seeksOf, looksOf, markFound, nextFor, Seekable, Apt, Running, Turned}
+use Rattle.query.specs.Queries.{cursorIn, withCursor, readerAt, leadIn, othersIn, movedIn, seeksOf, looksOf}
+use Rattle.query.specs.Queries.{markFound, nextFor, Seekable, Apt, Running, Turned}
 use Rattle.query.proofs.SpanLaws.{length-span, span-cons, span-ready, span-pages}
-use Rattle.query.proofs.PendingLaws.{rankOf, listAfter, listAfter-larger, listAfter-same, listAfter-le, pending, pending-end}
+use Rattle.query.proofs.PendingLaws.{rankOf, listAfter, listAfter-larger, listAfter-same, listAfter-le, pending}
+use Rattle.query.proofs.PendingLaws.{pending-end}
 use Rattle.query.proofs.ListLaws.{list-within, list-length, span-words}
 use Rattle.query.proofs.QueryLaws.{total-at, left, seek-apt, seek-seeks, mark-some, left-none, left-page, page-least}
 
@@ -166,7 +168,8 @@ module _ (s sh : List ℕ) (k : ℕ) (q₀ : Query) (b₀ : ℕ) where
   midst-end : (q : Query) (b i : ℕ) → Midst q b i → k ≤ i → Turned s sh k q₀ b₀ (record { q = q; mark = b + 1 })
   midst-end q b i m h =
       let e : i ≡ k = omega (arith, m .within) in
-      let end = ap (plus (seeksOf q) (looksOf q)) (pending-end (boundIn sh) k b (readerAt s sh q) (m .apt .lists .some)) in
+      let end =
+      ap (plus (seeksOf q) (looksOf q)) (pending-end (boundIn sh) k b (readerAt s sh q) (m .apt .lists .some)) in
       turned-from (page b (rankOf (leadIn s sh q .cursor))) (record { q = q; mark = b + 1 }) b (m .running) (m .apt)
       (sym end ∙ rw e at (m .same)) (unfold markFound in refl) (λ c j z. let x : b ≡ c = cc in omega arith)
 
@@ -189,27 +192,36 @@ module _ (s sh : List ℕ) (k : ℕ) (q₀ : Query) (b₀ : ℕ) where
       midst-none =
           rw w
           (λ e.
-          turned-from none (record { q = withCursor q i (movedIn s sh i (cursorIn q i) b); mark = movedIn s sh i (cursorIn q i) b .mark }) b (m .running)
+          turned-from none (record {
+            q = withCursor q i (movedIn s sh i (cursorIn q i) b);
+            mark = movedIn s sh i (cursorIn q i) b .mark;
+          }) b (m .running)
           (seek-apt s sh k q b (m .apt) i h b (omega arith)) (sym (left-none s sh k q b (m .apt) i h e) ∙ m .same)
           (e ∙ (unfold markFound in refl)) (λ c j z. let x : _≡_ {A = ℕ} 0 1 = cc in absurd (omega arith)))
 
       pub midst-some : 0 < c .mark
       midst-some = rw w (mark-some s sh k q b (m .apt) i h)
 
-      step-to : (c .mark ≡ spentMark → ⊥) → (j : ℕ) → listAfter i b (c .mark - 1) ≡ j → j ≤ k → Midst (withCursor q i c) (c .mark - 1) j
+      step-to : (c .mark ≡ spentMark → ⊥) → (j : ℕ) → listAfter i b (c .mark - 1) ≡ j → j ≤ k
+          → Midst (withCursor q i c) (c .mark - 1) j
       step-to = rw w (λ e j a l. record {
         running = m .running;
-        apt = seek-apt s sh k q b (m .apt) i h (movedIn s sh i (cursorIn q i) b .mark - 1) (page-least s sh k q b (m .apt) i h e);
+        apt =
+            seek-apt s sh k q b (m .apt) i h (movedIn s sh i (cursorIn q i) b .mark - 1)
+            (page-least s sh k q b (m .apt) i h e);
         within = l;
         same = rw (← a) (sym (left-page s sh k q b (m .apt) i h e) ∙ m .same);
       })
 
       -- a seek more, of as many as there may be
-      pub midst-counted : (c .mark ≡ spentMark → ⊥) → (seeksOf (withCursor q i c) ≡ seeksOf q + 1) × (seeksOf q < 2 ^ 28)
+      pub midst-counted : (c .mark ≡ spentMark → ⊥) → (seeksOf (withCursor q i c) ≡ seeksOf q + 1)
+          × (seeksOf q < 2 ^ 28)
       midst-counted e =
           let n = next-narrow s sh k q₀ b₀ (m .running) in
           let one = rw (← w) at (seek-seeks s sh k q b (m .apt) i h) in
-          let f = so-far (withCursor q i c) (c .mark - 1) (listAfter i b (c .mark - 1)) (step-to e (listAfter i b (c .mark - 1)) refl (listAfter-le i b (c .mark - 1) k h)) in
+          let f =
+          so-far (withCursor q i c) (c .mark - 1) (listAfter i b (c .mark - 1))
+          (step-to e (listAfter i b (c .mark - 1)) refl (listAfter-le i b (c .mark - 1) k h)) in
           (one, omega (arith, f .0, n .seeks-few))
 
       module _ (e : c .mark ≡ spentMark → ⊥) where
@@ -222,7 +234,10 @@ module _ (s sh : List ℕ) (k : ℕ) (q₀ : Query) (b₀ : ℕ) where
         midst-same g = step-to e (i + 1) (listAfter-same i b (c .mark - 1) g) (omega arith)
 
         -- of which there is none where all share the page
-        pub midst-page : (0 < i → b < c .mark - 1 → ⊥) → k ≤ i + 1 → Turned s sh k q₀ b₀ (record { q = withCursor q i c; mark = c .mark })
+        pub midst-page : (0 < i → b < c .mark - 1 → ⊥) → k ≤ i + 1 → Turned s sh k q₀ b₀ (record {
+          q = withCursor q i c;
+          mark = c .mark;
+        })
         midst-page g l =
             let some : c .mark - 1 + 1 ≡ c .mark = omega (arith, midst-some) in
             rw some at (midst-end (withCursor q i c) (c .mark - 1) (i + 1) (midst-same g) l)

@@ -11,10 +11,13 @@ use Rattle.seek.specs.Cursors.{spentMark}
 use Rattle.query.specs.declared.Query.{Query}
 use Rattle.query.specs.declared.Turn.{Turn}
 use Rattle.query.specs.declared.Listed.{Listed}
-use Rattle.query.specs.Queries.{cursorIn, withCursor, newQuery, movedIn, seeksOf, looksOf, Seekable, Running, Turned}
+use Rattle.query.specs.Queries.{cursorIn, withCursor, newQuery, movedIn, seeksOf, looksOf, Seekable, Running}
+use Rattle.query.specs.Queries.{Turned}
 use Rattle.query.specs.Listings.{fitted, Scanned}
-use Rattle.query.proofs.RunLaws.{Midst, midst-start, midst-seekable, midst-none, midst-some, midst-counted, midst-larger, midst-same, midst-page}
-use Rattle.query.proofs.ListingLaws.{fitted-none, fitted-more, Partway, partway-start, partway-few, partway-step, partway-end}
+use Rattle.query.proofs.RunLaws.{Midst, midst-start, midst-seekable, midst-none, midst-some, midst-counted}
+use Rattle.query.proofs.RunLaws.{midst-larger, midst-same, midst-page}
+use Rattle.query.proofs.ListingLaws.{fitted-none, fitted-more, Partway, partway-start, partway-few, partway-step}
+use Rattle.query.proofs.ListingLaws.{partway-end}
 
 module _ (s sh : List ℕ) (k : ℕ) (query : Query) (bound : ℕ) (all : Bool) (room₀ : List ℕ) where
   -- the present page is sought from the query start and the bound base on; the pages ps were found before it
@@ -57,14 +60,20 @@ module _ (s sh : List ℕ) (k : ℕ) (query : Query) (bound : ℕ) (all : Bool) 
       pub scanning-some : 0 < c .mark
       scanning-some = midst-some s sh k (g .start) (g .base) q b i (g .midst) (g .here) c w
 
-      pub scanning-none : c .mark ≡ spentMark → Scanned s sh k query bound all room₀ (record { q = moved; found = found; mark = c .mark }) room
+      pub scanning-none : c .mark ≡ spentMark → Scanned s sh k query bound all room₀ (record {
+        q = moved;
+        found = found;
+        mark = c .mark;
+      }) room
       scanning-none e =
           let t : Turn = record { q = moved; mark = c .mark } in
           let r : Listed = record { found = found; seeks = seeksOf moved; looks = looksOf moved } in
           let u = midst-none s sh k (g .start) (g .base) q b i (g .midst) (g .here) c w e in record {
             next = λ f. g .next f t u;
             listed = λ f.
-                let end = partway-end s sh k bound (g .start) (g .base) found (g .ps) (g .partway f) t u e r (refl, refl, refl) in record {
+                let end =
+                partway-end s sh k bound (g .start) (g .base) found (g .ps) (g .partway f) t u e r
+                (refl, refl, refl) in record {
                   eight = u .eight;
                   narrow = u .narrow;
                   tells = end .1;
@@ -79,7 +88,8 @@ module _ (s sh : List ℕ) (k : ℕ) (query : Query) (bound : ℕ) (all : Bool) 
             let n = midst-counted s sh k (g .start) (g .base) q b i (g .midst) (g .here) c w e in
             omega (arith, n .0, n .1)
 
-        to-list : (j : ℕ) → Midst s sh k (g .start) (g .base) moved (c .mark - 1) j → j < k → Scanning moved (c .mark - 1) j found room
+        to-list : (j : ℕ) → Midst s sh k (g .start) (g .base) moved (c .mark - 1) j → j < k
+            → Scanning moved (c .mark - 1) j found room
         to-list j m h = record {
           start = g .start;
           base = g .base;
@@ -93,11 +103,14 @@ module _ (s sh : List ℕ) (k : ℕ) (query : Query) (bound : ℕ) (all : Bool) 
         }
 
         pub scanning-larger : 0 < i → b < c .mark - 1 → Scanning moved (c .mark - 1) 0 found room
-        scanning-larger h l = to-list 0 (midst-larger s sh k (g .start) (g .base) q b i (g .midst) (g .here) c w e h l) (g .midst .apt .lists .some)
+        scanning-larger h l =
+            to-list 0 (midst-larger s sh k (g .start) (g .base) q b i (g .midst) (g .here) c w e h l)
+            (g .midst .apt .lists .some)
 
         module _ (n : 0 < i → b < c .mark - 1 → ⊥) where
           pub scanning-same : i + 1 < k → Scanning moved (c .mark - 1) (i + 1) found room
-          scanning-same h = to-list (i + 1) (midst-same s sh k (g .start) (g .base) q b i (g .midst) (g .here) c w e n) h
+          scanning-same h =
+              to-list (i + 1) (midst-same s sh k (g .start) (g .base) q b i (g .midst) (g .here) c w e n) h
 
           -- all share the page
           module _ (h : k ≤ i + 1) where
@@ -107,8 +120,15 @@ module _ (s sh : List ℕ) (k : ℕ) (query : Query) (bound : ℕ) (all : Bool) 
             turned : Turned s sh k (g .start) (g .base) turn
             turned = midst-page s sh k (g .start) (g .base) q b i (g .midst) (g .here) c w e n h
 
-            pub scanning-stops : all ≡ false → Scanned s sh k query bound all room₀ (record { q = moved; found = found; mark = c .mark }) room
-            scanning-stops f = record { next = λ _. g .next f turn turned; listed = λ t. absurd (false≢true (sym f ∙ t)) }
+            pub scanning-stops : all ≡ false → Scanned s sh k query bound all room₀ (record {
+              q = moved;
+              found = found;
+              mark = c .mark;
+            }) room
+            scanning-stops f = record {
+              next = λ _. g .next f turn turned;
+              listed = λ t. absurd (false≢true (sym f ∙ t));
+            }
 
             pub scanning-lists : all ≡ true → Scanning moved (c .mark) 0 (found + 1) (set room found (c .mark - 1))
             scanning-lists t =

@@ -42,6 +42,7 @@ pub record AllListed (s sh : List ℕ) (k b : ℕ) (room : List ℕ) (r : Scan) 
   pub tells : Tells (wholeFrom s sh k b) (record { found = r .found; seeks = seeksOf (r .q); looks = looksOf (r .q) })
   pub room-is : room′ ≡ fitted (wholeFrom s sh k b .listed) room
 
-pub record Scanned (s sh : List ℕ) (k : ℕ) (q : Query) (b : ℕ) (all : Bool) (room : List ℕ) (r : Scan) (room′ : List ℕ) : Type 0 where
+pub record Scanned (s sh : List ℕ) (k : ℕ) (q : Query) (b : ℕ) (all : Bool) (room : List ℕ) (r : Scan)
+    (room′ : List ℕ) : Type 0 where
   pub next : all ≡ false → Turned s sh k q b (record { q = r .q; mark = r .mark })
   pub listed : all ≡ true → AllListed s sh k b room r room′

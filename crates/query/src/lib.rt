@@ -96,7 +96,8 @@ fn scan_lists(
     room: &mut [u32],
 ) -> Scan
     requires { ⌜ Running (now card) (now shapes) k query bound × (all ≡ true → query ≡ newQuery) ⌝ }
-    ensures { λ r. ⌜ Scanned (now (card .entry)) (now (shapes .entry)) k query bound all (now (room .entry)) r (now (room .exit)) ⌝ }
+    ensures { λ r. ⌜ Scanned (now (card .entry)) (now (shapes .entry)) k query bound all (now (room .entry)) r
+        (now (room .exit)) ⌝ }
 {
     let mut q = query;
     let mut b = bound;
@@ -183,7 +184,9 @@ fn totals(q: Query, found: usize) -> Listed
 // goes.
 pub fn list_common(card: &[u8], shapes: &[u32], k: usize, bound: usize, room: &mut [u32]) -> Listed
     requires { ⌜ Lists (now card) (now shapes) k ⌝ }
-    ensures { λ r. ⌜ Tells (wholeFrom (now (card .entry)) (now (shapes .entry)) k bound) r × (now (room .exit) ≡ fitted (wholeFrom (now (card .entry)) (now (shapes .entry)) k bound .listed) (now (room .entry))) ⌝ }
+    ensures { λ r. ⌜ Tells (wholeFrom (now (card .entry)) (now (shapes .entry)) k bound) r
+        × (now (room .exit) ≡ fitted (wholeFrom (now (card .entry)) (now (shapes .entry)) k bound .listed)
+        (now (room .entry))) ⌝ }
 {
     let r = scan_lists(card, shapes, Query::new(), k, bound, true, room);
     totals(r.q, r.found)

@@ -27,13 +27,20 @@ module _ (T : ℕ) where
       let b = behind-shorter x qs in
       rw (formed-turns f g (behind (x ∷ qs)) (omega arith) (omega arith))
 
-  pub formed-front : (qs : List ℕ) → 0 < length qs → formed T qs ≡ leb (2 + countOf qs) (length qs) && (goodQuestion T (kindOf qs) (argsOf qs) && formed T (behind qs))
+  pub formed-front : (qs : List ℕ) → 0 < length qs → formed T qs
+      ≡ leb (2 + countOf qs) (length qs) && (goodQuestion T (kindOf qs) (argsOf qs) && formed T (behind qs))
   unfolding formed wellFormed
   formed-front [] h = absurd (omega arith)
-  formed-front (x ∷ qs) h = rw (ne-eqb (length (x ∷ qs)) 0 (λ e. omega arith), formed-turns (length qs) (length (behind (x ∷ qs))) (behind (x ∷ qs)) (behind-shorter x qs) (omega arith))
+  formed-front (x ∷ qs) h =
+      rw (
+        ne-eqb (length (x ∷ qs)) 0 (λ e. omega arith),
+        formed-turns (length qs) (length (behind (x ∷ qs)))
+            (behind (x ∷ qs)) (behind-shorter x qs) (omega arith),
+      )
 
 module _ (s : List ℕ) where
-  answers-turn : (f x : ℕ) (qs : List ℕ) → replies s (suc f) (x ∷ qs) ≡ answer s (kindOf (x ∷ qs)) (argsOf (x ∷ qs)) ∷ replies s f (behind (x ∷ qs))
+  answers-turn : (f x : ℕ) (qs : List ℕ) → replies s (suc f) (x ∷ qs)
+      ≡ answer s (kindOf (x ∷ qs)) (argsOf (x ∷ qs)) ∷ replies s f (behind (x ∷ qs))
   unfolding replies
   answers-turn f x qs = rw (ne-eqb (length (x ∷ qs)) 0 (λ e. omega arith), replies)
 
@@ -48,12 +55,15 @@ module _ (s : List ℕ) where
   answers-turns (suc f) (suc g) (x ∷ qs) h k =
       let b = behind-shorter x qs in
       answers-turn f x qs
-      ∙ ap (λ (l : List (List ℕ)). answer s (kindOf (x ∷ qs)) (argsOf (x ∷ qs)) ∷ l) (answers-turns f g (behind (x ∷ qs)) (omega arith) (omega arith))
+      ∙ ap (λ (l : List (List ℕ)). answer s (kindOf (x ∷ qs)) (argsOf (x ∷ qs)) ∷ l)
+      (answers-turns f g (behind (x ∷ qs)) (omega arith) (omega arith))
       ∙ sym (answers-turn g x qs)
 
-  pub answers-front : (qs : List ℕ) → 0 < length qs → answersTo s qs ≡ answer s (kindOf qs) (argsOf qs) ∷ answersTo s (behind qs)
+  pub answers-front : (qs : List ℕ) → 0 < length qs → answersTo s qs
+      ≡ answer s (kindOf qs) (argsOf qs) ∷ answersTo s (behind qs)
   unfolding answersTo
   answers-front [] h = absurd (omega arith)
   answers-front (x ∷ qs) h =
       answers-turn (length qs) x qs
-      ∙ ap (λ (l : List (List ℕ)). answer s (kindOf (x ∷ qs)) (argsOf (x ∷ qs)) ∷ l) (answers-turns (length qs) (length (behind (x ∷ qs))) (behind (x ∷ qs)) (behind-shorter x qs) (omega arith))
+      ∙ ap (λ (l : List (List ℕ)). answer s (kindOf (x ∷ qs)) (argsOf (x ∷ qs)) ∷ l)
+      (answers-turns (length qs) (length (behind (x ∷ qs))) (behind (x ∷ qs)) (behind-shorter x qs) (omega arith))

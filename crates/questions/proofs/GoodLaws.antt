@@ -14,7 +14,8 @@ use Rattle.rules.specs.Questions.{allBelow, goodQuestion}
 use Rattle.listlaws.proofs.RisingLaws.{and-parts}
 use Rattle.questions.specs.Formed.{pairGood, wordsGood}
 
-pub below-at : (T : ℕ) (xs : List ℕ) (i : ℕ) → i < length xs → allBelow T (drop i xs) ≡ ltb (getD xs i 0) T && allBelow T (drop (i + 1) xs)
+pub below-at : (T : ℕ) (xs : List ℕ) (i : ℕ) → i < length xs → allBelow T (drop i xs)
+    ≡ ltb (getD xs i 0) T && allBelow T (drop (i + 1) xs)
 unfolding allBelow
 below-at T xs i h = rw (add-one, drop-cons xs i 0)
 
@@ -47,7 +48,14 @@ module _ (T : ℕ) (kind : ℕ) (args : List ℕ) where
 
   pub good-other : 4 < kind → goodQuestion T kind args ≡ false
   unfolding goodQuestion
-  good-other h = rw (ne-eqb kind 1 (λ e. omega arith), ne-eqb kind 2 (λ e. omega arith), ne-eqb kind 3 (λ e. omega arith), ne-eqb kind 4 (λ e. omega arith))
+  good-other h =
+      rw (
+        ne-eqb kind 1 (λ e. omega arith),
+        ne-eqb kind 2 (λ e. omega arith),
+        ne-eqb kind 3 (λ e. omega arith),
+        ne-eqb
+            kind 4 (λ e. omega arith),
+      )
 
 -- ---- what a good question has
 
@@ -58,12 +66,15 @@ pair-parts T args e =
     (eqb-true (length args) 2 (p .0), ltb-true (getD args 0 0) T (p .1))
 
 -- a question of another kind than 1 and 2 is of words
-pub good-rest : (T kind : ℕ) (args : List ℕ) → (kind ≡ 1 → ⊥) → (kind ≡ 2 → ⊥) → goodQuestion T kind args ≡ true → wordsGood T args ≡ true
+pub good-rest : (T kind : ℕ) (args : List ℕ) → (kind ≡ 1 → ⊥) → (kind ≡ 2 → ⊥) → goodQuestion T kind args ≡ true
+    → wordsGood T args ≡ true
 unfolding goodQuestion wordsGood
-good-rest T kind args a b e = and-parts (eqb kind 3 || eqb kind 4) (wordsGood T args) (rw (ne-eqb kind 1 a, ne-eqb kind 2 b) at e) .1
+good-rest T kind args a b e =
+    and-parts (eqb kind 3 || eqb kind 4) (wordsGood T args) (rw (ne-eqb kind 1 a, ne-eqb kind 2 b) at e) .1
 
 -- one to eight terms, each below T
-pub words-parts : (T : ℕ) (args : List ℕ) → wordsGood T args ≡ true → (0 < length args) × (length args ≤ 8) × (allBelow T args ≡ true)
+pub words-parts : (T : ℕ) (args : List ℕ) → wordsGood T args ≡ true → (0 < length args) × (length args ≤ 8)
+    × (allBelow T args ≡ true)
 unfolding wordsGood
 words-parts T args e =
     let p = and-parts (leb 1 (length args)) (leb (length args) 8 && allBelow T args) e in

@@ -8,7 +8,8 @@ use lib.Dec.{eqb}
 use lib.ListN.{length, drop}
 use Rattle.rules.specs.Term.{Word}
 use Rattle.rules.specs.Index.{wordOf}
-use Rattle.rules.specs.Questions.{member, inAll, sharedBy, commonPages, positionsAmong, positionsOn, stands, startsAmong, starts, withStarts, numbered, pagesIn, listsIn, wordsIn, byPhrase}
+use Rattle.rules.specs.Questions.{member, inAll, sharedBy, commonPages, positionsAmong, positionsOn, stands}
+use Rattle.rules.specs.Questions.{startsAmong, starts, withStarts, numbered, pagesIn, listsIn, wordsIn, byPhrase}
 use Rattle.laws.proofs.RefusalLaws.{or-parts}
 
 among-off : (p : ℕ) (qs cs ps : List ℕ) → member p qs ≡ false → positionsAmong p qs cs ps ≡ []
@@ -29,7 +30,8 @@ and-false true = refl
 and-false false = refl
 
 -- one word less of a phrase
-stands-here : (p a : ℕ) (w : Word) (ls : List (List ℕ)) (rest : Bool) → member p (w .pages) && inAll p ls ≡ false → (inAll p ls ≡ false → rest ≡ false) → member a (positionsOn p w) && rest ≡ false
+stands-here : (p a : ℕ) (w : Word) (ls : List (List ℕ)) (rest : Bool) → member p (w .pages) && inAll p ls ≡ false
+    → (inAll p ls ≡ false → rest ≡ false) → member a (positionsOn p w) && rest ≡ false
 stands-here p a w ls rest e ih = go (member p (w .pages)) refl e
   where
     go : (b : Bool) → member p (w .pages) ≡ b → b && inAll p ls ≡ false → member a (positionsOn p w) && rest ≡ false
@@ -40,7 +42,8 @@ module _ (s : List ℕ) where
   stands-off : (p : ℕ) (ts : List ℕ) (a : ℕ) → inAll p (listsIn s ts) ≡ false → stands (wordsIn s ts) p a ≡ false
   unfolding listsIn wordsIn inAll stands pagesIn
   stands-off p [] a e = absurd (true≢false e)
-  stands-off p (t ∷ ts) a e = stands-here p a (wordOf t s) (listsIn s ts) (stands (wordsIn s ts) p (a + 1)) e (stands-off p ts (a + 1))
+  stands-off p (t ∷ ts) a e =
+      stands-here p a (wordOf t s) (listsIn s ts) (stands (wordsIn s ts) p (a + 1)) e (stands-off p ts (a + 1))
 
   among-none : (p : ℕ) (ts qs : List ℕ) → inAll p (listsIn s ts) ≡ false → startsAmong (wordsIn s ts) p qs ≡ 0
   unfolding startsAmong
@@ -53,17 +56,22 @@ module _ (s : List ℕ) where
   starts-off p (t ∷ ts) e = among-none p (t ∷ ts) (positionsOn p (wordOf t s)) e
 
   -- pages that a list does not share have no start
-  starts-shared : (ts : List ℕ) (ls : List (List ℕ)) → ((p : ℕ) → inAll p ls ≡ false → starts (wordsIn s ts) p ≡ 0) → (ps : List ℕ) → withStarts (wordsIn s ts) ps ≡ withStarts (wordsIn s ts) (sharedBy ls ps)
+  starts-shared : (ts : List ℕ) (ls : List (List ℕ)) → ((p : ℕ) → inAll p ls ≡ false → starts (wordsIn s ts) p ≡ 0)
+      → (ps : List ℕ) → withStarts (wordsIn s ts) ps ≡ withStarts (wordsIn s ts) (sharedBy ls ps)
   unfolding withStarts sharedBy
   starts-shared ts ls off [] = refl
   starts-shared ts ls off (p ∷ ps) = go (starts-shared ts ls off ps) (inAll p ls) refl
     where
-      go : withStarts (wordsIn s ts) ps ≡ withStarts (wordsIn s ts) (sharedBy ls ps) → (b : Bool) → inAll p ls ≡ b → withStarts (wordsIn s ts) (p ∷ ps) ≡ withStarts (wordsIn s ts) (sharedBy ls (p ∷ ps))
+      go : withStarts (wordsIn s ts) ps ≡ withStarts (wordsIn s ts) (sharedBy ls ps) → (b : Bool) → inAll p ls ≡ b
+          → withStarts (wordsIn s ts) (p ∷ ps) ≡ withStarts (wordsIn s ts) (sharedBy ls (p ∷ ps))
       go ih true e = rw (e, ih)
       go ih false e = rw (e, off p e, ih)
 
   -- phrases by plain reading are those on the common pages
-  pub phrase-common : (ts : List ℕ) → 0 < length ts → byPhrase (wordsIn s ts) ≡ numbered (withStarts (wordsIn s ts) (commonPages (listsIn s ts)))
+  pub phrase-common : (ts : List ℕ) → 0 < length ts → byPhrase (wordsIn s ts)
+      ≡ numbered (withStarts (wordsIn s ts) (commonPages (listsIn s ts)))
   unfolding byPhrase commonPages wordsIn listsIn inAll pagesIn
   phrase-common [] h = absurd (omega arith)
-  phrase-common (t ∷ ts) h = ap numbered (starts-shared (t ∷ ts) (listsIn s ts) (λ p e. starts-off p (t ∷ ts) (rw e (and-false (member p (pagesIn s t))))) (pagesIn s t))
+  phrase-common (t ∷ ts) h =
+      ap numbered (starts-shared (t ∷ ts) (listsIn s ts)
+      (λ p e. starts-off p (t ∷ ts) (rw e (and-false (member p (pagesIn s t))))) (pagesIn s t))

@@ -25,7 +25,11 @@ module _ (qs : List ℕ) (at : ℕ) where
   pub cut-short : (T : ℕ) → at < length qs → length qs < at + (2 + countOf (drop at qs)) → formed T (drop at qs) ≡ false
   cut-short T h k =
       let l = length-drop at qs in
-      rw (formed-front T (drop at qs) (omega arith), lt-leb (2 + countOf (drop at qs)) (length (drop at qs)) (omega arith))
+      rw (
+        formed-front T (drop at qs) (omega arith),
+        lt-leb (2 + countOf (drop at qs)) (length (drop at qs))
+            (omega arith),
+      )
 
   module _ (to : ℕ) (h : at < length qs) (e : to ≡ at + (2 + countOf (drop at qs))) where
     args-at : argsOf (drop at qs) ≡ take (to - (at + 2)) (drop (at + 2) qs)
@@ -39,13 +43,15 @@ module _ (qs : List ℕ) (at : ℕ) where
     behind-at = drop-drop (2 + countOf (drop at qs)) at qs ∙ ap (λ (i : ℕ). drop i qs) (sym e)
 
     -- one that ends inside is as good as it is by itself, and as what is behind it
-    pub formed-at : (T : ℕ) → to ≤ length qs → formed T (drop at qs) ≡ goodQuestion T (getD qs at 0) (take (to - (at + 2)) (drop (at + 2) qs)) && formed T (drop to qs)
+    pub formed-at : (T : ℕ) → to ≤ length qs → formed T (drop at qs)
+        ≡ goodQuestion T (getD qs at 0) (take (to - (at + 2)) (drop (at + 2) qs)) && formed T (drop to qs)
     formed-at T k =
         let l = length-drop at qs in
         formed-front T (drop at qs) (omega arith)
         ∙ rw (le-leb (2 + countOf (drop at qs)) (length (drop at qs)) (omega arith), kind-at, args-at, behind-at)
 
-    pub answers-at : (s : List ℕ) → answersTo s (drop at qs) ≡ answer s (getD qs at 0) (take (to - (at + 2)) (drop (at + 2) qs)) ∷ answersTo s (drop to qs)
+    pub answers-at : (s : List ℕ) → answersTo s (drop at qs)
+        ≡ answer s (getD qs at 0) (take (to - (at + 2)) (drop (at + 2) qs)) ∷ answersTo s (drop to qs)
     answers-at s =
         let l = length-drop at qs in
         answers-front s (drop at qs) (omega arith) ∙ rw (kind-at, args-at, behind-at)
@@ -58,5 +64,7 @@ module _ (qs : List ℕ) (at : ℕ) where
         let b = leb-true (2 + countOf (drop at qs)) (length (drop at qs)) (g .0) in
         omega arith
 
-    pub formed-good : (T : ℕ) → formed T (drop at qs) ≡ true → (goodQuestion T (getD qs at 0) (take (to - (at + 2)) (drop (at + 2) qs)) ≡ true) × (formed T (drop to qs) ≡ true)
+    pub formed-good : (T : ℕ) → formed T (drop at qs) ≡ true
+        → (goodQuestion T (getD qs at 0) (take (to - (at + 2)) (drop (at + 2) qs)) ≡ true)
+        × (formed T (drop to qs) ≡ true)
     formed-good T f = and-parts _ _ (sym (formed-at T (formed-inside T f)) ∙ f)

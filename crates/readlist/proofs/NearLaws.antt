@@ -15,13 +15,16 @@ pub share-le : (rank last n : ℕ) → rank < n → rank * last / n ≤ last
 share-le rank last n h =
     let l : rank * last ≤ n * last = mul-le-mul-right last (omega arith) in
     let m : rank * last < (last + 1) * n = omega (arith, mul-comm n last) in
-    let d : rank * last / n < last + 1 = div-lt-iff-lt-mul {k = n} {x = rank * last} {y = last + 1} (omega arith) .1 m in
+    let d : rank * last / n < last + 1 =
+    div-lt-iff-lt-mul {k = n} {x = rank * last} {y = last + 1} (omega arith) .1 m in
     omega arith
 
-pub share-fits : (s : List ℕ) (g : Shape) → Open s g → (rank last : ℕ) → rank < g .n → last ≤ pointersIn g → rank * last < 2 ^ 64
+pub share-fits : (s : List ℕ) (g : Shape) → Open s g → (rank last : ℕ) → rank < g .n → last ≤ pointersIn g
+    → rank * last < 2 ^ 64
 share-fits s g o rank last h l =
     let r = open-reads s g o in
-    let m : rank * last ≤ 2 ^ 25 * 2 ^ 25 = mul-le-mul {n₁ = rank} {m₁ = last} {n₂ = 2 ^ 25} {m₂ = 2 ^ 25} (omega arith) (omega arith) in
+    let m : rank * last ≤ 2 ^ 25 * 2 ^ 25 =
+    mul-le-mul {n₁ = rank} {m₁ = last} {n₂ = 2 ^ 25} {m₂ = 2 ^ 25} (omega arith) (omega arith) in
     omega arith
 
 -- ---- the ends of a search

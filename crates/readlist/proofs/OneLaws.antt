@@ -52,7 +52,8 @@ module _ (s : List ℕ) (at : ℕ) where
         let n : ℕ = nextOne 64 x from in
         let e : 64 * k + from + (n - from) ≡ 64 * k + n = omega (arith, next-after 64 x from) in
         rw e at (ones-flat s at (64 * k + from) (n - from) (λ i l g.
-        run-zeros s at k from n (next-le 64 x from h) (λ q a b. rw (← word) (next-zeros 64 x from q a b)) i (omega arith) (omega (arith, next-after 64 x from))))
+        run-zeros s at k from n (next-le 64 x from h) (λ q a b. rw (← word) (next-zeros 64 x from q a b)) i
+        (omega arith) (omega (arith, next-after 64 x from))))
 
     pub next-set : nextOne 64 x from < 64 → runBit s at (64 * k + nextOne 64 x from) ≡ 1
     next-set h = run-bit s at k (nextOne 64 x from) h ∙ rw (← word) (next-bit 64 x from h)
@@ -69,5 +70,12 @@ module _ (run : List ℕ) (start before rank : ℕ) (a : OneAhead run start befo
       → (inner ≤ before) × OneAhead run (64 * (start / 64)) (before - inner) rank
   start-splits x inner e f =
       let d : 64 * (start / 64) + start % 64 ≡ start = omega arith in
-      let c = rw (← e, ← f, d) at (word-ones run 0 (start / 64) (start % 64) (omega arith)) in
-      (omega (arith, c, a .passed), record { passed = omega (arith, c, a .passed); ahead = omega (arith, a .ahead); some = a .some; short = a .short })
+      let c = rw (← e, ← f, d) at (word-ones run 0 (start / 64) (start % 64) (omega arith)) in (
+        omega (arith, c, a .passed),
+        record {
+          passed = omega (arith, c, a .passed);
+          ahead = omega (arith, a .ahead);
+          some = a .some;
+          short = a .short;
+        },
+      )

@@ -28,14 +28,16 @@ module _ (s : List ℕ) (g : Shape) (o : Open s g) (start : ℕ) (some : onesBel
 
   -- a place with no more ones below it than the start lies in a word of the run
   pub flat-inside : (p : ℕ) → onesBelow s (g .upper) p ≡ onesBelow s (g .upper) start → p / 64 < wordsFor (g .bits)
-  flat-inside p e = omega (arith, words-hold (g .bits), count-lt s (g .upper) p (g .bits) (omega (arith, read .counted)))
+  flat-inside p e =
+      omega (arith, words-hold (g .bits), count-lt s (g .upper) p (g .bits) (omega (arith, read .counted)))
 
   -- such a word lies in the block
   pub word-inside : (k : ℕ) → k < wordsFor (g .bits) → (g .upper + 8 * k + 8 ≤ length s) × (k < 2 ^ 32)
   unfolding wordsFor
   word-inside k h = (omega (arith, read .full), omega (arith, read .below, read .within, read .many))
 
-  pub reach-word : (k from x bit : ℕ) → k < wordsFor (g .bits) → from ≤ 64 → onesBelow s (g .upper) (64 * k + from) ≡ onesBelow s (g .upper) start
+  pub reach-word : (k from x bit : ℕ) → k < wordsFor (g .bits) → from ≤ 64 → onesBelow s (g .upper) (64 * k + from)
+      ≡ onesBelow s (g .upper) start
       → x ≡ runWord s (g .upper) k → bit ≡ nextOne 64 x from → Reached s g start k bit
   reach-word k from x bit h l f e b = rw b (record {
     inside = h;
@@ -46,7 +48,8 @@ module _ (s : List ℕ) (g : Shape) (o : Open s g) (start : ℕ) (some : onesBel
 
   module _ (k : ℕ) (r : Reached s g start k 64) where
     -- the word after one without
-    pub reach-past : (k + 1 < wordsFor (g .bits)) × (onesBelow s (g .upper) (64 * (k + 1) + 0) ≡ onesBelow s (g .upper) start)
+    pub reach-past : (k + 1 < wordsFor (g .bits))
+        × (onesBelow s (g .upper) (64 * (k + 1) + 0) ≡ onesBelow s (g .upper) start)
     reach-past =
         let e : 64 * k + 64 ≡ 64 * (k + 1) + 0 = omega arith in
         let f = rw e at (r .flat) in
@@ -83,7 +86,8 @@ module _ (s : List ℕ) (g : Shape) (o : Open s g) (run : List ℕ)
 
   -- ---- ones from a place on
 
-  module _ (start before rank : ℕ) (counted : onesBelow s (g .upper) start ≡ before) (least : before ≤ rank) (lt : rank < g .n) where
+  module _ (start before rank : ℕ) (counted : onesBelow s (g .upper) start ≡ before) (least : before ≤ rank)
+      (lt : rank < g .n) where
     start-lt : start < g .bits
     start-lt = count-lt s (g .upper) start (g .bits) (omega (arith, opened .counted))
 

@@ -229,7 +229,8 @@ pub fn last_of(block: &[u8], g: Shape) -> usize
 
 // That place, from `start` on, below which `before` ones lie; from a pointer where that is far.
 pub fn place_near(block: &[u8], g: Shape, start: usize, before: usize, rank: usize) -> usize
-    requires { ⌜ Open (now block) g × (rank < g .n) × (onesBelow (now block) (g .upper) start ≡ before) × (before ≤ rank) ⌝ }
+    requires { ⌜ Open (now block) g × (rank < g .n) × (onesBelow (now block) (g .upper) start ≡ before)
+        × (before ≤ rank) ⌝ }
     ensures { λ r. ⌜ OneAt (now (block .entry)) (g .upper) rank r ⌝ }
 {
     if before + 256 < rank {

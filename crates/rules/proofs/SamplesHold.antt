@@ -15,7 +15,8 @@ use Rattle.rules.specs.Common.{leadFrom, leadOf, readersOf, before, stop
 use Rattle.rules.specs.Questions.{firstFrom, member, inAll, sharedBy, commonPages, positionsAmong, positionsOn, stands, startsAmong, starts, withStarts, numbered, pagesIn, listsIn, wordsIn, byRank, byBound, byCommon, byPhrase, answer, allBelow, goodQuestion, kindOf, countOf, argsOf, behind, wellFormed, replies}
 use Rattle.rules.specs.Ask.{fitting, fitted, reply, joined, put, ask}
 use Rattle.rules.specs.Program.{decimal, digits, line, lines, refusedWord, refusedLine, numbersOf, printedReply, printed}
-use Rattle.rules.specs.Samples.{sameRefusal, sameFound, soughtSo, holds, every, stepped, s1, s1List, s2, s8, s9, s9Word, atFront, s12, samples}
+use Rattle.rules.specs.Samples.{sameRefusal, sameFound, soughtSo, holds, every}
+use Rattle.rules.specs.Table.{stepped, s1, s1List, s2, s8, s9, s9Word, atFront, s12, samples}
 
 pub samples-hold : T (every samples)
 unfolding accepted andThen be beAt sized same bit runWord runBit field wordsFor words rising validList greatest width zeros upper lower afterZero pointer pointers lowerAt upperAt size runs body block stated listU listN elements readList decode isBlock listRefusal laid stored writeList total sums next raised placed places positive inOrder inOrderByPage validWord termBlock after part inside listsOf pagesOf countsOf positionsOf gaps less lowered readWord disagree termRefusal indexFront terms card validWords validCard indexN indexT termPart wordOf termsRefusal indexRefusal placeOf bitsOf cursorBit startOf looksTo walk gone arrived walked walkFrom move seek leadFrom leadOf readersOf before stopped agree counted nothing rounds common firstFrom member inAll sharedBy commonPages positionsAmong positionsOn stands startsAmong starts withStarts numbered pagesIn listsIn wordsIn byRank byBound byCommon byPhrase answer allBelow goodQuestion kindOf countOf argsOf behind wellFormed replies fitting fitted reply joined put ask decimal digits line lines refusedWord refusedLine numbersOf printedReply printed sameRefusal sameFound soughtSo holds every stepped s1 s1List s2 s8 s9 s9Word atFront s12 samples

@@ -9,7 +9,8 @@ use Rattle.rules.specs.declared.Outcome.{Outcome}
 use Rattle.rules.specs.Write.{Made, made}
 use Rattle.rules.specs.Term.{Word}
 use Rattle.rules.specs.Ask.{asked}
-use Rattle.rules.specs.Promises.{Determined, ListChecked, ListWritten, TermChecked, TermWritten, IndexChecked, IndexClosed, Answered, Printed}
+use Rattle.rules.specs.Promises.{Determined, ListChecked, ListWritten, TermChecked, TermWritten, IndexChecked}
+use Rattle.rules.specs.Promises.{IndexClosed, Answered, Printed}
 
 -- A promise that equates a view of the result, from which the result can be had back, determines it.
 pub by-equation : {A B : Type 0} (view : A → B) (back : B → A) → ((p : A) → back (view p) ≡ p) → (b : B)

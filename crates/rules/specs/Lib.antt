@@ -17,3 +17,4 @@ pub mod Ask
 pub mod Program
 pub mod Promises
 pub mod Samples
+pub mod Table

@@ -52,7 +52,8 @@ lower w i (x ∷ xs) = x % 2 ^ w * 2 ^ (i * w) + lower w (i + 1) xs
 unfoldable pub afterZero : ℕ → ℕ → ℕ → ℕ → ℕ
 afterZero zero u k p = p
 afterZero (suc b) u zero p = p
-afterZero (suc b) u (suc k) p = elim (bit u p) [ zero ↦ afterZero b u k (p + 1) | suc _ ↦ afterZero b u (suc k) (p + 1) ]
+afterZero (suc b) u (suc k) p =
+    elim (bit u p) [ zero ↦ afterZero b u k (p + 1) | suc _ ↦ afterZero b u (suc k) (p + 1) ]
 
 unfoldable pub pointer : ℕ → ℕ → ℕ → ℕ
 pointer b u i = afterZero b u (256 * i) 0

@@ -1,17 +1,17 @@
--- Document 01's samples S1 to S12 and further rows, as one table [01 Sample cards].
+-- What a sample of document 01 says, and whether the definitions give it [01 Sample cards]. The samples are in Table.antt.
 --
 --   Row       a sample of one of nine kinds
 --   holds r   whether the definitions give what the row says
---   samples   the table; every holds of it is the theorem of proofs/SamplesHold.antt
+--   every rs  whether they do so for all of the rows
 use mathlib.Core.Bool.{Bool, true, false, _&&_}
-use mathlib.Core.List.{List, [], _∷_, _++_}
-use Prim.Native.Nat.{ℕ, zero, suc, _+_}
+use mathlib.Core.List.{List, [], _∷_}
+use Prim.Native.Nat.{ℕ}
 use lib.Dec.{eqb}
-use lib.ListN.{length, set, take, replicate}
-use Rattle.rules.specs.declared.Refusal.the-variants.{Accepted, Short, Length, Version, Limit, Layout, Runs, Parts, Question, Room, Lists}
+use lib.ListN.{length, take, replicate}
+use Rattle.rules.specs.declared.Refusal.the-variants.{Accepted}
 use Rattle.rules.specs.declared.Refusal.{Refusal}
 use Rattle.rules.specs.Refusal.{number}
-use Rattle.rules.specs.Bytes.{be, same}
+use Rattle.rules.specs.Bytes.{same}
 use Rattle.rules.specs.List.{validList, block}
 use Rattle.rules.specs.ReadList.{listU, decode, listRefusal}
 use Rattle.rules.specs.Write.{writeList}
@@ -85,108 +85,3 @@ holds (shown s qs text) = same (printed s qs) text
 unfoldable pub every : List Row → Bool
 every [] = true
 every (r ∷ rs) = holds r && every rs
-
--- k numbers from x on, d apart
-unfoldable pub stepped : ℕ → ℕ → ℕ → List ℕ
-stepped zero x d = []
-stepped (suc k) x d = x ∷ stepped k (x + d) d
-
-unfoldable pub s1 : List ℕ
-s1 = be 29 0x0000001D_01_0000002C_00000008_000000000000DE73_00000000000209CD
-
-unfoldable pub s1List : List ℕ
-s1List = 3 ∷ (4 ∷ (7 ∷ (13 ∷ (14 ∷ (15 ∷ (21 ∷ (43 ∷ [])))))))
-
-unfoldable pub s2 : List ℕ
-s2 = be 13 0x0000000D_01_00000005_00000000
-
--- nine words of 0101.. and one of 24 bits of them
-unfoldable pub s8 : List ℕ
-s8 =
-    be 17 0x00000061_01_0000012C_0000012C_00000200
-    ++ (replicate 72 0x55 ++ be 8 0x0000000000555555)
-
-unfoldable pub s9 : List ℕ
-s9 =
-    be 16 0x0000005F_01_00000003_0001_00000054_01
-    ++ (be 29 0x0000001D_01_00000003_00000001_0000000000000001_0000000000000001
-    ++ (be 29 0x0000001D_01_00000002_00000001_0000000000000001_0000000000000001
-    ++ be 21 0x00000015_01_00000003_00000002_0000000000000009))
-
-unfoldable pub s9Word : Word
-s9Word = record { pages = 1 ∷ []; counts = 2 ∷ []; positions = 0 ∷ (2 ∷ []) }
-
--- a word at position 0 of each of its k pages
-unfoldable pub atFront : List ℕ → ℕ → Word
-atFront pages k = record { pages = pages; counts = replicate k 1; positions = replicate k 0 }
-
-unfoldable pub s12 : List ℕ
-s12 = card 44 (atFront s1List 8 ∷ (atFront (4 ∷ (15 ∷ [])) 2 ∷ []))
-
--- a step that finds, and one that does not
-abbrev pub finds : ℕ → ℕ → ℕ → ℕ → Step
-finds b x i k = record { bound = b; found = page x i; looks = k }
-
-abbrev pub misses : ℕ → ℕ → Step
-misses b k = record { bound = b; found = none; looks = k }
-
-unfoldable pub samples : List Row
-samples =
-    -- S1 to S4
-    listed s1 44 s1List
-    ∷ (listed s2 5 []
-    ∷ (listed (be 21 0x00000015_01_00000001_00000001_0000000000000001) 1 (0 ∷ [])
-    ∷ (listed (be 21 0x00000015_01_00000003_00000003_0000000000000015) 3 (0 ∷ (1 ∷ (2 ∷ [])))
-    -- S5 to S7
-    ∷ (sought 44 s1List (finds 16 21 6 1 ∷ (finds 43 43 7 1 ∷ []))
-    ∷ (sought 44 s1List (finds 43 43 7 1 ∷ (finds 5 43 7 0 ∷ (misses 44 0 ∷ (misses 0 0 ∷ []))))
-    ∷ (sought 44 s1List (misses 44 0 ∷ [])
-    -- S8
-    ∷ (listed s8 300 (stepped 300 0 1)
-    ∷ (sought 300 (stepped 300 0 1) (finds 299 299 299 2 ∷ [])
-    ∷ (sought 300 (stepped 300 0 1) (finds 255 255 255 8 ∷ [])
-    -- S9 to S11
-    ∷ (indexed s9 3 (s9Word ∷ [])
-    ∷ (asked s9 (3 ∷ (1 ∷ (0 ∷ []))) 40 Accepted 1 (3 ∷ (2 ∷ (2 ∷ (1 ∷ []))))
-    ∷ (asked s9 (4 ∷ (2 ∷ (0 ∷ (0 ∷ [])))) 40 Accepted 1 (0 ∷ [])
-    ∷ (asked s9 (4 ∷ (1 ∷ (0 ∷ []))) 40 Accepted 1 (2 ∷ (1 ∷ (2 ∷ [])))
-    -- S12
-    ∷ (asked s12 (3 ∷ (2 ∷ (0 ∷ (1 ∷ [])))) 40 Accepted 1 (4 ∷ (5 ∷ (5 ∷ (4 ∷ (15 ∷ [])))))
-    -- the program on S9
-    ∷ (shown s9 (be 28 0x00000003_00000001_00000000_00000004_00000002_00000000_00000000) (51 ∷ (32 ∷ (50 ∷ (32 ∷ (50 ∷ (32 ∷ (49 ∷ (10 ∷ (48 ∷ (10 ∷ []))))))))))
-    -- w = 1 where U - 1 would give 0; a last pointer at the run's end; both ends of U
-    ∷ (listed (be 29 0x0000001D_01_00000004_00000002_0000000000000003_0000000000000005) 4 (1 ∷ (3 ∷ []))
-    ∷ (listed (be 17 0x00000051_01_00000100_00000100_00000200 ++ replicate 64 0x55) 256 (stepped 256 0 1)
-    ∷ (sought 256 (stepped 256 0 1) (finds 255 255 255 8 ∷ (misses 256 0 ∷ []))
-    ∷ (listed (be 13 0x0000000D_01_00000000_00000000) 0 []
-    ∷ (listed (be 13 0x0000000D_01_01000000_00000000) 16777216 []
-    ∷ (listed (be 29 0x0000001D_01_01000000_00000001_0000000000FFFFFF_0000000000000001) 16777216 (16777215 ∷ [])
-    ∷ (listed (be 29 0x0000001D_01_01000000_00000002_00003FFFFF800000_0000000000000005) 16777216 (0 ∷ (16777215 ∷ []))
-    -- edges
-    ∷ (notList (be 13 0x0000000D_01_01000001_00000000) Limit
-    ∷ (notIndex (be 11 0x0000000B_01_00000000_1001) Limit
-    ∷ (notIndex (be 11 0x0000000B_01_00000000_0001) Short
-    ∷ (notList (take 12 s2) Short
-    ∷ (notList (set s1 3 30) Length
-    ∷ (notList (set s1 4 2) Version
-    ∷ (notList (set s1 12 45) Layout
-    ∷ (notList (set s1 12 0) Layout
-    ∷ (notList (set s1 26 0x0A) Runs
-    ∷ (notList (set s1 13 0x80) Runs
-    ∷ (notList (set (set s8 15 1) 16 0xFF) Runs
-    ∷ (asked s9 (3 ∷ (9 ∷ replicate 9 0)) 40 Question 0 []
-    ∷ (asked s9 (3 ∷ (1 ∷ (1 ∷ []))) 40 Question 0 []
-    -- kinds 1 and 2 on S12, both ends; room one short at the second question; parts that disagree; the writer's refusals
-    ∷ (asked s12 (1 ∷ (2 ∷ (0 ∷ (7 ∷ (1 ∷ (2 ∷ (0 ∷ (8 ∷ [])))))))) 40 Accepted 2 (1 ∷ (43 ∷ (0 ∷ [])))
-    ∷ (asked s12 (2 ∷ (2 ∷ (0 ∷ (16 ∷ (2 ∷ (2 ∷ (0 ∷ (44 ∷ [])))))))) 40 Accepted 2 (2 ∷ (21 ∷ (6 ∷ (0 ∷ []))))
-    ∷ (asked s9 (1 ∷ (2 ∷ (0 ∷ (0 ∷ (3 ∷ (1 ∷ (0 ∷ []))))))) 5 Room 1 (1 ∷ (1 ∷ []))
-    ∷ (notIndex (set s9 8 4) Parts
-    ∷ (written 44 s1List 29 Accepted
-    ∷ (written 44 s1List 28 Room
-    ∷ (written 44 (4 ∷ (4 ∷ [])) 40 Lists
-    ∷ (written 16777217 [] 40 Limit
-    -- the pointer by b div 2^w; no jump back behind the cursor; back to the lead after a larger page
-    ∷ (sought 1024 (stepped 300 0 3) (finds 600 600 200 2 ∷ (finds 897 897 299 5 ∷ (misses 898 2 ∷ [])))
-    ∷ (sought 300 (stepped 300 0 1) (finds 290 290 290 2 ∷ (finds 295 295 295 1 ∷ []))
-    ∷ (tallied 20 ((1 ∷ (9 ∷ [])) ∷ ((2 ∷ (9 ∷ (10 ∷ []))) ∷ ((1 ∷ (9 ∷ (12 ∷ []))) ∷ []))) 6 6 (9 ∷ [])
-    ∷ []))))))))))))))))))))))))))))))))))))))))))))))

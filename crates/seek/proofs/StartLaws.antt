@@ -27,7 +27,8 @@ use Rattle.seek.specs.declared.Zeros.{Zeros}
 use Rattle.seek.specs.declared.Walk.{Walk}
 use Rattle.seek.specs.Cursors.{markOf, startIn, Moving}
 use Rattle.seek.specs.Walks.{Before, Started, Skipping, Skipped, Passed}
-use Rattle.seek.proofs.OpenLaws.{Ruled, open-U, open-within, open-n, open-some, open-length, open-rising, open-ruled, before-place, before-zeros}
+use Rattle.seek.proofs.OpenLaws.{Ruled, open-U, open-within, open-n, open-some, open-length, open-rising}
+use Rattle.seek.proofs.OpenLaws.{open-ruled, before-place, before-zeros}
 use Rattle.seek.proofs.WalkLaws.{skipping-from, walking-from}
 use Rattle.seek.proofs.CursorLaws.{held-rule, held-floor}
 
@@ -64,13 +65,16 @@ module _ (s : List ℕ) (g : Shape) (o : Open s g) (b : ℕ) (p : Place) (t : St
 
   -- the walk from the start on, or from behind the cursor's own element
   pub passed-start : (looks : ℕ) (r : Walk) → looks < 2 ^ 31
-      → r .left ≡ runWord s (g .upper) (p .bit / 64) / 2 ^ (p .bit % 64 + p .own) * 2 ^ (p .bit % 64 + p .own) → r .k ≡ p .bit / 64
+      → r .left ≡ runWord s (g .upper) (p .bit / 64) / 2 ^ (p .bit % 64 + p .own) * 2 ^ (p .bit % 64 + p .own) → r .k
+      ≡ p .bit / 64
       → r .rank ≡ p .bit - p .zeros + p .own → r .looks ≡ looks + 1 → Passed s g b (p .bit / 64) (looks + 1) r
   passed-start looks r l e i n c =
       let before : r .rank ≡ onesBelow s (g .upper) (p .bit) + p .own = omega (arith, t .counted) in
       let behind : 64 * k + (f + p .own) ≡ p .bit + p .own = omega arith in
       record {
-        at = walking-from s g o (f + p .own) r (omega (arith, own-le)) (rw i start-word) (rw i e) (rw (i, behind, own-counted) before) (omega arith);
+        at =
+            walking-from s g o (f + p .own) r (omega (arith, own-le)) (rw i start-word) (rw i e)
+            (rw (i, behind, own-counted) before) (omega arith);
         passed = rw before (t .passed);
         counted = omega arith;
       }
@@ -162,7 +166,8 @@ module _ (s : List ℕ) (g : Shape) (o : Open s g) where
     start-before p d =
         let k = held-rule U xs (open-rising s g o) (open-within s g o) c (m .cursor) in
         let f = held-floor U xs (open-rising s g o) (open-within s g o) c (m .cursor) b (m .ahead) (m .below) in
-        before-place s g o some b p (rw (d, k) (start-ahead U xs (open-rising s g o) (m .cursor .place) b (m .cursor .placed) f))
+        before-place s g o some b p
+        (rw (d, k) (start-ahead U xs (open-rising s g o) (m .cursor .place) b (m .cursor .placed) f))
 
     -- and so is the cursor's own element, whose one is at the cursor's bit
     placing-own : (a : Placing) → Placed xs a → markOf xs a ≤ b → (own : ℕ) → own ≤ 1 → own ≤ markOf xs a
@@ -192,10 +197,13 @@ module _ (s : List ℕ) (g : Shape) (o : Open s g) where
         rw (a .bit-is) (placing-own (a .place) (a .placed) (rw (a .mark-is) at (m .ahead)) own h (rw (a .mark-is) at q))
 
     -- the start is the larger of the cursor's bit and the pointer
-    pub started-jump : (r : Place) → PointerAt s g number (r .bit) → r .zeros ≡ 256 * number → r .own ≡ 0 → high / 256 < number
+    pub started-jump : (r : Place) → PointerAt s g number (r .bit) → r .zeros ≡ 256 * number → r .own ≡ 0
+        → high / 256 < number
         → Started s g b r × (r .bit ≡ startIn s c b)
     started-jump r p z n l =
-        let q = after-lt (onesBelow s (g .upper)) (run-steps s (g .upper)) (256 * number) (r .bit) (p .after) (c .bit) (omega (arith, cursor-counted)) in
+        let q =
+        after-lt (onesBelow s (g .upper)) (run-steps s (g .upper)) (256 * number) (r .bit) (p .after) (c .bit)
+        (omega (arith, cursor-counted)) in
         let e : r .bit ≡ max (c .bit) (pointerOf s g number) = omega (arith, p .defined) in
         let d : r .bit ≡ startIn s c b = e ∙ sym start-is in (
           record {
@@ -207,12 +215,16 @@ module _ (s : List ℕ) (g : Shape) (o : Open s g) where
           d,
         )
 
-    pub started-here : (r : Place) → r .bit ≡ c .bit → r .zeros ≡ high → r .own ≤ 1 → r .own ≤ c .mark → number ≤ high / 256
+    pub started-here : (r : Place) → r .bit ≡ c .bit → r .zeros ≡ high → r .own ≤ 1 → r .own ≤ c .mark
+        → number ≤ high / 256
         → Started s g b r × (r .bit ≡ startIn s c b)
     started-here r e z h w l =
         let p = read-pointer number pointer-inside in
-        let q = after-le (onesBelow s (g .upper)) (run-steps s (g .upper)) (256 * number) (p .0) (p .1 .after) (c .bit) (omega (arith, cursor-counted)) in
-        let k = cursor-lt U xs (open-rising s g o) (m .cursor .place) (m .cursor .placed) (rw (open-length s g o) some) in
+        let q =
+        after-le (onesBelow s (g .upper)) (run-steps s (g .upper)) (256 * number) (p .0) (p .1 .after) (c .bit)
+        (omega (arith, cursor-counted)) in
+        let k =
+        cursor-lt U xs (open-rising s g o) (m .cursor .place) (m .cursor .placed) (rw (open-length s g o) some) in
         let f : r .bit ≡ max (c .bit) (pointerOf s g number) = omega (arith, p .1 .defined) in
         let d : r .bit ≡ startIn s c b = f ∙ sym start-is in
         let own = cursor-own (r .own) h w (rw e at (start-before (r .bit) d)) in (

@@ -47,7 +47,15 @@ module _ (s : List ℕ) (g : Shape) (o : Open s g) where
         word-is = w;
         gone = ones ((2 ^ 64 - 1 - x .word) % 2 ^ f);
         left-are = rw e (rest-from (2 ^ 64 - 1 - x .word) f (omega arith) (omega arith));
-        counted = omega (arith, c, word-ones s (g .upper) (x .k) f (omega arith), complement-ones 64 (x .word) f fits (omega arith), same);
+        counted =
+            omega (
+              arith,
+              c,
+              word-ones s (g .upper) (x .k) f (omega arith),
+              complement-ones 64 (x .word) f fits
+                  (omega arith),
+              same,
+            );
         short = b;
         room = r;
       }

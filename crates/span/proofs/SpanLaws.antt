@@ -27,7 +27,8 @@ use Rattle.span.proofs.WalkLaws.{past-le, past-lt, past-mono, first-pas
 -- a part of what is left after c elements
 slice-past : (c m n : ℕ) (es : List ℕ) → length (take c es) ≡ c → slice m n (drop c es) ≡ slice (c + m) (c + n) es
 slice-past c m n es l =
-    ap (drop m) (sym (drop-at (take c es) (take n (drop c es)) c l) ∙ ap (drop c) (sym (take-add c n es))) ∙ drop-drop m c (take (c + n) es)
+    ap (drop m) (sym (drop-at (take c es) (take n (drop c es)) c l) ∙ ap (drop c) (sym (take-add c n es)))
+    ∙ drop-drop m c (take (c + n) es)
 
 next-past : (b c m : ℕ) (es : List ℕ) → next (next b (take c es)) (take m (drop c es)) ≡ next b (take (c + m) es)
 next-past b c m es = sym (next-append b (take c es) (take m (drop c es))) ∙ ap (next b) (sym (take-add c m es))
@@ -36,7 +37,8 @@ next-past b c m es = sym (next-append b (take c es) (take m (drop c es))) ∙ ap
 among-rank : (r lo N s b : ℕ) (qs ks es : List ℕ) → rising lo N qs ≡ true → inOrder s ks ≡ true → length qs ≡ length ks
     → total (gaps s ks) ≡ length es → r < length qs
     → positionsAmong (getD qs r 0) qs (gaps s ks) (lowered b (gaps s ks) es)
-    ≡ less (next b (take (next s (take r ks) - s) es)) (slice (next s (take r ks) - s) (next s (take (suc r) ks) - s) es)
+    ≡ less (next b (take (next s (take r ks) - s) es))
+    (slice (next s (take r ks) - s) (next s (take (suc r) ks) - s) es)
 unfolding positionsAmong gaps next
 among-rank r lo N s b [] ks es o p l t h = absurd (omega arith)
 among-rank r lo N s b (q ∷ qs) [] es o p l t h = absurd (omega arith)
@@ -55,7 +57,9 @@ among-rank (suc r) lo N s b (q ∷ qs) (k ∷ ks) es o p l t h =
     let m′ : k + 1 ≤ f′ = next-le (k + 1) (take (suc r) ks) (page-order (k + 1) (suc r) ks (y .1) .0) in
     let e : c + (f - (k + 1)) ≡ f - s = omega (arith, y .0) in
     let e′ : c + (f′ - (k + 1)) ≡ f′ - s = omega (arith, y .0) in
-    let ih = among-rank r (q + 1) N (k + 1) (next b (take c es)) qs ks (drop c es) (x .2) (y .1) (omega arith) (len .1) (omega arith) in
+    let ih =
+    among-rank r (q + 1) N (k + 1) (next b (take c es)) qs ks (drop c es) (x .2) (y .1) (omega arith) (len .1)
+    (omega arith) in
     rw (ne-eqb (getD qs r 0) q (λ d. omega (arith, g .0)), positionsAmong, lowered-drop b c (gaps (k + 1) ks) es t)
     (ih ∙ ap₂ less (next-past b c (f - (k + 1)) es ∙ ap (λ (i : ℕ). next b (take i es)) e)
     (slice-past c (f - (k + 1)) (f′ - (k + 1)) es (len .0) ∙ ap₂ (λ (i j : ℕ). slice i j es) e e′))
@@ -90,10 +94,14 @@ module _ (s : List ℕ) (a : termRefusal s ≡ Accepted) where
   pub page-in : (r : ℕ) → r < length ps → PageIn s r
   unfolding positionsOn readWord onPage
   page-in r h =
-      let g = among-rank r 0 (listU (pagesOf s)) 0 0 ps cs es (pages-listed s a .rises) (counts-listed s a .ordered) lengths (total-places s a) h in
-      let x = first-past (listU (positionsOf s)) es (positions-listed s a .rises) (past cs r) (before-le r (omega arith)) in
+      let g =
+      among-rank r 0 (listU (pagesOf s)) 0 0 ps cs es (pages-listed s a .rises) (counts-listed s a .ordered) lengths
+      (total-places s a) h in
+      let x =
+      first-past (listU (positionsOf s)) es (positions-listed s a .rises) (past cs r) (before-le r (omega arith)) in
       record {
-        some = past-lt (listU (countsOf s)) cs (counts-listed s a .rises) r (r + 1) (omega arith) (omega (arith, lengths));
+        some =
+            past-lt (listU (countsOf s)) cs (counts-listed s a .rises) r (r + 1) (omega arith) (omega (arith, lengths));
         within = before-le (r + 1) (omega arith);
         positions-are = rw (x, add-one) (unfold past in simp sub-zero at g);
       }

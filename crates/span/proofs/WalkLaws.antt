@@ -41,24 +41,37 @@ past-some xs (suc i) p h =
 
 pub past-le : (U : ℕ) (xs : List ℕ) → rising 0 U xs ≡ true → (i : ℕ) → i ≤ length xs → past xs i ≤ U
 past-le U xs r zero h = rw (past-none xs) (omega arith)
-past-le U xs r (suc i) h = omega (arith, past-some xs (suc i) (omega arith) h, rising-below 0 U xs r (suc i - 1) (omega arith))
+past-le U xs r (suc i) h =
+    omega (arith, past-some xs (suc i) (omega arith) h, rising-below 0 U xs r (suc i - 1) (omega arith))
 
 pub past-lt : (U : ℕ) (xs : List ℕ) → rising 0 U xs ≡ true → (i j : ℕ) → i < j → j ≤ length xs → past xs i < past xs j
 past-lt U xs r zero j l h = omega (arith, past-none xs, past-some xs j l h)
 past-lt U xs r (suc i) j l h =
-    omega (arith, past-some xs (suc i) (omega arith) (omega arith), past-some xs j (omega arith) h, rising-lt 0 U xs r (suc i - 1) (j - 1) (omega arith) (omega arith))
+    omega (
+      arith,
+      past-some xs (suc i) (omega arith) (omega arith),
+      past-some xs j (omega arith) h,
+      rising-lt 0 U xs r
+          (suc i - 1) (j - 1) (omega arith) (omega arith),
+    )
 
 pub past-mono : (U : ℕ) (xs : List ℕ) → rising 0 U xs ≡ true → (i j : ℕ) → i ≤ j → j ≤ length xs → past xs i ≤ past xs j
-past-mono U xs r i j l h = elim (ℕ-discrete i j) [ yes e ↦ rw e (omega arith) | no e ↦ omega (arith, past-lt U xs r i j (omega (arith, e)) h) ]
+past-mono U xs r i j l h =
+    elim (ℕ-discrete i j) [ yes e ↦ rw e (omega arith) | no e ↦ omega (arith, past-lt U xs r i j (omega (arith, e)) h) ]
 
 -- number i is that of the first element past those before it
 pub first-past : (U : ℕ) (xs : List ℕ) → rising 0 U xs ≡ true → (i : ℕ) → i ≤ length xs → firstAt (past xs i) xs ≡ i
-first-past U xs r zero h = firstAt-unique (past xs 0) xs 0 h (λ j l. absurd (omega arith)) (λ l. rw (past-none xs) (omega arith))
+first-past U xs r zero h =
+    firstAt-unique (past xs 0) xs 0 h (λ j l. absurd (omega arith)) (λ l. rw (past-none xs) (omega arith))
 first-past U xs r (suc i) h =
     let e : suc i - 1 ≡ i = omega arith in
     let p : past xs (suc i) ≡ getD xs i 0 + 1 = rw e at (past-some xs (suc i) (omega arith) h) in
     firstAt-unique (past xs (suc i)) xs (suc i) h
-    (λ j l. elim (ℕ-discrete j i) [ yes d ↦ rw (p, d) (omega arith) | no d ↦ omega (arith, p, rising-lt 0 U xs r j i (omega arith) (omega arith)) ])
+    (λ j l. elim (ℕ-discrete j i) [
+      | yes d ↦ rw (p, d) (omega arith)
+      | no d ↦ omega
+          (arith, p, rising-lt 0 U xs r j i (omega arith) (omega arith))
+    ])
     (λ l. omega (arith, p, rising-lt 0 U xs r i (suc i) (omega arith) l))
 
 -- ---- where reading stands
@@ -66,7 +79,12 @@ first-past U xs r (suc i) h =
 module _ (s : List ℕ) (g : Shape) (o : Open s g) where
   -- at the start
   pub walk-new : WalkOn s g (record { next = 0; past = 0; place = 0 })
-  walk-new = record { opened = o; within = omega arith; past-is = sym (past-none (decode s)); counted = below-none s (g .upper) }
+  walk-new = record {
+    opened = o;
+    within = omega arith;
+    past-is = sym (past-none (decode s));
+    counted = below-none s (g .upper);
+  }
 
   -- past the element whose one stands at `place`
   pub walk-past : (rank place value : ℕ) → OneAt s (g .upper) rank place → value ≡ getD (decode s) rank 0
@@ -86,7 +104,8 @@ module _ (s : List ℕ) (g : Shape) (o : Open s g) where
       }
 
 -- one more is passed where all that are passed lie below b
-pub passing-on : (s : List ℕ) (g : Shape) (to b : ℕ) (w r : Walk) → Passing s g to b w → w .next < to → w .past ≤ b → PassedTo s g (w .next + 1) r → Passing s g to b r
+pub passing-on : (s : List ℕ) (g : Shape) (to b : ℕ) (w r : Walk) → Passing s g to b w → w .next < to → w .past ≤ b
+    → PassedTo s g (w .next + 1) r → Passing s g to b r
 passing-on s g to b w r p l h d =
     let e : r .next - 1 ≡ w .next = omega (arith, d .at) in
     record { on = d .on; inside = omega (arith, d .at); below = rw e (omega (arith, p .on .past-is)) }

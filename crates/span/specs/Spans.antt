@@ -25,4 +25,5 @@ pub record PageIn (s : List ℕ) (r : ℕ) : Type 0 where
   pub within : positionsBefore s (r + 1) ≤ length (decode (positionsOf s))
   pub positions-are :
       positionsOn (getD (decode (pagesOf s)) r 0) (readWord s)
-      ≡ onPage (decode (positionsOf s)) (past (decode (positionsOf s)) (positionsBefore s r)) (positionsBefore s (r + 1))
+      ≡ onPage (decode (positionsOf s)) (past (decode (positionsOf s)) (positionsBefore s r))
+      (positionsBefore s (r + 1))

@@ -67,5 +67,6 @@ module _ (n : ℕ) where
   pub put-digit : (at : ℕ) (d : List ℕ) → n < 10 → Put (digits n) at (at + 1) d (set d at (48 + n))
   put-digit at d h = put-same (sym (digits-one h)) (put-one (48 + n) at d)
 
-  pub put-digits : {at m : ℕ} {d e : List ℕ} → 10 ≤ n → n < 10 ^ 10 → Put (digits (n / 10)) at m d e → Put (digits n) at (m + 1) d (set e m (48 + n % 10))
+  pub put-digits : {at m : ℕ} {d e : List ℕ} → 10 ≤ n → n < 10 ^ 10 → Put (digits (n / 10)) at m d e
+      → Put (digits n) at (m + 1) d (set e m (48 + n % 10))
   put-digits {m = m} {e = e} l h p = put-same (sym (digits-tens l h)) (put-cat p (put-one (48 + n % 10) m e))

@@ -32,7 +32,8 @@ pub line-first : (ns : List ℕ) → 0 < length ns → digits (getD ns 0 0) ++ e
 line-first [] h = absurd (omega arith)
 line-first (n ∷ ns) h = sym (line-cons n ns)
 
-pub first-length : (ns : List ℕ) → 0 < length ns → length (line ns) ≡ length (digits (getD ns 0 0)) + length (ending (drop 1 ns))
+pub first-length : (ns : List ℕ) → 0 < length ns → length (line ns)
+    ≡ length (digits (getD ns 0 0)) + length (ending (drop 1 ns))
 first-length ns h = sym (ap length (line-first ns h)) ∙ length-append (digits (getD ns 0 0)) (ending (drop 1 ns))
 
 module _ (ns : List ℕ) where
@@ -40,7 +41,8 @@ module _ (ns : List ℕ) where
   unfolding ending
   ending-at i h = rw (add-one i, drop-cons ns i 0 h)
 
-  pub ending-length : (i : ℕ) → i < length ns → length (ending (drop i ns)) ≡ length (digits (getD ns i 0)) + 1 + length (ending (drop (i + 1) ns))
+  pub ending-length : (i : ℕ) → i < length ns → length (ending (drop i ns))
+      ≡ length (digits (getD ns i 0)) + 1 + length (ending (drop (i + 1) ns))
   ending-length i h = ap length (ending-at i h) ∙ rw (length-append) (omega arith)
 
   pub ending-last : (i : ℕ) → i ≡ length ns → ending (drop i ns) ≡ 10 ∷ []
@@ -76,10 +78,12 @@ answers-none (n ∷ ns) = answers-none ns
 
 answers-cons : (c : ℕ) (ns : List ℕ) → answersIn (c ∷ ns) ≡ (c ∷ take c ns) ∷ answersIn (drop c ns)
 unfolding answersIn cut
-answers-cons c ns = rw (cut-more (length ns) (length (drop c ns)) (drop c ns) (rw length-drop (omega arith)) (omega arith))
+answers-cons c ns =
+    rw (cut-more (length ns) (length (drop c ns)) (drop c ns) (rw length-drop (omega arith)) (omega arith))
 
 module _ (ns : List ℕ) (i : ℕ) where
-  answers-at : i < length ns → answersIn (drop i ns) ≡ take (1 + getD ns i 0) (drop i ns) ∷ answersIn (drop (i + 1 + getD ns i 0) ns)
+  answers-at : i < length ns → answersIn (drop i ns)
+      ≡ take (1 + getD ns i 0) (drop i ns) ∷ answersIn (drop (i + 1 + getD ns i 0) ns)
   answers-at h =
       let c : ℕ = getD ns i 0 in
       let e : drop i ns ≡ c ∷ drop (suc i) ns = drop-cons ns i 0 h in
@@ -95,13 +99,15 @@ module _ (ns : List ℕ) (i : ℕ) (h : i < length ns) (w : Counted (answersIn (
   abbrev c : ℕ
   c = getD ns i 0
 
-  counted-at : (length (take (1 + c) (drop i ns)) ≡ getD (take (1 + c) (drop i ns)) 0 0 + 1) × Counted (answersIn (drop (i + 1 + c) ns))
+  counted-at : (length (take (1 + c) (drop i ns)) ≡ getD (take (1 + c) (drop i ns)) 0 0 + 1)
+      × Counted (answersIn (drop (i + 1 + c) ns))
   counted-at = rw (answers-at ns i h) at w
 
   pub counted-fits : i + 1 + c ≤ length ns
   counted-fits =
       let z : i + 0 ≡ i = omega arith in
-      let g : getD (take (1 + c) (drop i ns)) 0 0 ≡ c = getD-take (1 + c) (drop i ns) 0 0 (omega arith) ∙ rw (getD-drop i ns 0 0, z) in
+      let g : getD (take (1 + c) (drop i ns)) 0 0 ≡ c =
+      getD-take (1 + c) (drop i ns) 0 0 (omega arith) ∙ rw (getD-drop i ns 0 0, z) in
       omega (arith, rw (g, length-take, length-drop) at (counted-at .0))
 
   pub counted-rest : Counted (answersIn (drop (i + 1 + c) ns))
@@ -116,7 +122,8 @@ module _ (ns : List ℕ) (i : ℕ) (h : i < length ns) (w : Counted (answersIn (
       let g : 1 + c ≡ i + 1 + c - i = omega arith in
       rw (answers-at ns i h, ← g)
 
-  pub lines-length : length (lines (answersIn (drop i ns))) ≡ length (line (answer-at ns i)) + length (lines (answersIn (drop (i + 1 + c) ns)))
+  pub lines-length : length (lines (answersIn (drop i ns)))
+      ≡ length (line (answer-at ns i)) + length (lines (answersIn (drop (i + 1 + c) ns)))
   lines-length = ap length lines-at ∙ length-append (line (answer-at ns i)) (lines (answersIn (drop (i + 1 + c) ns)))
 
 pub lines-none : (ns : List ℕ) (i : ℕ) → i ≡ length ns → lines (answersIn (drop i ns)) ≡ []

@@ -32,7 +32,8 @@ pub put-length : {b : List ℕ} {at n : ℕ} {d e : List ℕ} → Put b at n d e
 put-length {b} {at} {n} {d} {e} p = ap length (p .stored) ∙ length-sets d at b
 
 -- laid at the front
-pub put-laid : (b : List ℕ) {r : ℕ} (d : List ℕ) {e : List ℕ} → Put b 0 r d e → length b ≤ length d → (e ≡ laid b d) × (r ≡ length b)
+pub put-laid : (b : List ℕ) {r : ℕ} (d : List ℕ) {e : List ℕ} → Put b 0 r d e → length b ≤ length d → (e ≡ laid b d)
+    × (r ≡ length b)
 unfolding laid
 put-laid b d p h = (p .stored ∙ rw zero-add at (sets-eq b d 0 (omega arith)), p .next ∙ zero-add (length b))
 
@@ -44,8 +45,13 @@ partly-none w at d = record { done = []; put = put-none at d; whole = refl }
 pub partly-same : {w a b : List ℕ} {at n : ℕ} {d e : List ℕ} → a ≡ b → Partly w a at n d e → Partly w b at n d e
 partly-same g p = record { done = p .done; put = p .put; whole = p .whole ∙ ap (λ l. p .done ++ l) g }
 
-pub partly-more : {w a b : List ℕ} {at m n : ℕ} {d e f : List ℕ} → Partly w (a ++ b) at m d e → Put a m n e f → Partly w b at n d f
-partly-more {w} {a} {b} p q = record { done = p .done ++ a; put = put-cat (p .put) q; whole = p .whole ∙ sym (append-assoc (p .done) a b) }
+pub partly-more : {w a b : List ℕ} {at m n : ℕ} {d e f : List ℕ} → Partly w (a ++ b) at m d e → Put a m n e f
+    → Partly w b at n d f
+partly-more {w} {a} {b} p q = record {
+  done = p .done ++ a;
+  put = put-cat (p .put) q;
+  whole = p .whole ∙ sym (append-assoc (p .done) a b);
+}
 
 pub partly-all : {w : List ℕ} {at n : ℕ} {d e : List ℕ} → Partly w [] at n d e → Put w at n d e
 partly-all p = put-same (sym (p .whole ∙ append-nil (p .done))) (p .put)

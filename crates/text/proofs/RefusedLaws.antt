@@ -36,9 +36,13 @@ module _ (r : Refusal) where
   pub refused-length : (n : ℕ) → n ≡ number r → 0 < n → length (refusedLine r) ≡ 8 + length (line (n ∷ []))
   refused-length n g h = ap length (refused-some n g h) ∙ rw (length-append, word-length)
 
-  pub put-refused : {n at m : ℕ} {d e f : List ℕ} → n ≡ number r → 0 < n → e ≡ sets d at (be 8 0x7265667573656420) → Put (line (n ∷ [])) (at + 8) m e f → Put (refusedLine r) at m d f
+  pub put-refused : {n at m : ℕ} {d e f : List ℕ} → n ≡ number r → 0 < n → e ≡ sets d at (be 8 0x7265667573656420)
+      → Put (line (n ∷ [])) (at + 8) m e f → Put (refusedLine r) at m d f
   put-refused {n} {at} {m} {d} {e} {f} g h s p =
-      let q : Put refusedWord at (at + 8) d e = record { stored = s ∙ ap (sets d at) refused-word; next = rw word-length } in
+      let q : Put refusedWord at (at + 8) d e = record {
+        stored = s ∙ ap (sets d at) refused-word;
+        next = rw word-length;
+      } in
       put-same (sym (refused-some n g h)) (put-cat q p)
 
   pub refused-most : length (refusedLine r) ≤ 19

@@ -48,7 +48,8 @@ words-cons : (qs : List ℕ) → 4 ≤ length qs → wordsOf qs ≡ beAt 4 qs 0 
 words-cons qs h =
     numbers-more (length qs) (suc (length qs)) qs (omega arith) (omega arith)
     ∙ numbers-cons (length qs) qs h
-    ∙ ap (λ l. beAt 4 qs 0 ∷ l) (numbers-more (length qs) (length (drop 4 qs)) (drop 4 qs) (rw length-drop (omega arith)) (omega arith))
+    ∙ ap (λ l. beAt 4 qs 0 ∷ l)
+    (numbers-more (length qs) (length (drop 4 qs)) (drop 4 qs) (rw length-drop (omega arith)) (omega arith))
 
 module _ (i : ℕ) (qs : List ℕ) where
   pub words-at : i < length qs / 4 → wordsOf (drop (4 * i) qs) ≡ beAt 4 qs (4 * i) ∷ wordsOf (drop (4 * (i + 1)) qs)

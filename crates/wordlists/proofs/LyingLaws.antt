@@ -44,21 +44,26 @@ drop-take (suc a) (suc n) (x ∷ s) = drop-take a n s ∙ ap (λ (m : ℕ). take
 -- a part of a part is a part
 pub part-part : (m a n b : ℕ) (s : List ℕ) → a + m ≤ n → take m (drop a (take n (drop b s))) ≡ take m (drop (b + a) s)
 part-part m a n b s h =
-    ap (take m) (drop-take a n (drop b s)) ∙ take-take m (n - a) (drop a (drop b s)) (omega arith) ∙ ap (take m) (drop-drop a b s)
+    ap (take m) (drop-take a n (drop b s)) ∙ take-take m (n - a) (drop a (drop b s)) (omega arith)
+    ∙ ap (take m) (drop-drop a b s)
 
 -- a place of list k in a term, whose place is in the card
-pub list-lying : (s : List ℕ) (t k : ℕ) (p q : Place) (b : List ℕ) → Placed 11 t s p → b ≡ take (p .to - p .from) (drop (p .from) s) → Placed 5 k b q
+pub list-lying : (s : List ℕ) (t k : ℕ) (p q : Place) (b : List ℕ) → Placed 11 t s p → b
+    ≡ take (p .to - p .from) (drop (p .from) s) → Placed 5 k b q
     → Lying s (listOf s t k) (p .from + q .from) (p .from + q .to)
 unfolding listOf listsOf termPart
 list-lying s t k p q b u e v =
     let f : b ≡ part t (drop 11 s) = e ∙ placed-part 11 t s p u in
-    let l : length b ≡ min (p .to - p .from) (length s - p .from) = ap length e ∙ length-take (p .to - p .from) (drop (p .from) s) ∙ ap (min (p .to - p .from)) (length-drop (p .from) s) in
+    let l : length b ≡ min (p .to - p .from) (length s - p .from) =
+    ap length e ∙ length-take (p .to - p .from) (drop (p .from) s)
+    ∙ ap (min (p .to - p .from)) (length-drop (p .from) s) in
     let n : p .from + q .to - (p .from + q .from) ≡ q .to - q .from = omega arith in
     record {
       starts = omega (arith, v .ends);
       ends = omega (arith, v .within, u .within, u .ends);
       bytes =
-          rw n (sym (part-part (q .to - q .from) (q .from) (p .to - p .from) (p .from) s (omega (arith, v .within, v .ends)))
+          rw n (sym (part-part (q .to - q .from) (q .from) (p .to - p .from) (p .from) s
+          (omega (arith, v .within, v .ends)))
           ∙ ap (λ (x : List ℕ). take (q .to - q .from) (drop (q .from) x)) (sym e)
           ∙ placed-part 5 k b q v
           ∙ ap (λ (x : List ℕ). part k (drop 5 x)) f);
@@ -75,17 +80,25 @@ word-below T ts g i h = go ts (words-parts T ts g .2) i h
     go (u ∷ us) e (suc j) l = go us (and-parts (ltb u T) (allBelow T us) e .1) j (omega arith)
 
 -- one word's place more
-pub lying-more : (s ts : List ℕ) (k i : ℕ) (ps : List ℕ) (from to : ℕ) → 2 * i + 1 < length ps → AllLying s ts k i ps → Lying s (listOf s (getD ts i 0) k) from to
+pub lying-more : (s ts : List ℕ) (k i : ℕ) (ps : List ℕ) (from to : ℕ) → 2 * i + 1 < length ps → AllLying s ts k i ps
+    → Lying s (listOf s (getD ts i 0) k) from to
     → AllLying s ts k (i + 1) (set (set ps (2 * i) from) (2 * i + 1) to)
 lying-more s ts k i ps from to h a l j g =
     elim (ℕ-discrete j i) [
       | yes e ↦
-          let x : getD (set (set ps (2 * i) from) (2 * i + 1) to) (2 * i) 0 ≡ from = getD-set-other (set ps (2 * i) from) (2 * i + 1) (2 * i) to 0 (λ z. omega arith) ∙ getD-set-same ps (2 * i) from 0 (omega arith) in
-          let y : getD (set (set ps (2 * i) from) (2 * i + 1) to) (2 * i + 1) 0 ≡ to = getD-set-same (set ps (2 * i) from) (2 * i + 1) to 0 (rw length-set (omega arith)) in
+          let x : getD (set (set ps (2 * i) from) (2 * i + 1) to) (2 * i) 0 ≡ from =
+          getD-set-other (set ps (2 * i) from) (2 * i + 1) (2 * i) to 0 (λ z. omega arith)
+          ∙ getD-set-same ps (2 * i) from 0 (omega arith) in
+          let y : getD (set (set ps (2 * i) from) (2 * i + 1) to) (2 * i + 1) 0 ≡ to =
+          getD-set-same (set ps (2 * i) from) (2 * i + 1) to 0 (rw length-set (omega arith)) in
           rw (e, x, y) l
       | no n ↦
-          let x : getD (set (set ps (2 * i) from) (2 * i + 1) to) (2 * j) 0 ≡ getD ps (2 * j) 0 = getD-set-other (set ps (2 * i) from) (2 * i + 1) (2 * j) to 0 (λ z. omega arith) ∙ getD-set-other ps (2 * i) (2 * j) from 0 (λ z. omega arith) in
-          let y : getD (set (set ps (2 * i) from) (2 * i + 1) to) (2 * j + 1) 0 ≡ getD ps (2 * j + 1) 0 = getD-set-other (set ps (2 * i) from) (2 * i + 1) (2 * j + 1) to 0 (λ z. omega arith) ∙ getD-set-other ps (2 * i) (2 * j + 1) from 0 (λ z. omega arith) in
+          let x : getD (set (set ps (2 * i) from) (2 * i + 1) to) (2 * j) 0 ≡ getD ps (2 * j) 0 =
+          getD-set-other (set ps (2 * i) from) (2 * i + 1) (2 * j) to 0 (λ z. omega arith)
+          ∙ getD-set-other ps (2 * i) (2 * j) from 0 (λ z. omega arith) in
+          let y : getD (set (set ps (2 * i) from) (2 * i + 1) to) (2 * j + 1) 0 ≡ getD ps (2 * j + 1) 0 =
+          getD-set-other (set ps (2 * i) from) (2 * i + 1) (2 * j + 1) to 0 (λ z. omega arith)
+          ∙ getD-set-other ps (2 * i) (2 * j + 1) from 0 (λ z. omega arith) in
           rw (x, y) (a j (omega arith))
     ]
 

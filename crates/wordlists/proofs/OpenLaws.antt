@@ -28,7 +28,8 @@ use Rattle.wordlists.specs.Opened.{OpenedPages}
 use Rattle.wordlists.proofs.LyingLaws.{word-below}
 
 -- the words' lists, one after the other
-listed-span : (s : List ℕ) (ts : List ℕ) (f : ℕ → List ℕ) (i : ℕ) → ((j : ℕ) → j < length ts → f (i + j) ≡ pagesIn s (getD ts j 0)) → span f i (length ts) ≡ listsIn s ts
+listed-span : (s : List ℕ) (ts : List ℕ) (f : ℕ → List ℕ) (i : ℕ)
+    → ((j : ℕ) → j < length ts → f (i + j) ≡ pagesIn s (getD ts j 0)) → span f i (length ts) ≡ listsIn s ts
 unfolding span listsIn
 listed-span s [] f i h = refl
 listed-span s (t ∷ ts) f i h =
@@ -37,7 +38,8 @@ listed-span s (t ∷ ts) f i h =
     let e : i + 1 + j ≡ i + suc j = omega arith in
     ap f e ∙ h (suc j) (omega arith)))
 
-module _ (s ts ps : List ℕ) (a : indexRefusal s ≡ Accepted) (g : wordsGood (indexT s) ts ≡ true) (room : length ps ≡ 16) (l : AllLying s ts 0 (length ts) ps) where
+module _ (s ts ps : List ℕ) (a : indexRefusal s ≡ Accepted) (g : wordsGood (indexT s) ts ≡ true)
+    (room : length ps ≡ 16) (l : AllLying s ts 0 (length ts) ps) where
   part-pages : (i : ℕ) → i < length ts → placePart s ps i ≡ pagesOf (termPart (getD ts i 0) s)
   unfolding placePart pagesOf listOf
   part-pages i h = l i h .bytes
@@ -55,7 +57,9 @@ module _ (s ts ps : List ℕ) (a : indexRefusal s ≡ Accepted) (g : wordsGood (
           room = omega (arith, w .1);
           starts = l i h .starts;
           ends = l i h .ends;
-          accepted = rw (part-pages i h) (accepted-lists (termPart (getD ts i 0) s) (accepted-term s a (getD ts i 0) (word-below (indexT s) ts g i h) .accepts) .pages);
+          accepted =
+              rw (part-pages i h) (accepted-lists (termPart (getD ts i 0) s)
+              (accepted-term s a (getD ts i 0) (word-below (indexT s) ts g i h) .accepts) .pages);
         };
       }
 
@@ -74,8 +78,12 @@ module _ (s ts ps : List ℕ) (a : indexRefusal s ≡ Accepted) (g : wordsGood (
     lists = o .lists;
     pages = rw placed-lists at (o .pages);
     bound = o .bound ∙ part-bound 0 (words-parts (indexT s) ts g .0);
-    rise = rw (part-bound 0 (words-parts (indexT s) ts g .0), placed-lists) at (placed-rise s ps (length ts) pages-places pages-alike);
-    rule = rw (part-bound 0 (words-parts (indexT s) ts g .0), placed-lists) at (opened-common s ps (length ts) pages-places pages-alike r o);
+    rise =
+        rw (part-bound 0 (words-parts (indexT s) ts g .0), placed-lists) at
+        (placed-rise s ps (length ts) pages-places pages-alike);
+    rule =
+        rw (part-bound 0 (words-parts (indexT s) ts g .0), placed-lists) at
+        (opened-common s ps (length ts) pages-places pages-alike r o);
   }
 
 -- ---- the pages opened
@@ -91,7 +99,8 @@ module _ (s ts r : List ℕ) (o : OpenedPages s ts r) where
 
   -- plain reading lists the same pages
   pub opened-listed : wholeFrom s r (length ts) 0 .listed ≡ commonPages (listsIn s ts)
-  opened-listed = ap (λ (t : Tally). t .listed) (o .rule) ∙ common-listed (indexN s) (listsIn s ts) opened-some (o .rise)
+  opened-listed =
+      ap (λ (t : Tally). t .listed) (o .rule) ∙ common-listed (indexN s) (listsIn s ts) opened-some (o .rise)
 
   module _ (lead : ℕ) (e : lead ≡ leadOf (listsIn s ts)) where
     pub lead-within : lead < length ts
@@ -102,7 +111,8 @@ module _ (s ts r : List ℕ) (o : OpenedPages s ts r) where
     unfolding allPages
     slot-pages i h =
         let f : ℕ → List ℕ = λ j. pagesIn s (getD ts j 0) in
-        let lists : span f 0 (length ts) ≡ listsIn s ts = listed-span s ts f 0 (λ j l. let z : 0 + j ≡ j = omega arith in ap f z) in
+        let lists : span f 0 (length ts) ≡ listsIn s ts =
+        listed-span s ts f 0 (λ j l. let z : 0 + j ≡ j = omega arith in ap f z) in
         let t = slotOf lead i in
         let l = slot-lt lead i (length ts) lead-within h in
         let order = rw lists at (source-order f (length ts) lead lead-within (e ∙ ap leadOf (sym lists))) in

@@ -30,8 +30,10 @@ pub fn list_in(card: &[u8], t: usize, k: usize) -> Place
 
 // Puts the places of the words' lists number k, two numbers each.
 pub fn place_lists(card: &[u8], terms: &[u32], k: usize, places: &mut [u32])
-    requires { ⌜ (indexRefusal (now card) ≡ Accepted) × (wordsGood (indexT (now card)) (now terms) ≡ true) × (k < 3) × (length (now places) ≡ 16) ⌝ }
-    ensures { λ _. ⌜ AllLying (now (card .entry)) (now (terms .entry)) k (length (now (terms .entry))) (now (places .exit)) ⌝ }
+    requires { ⌜ (indexRefusal (now card) ≡ Accepted) × (wordsGood (indexT (now card)) (now terms) ≡ true) × (k < 3)
+        × (length (now places) ≡ 16) ⌝ }
+    ensures { λ _. ⌜ AllLying (now (card .entry)) (now (terms .entry)) k (length (now (terms .entry)))
+        (now (places .exit)) ⌝ }
 {
     let mut i = 0;
     while i < terms.len() {
@@ -45,8 +47,10 @@ pub fn place_lists(card: &[u8], terms: &[u32], k: usize, places: &mut [u32])
 // Opens the pages of the words side by side, the shortest list first and the others in their order; returns the number
 // of the word whose list leads.
 pub fn open_pages(card: &[u8], terms: &[u32], shapes: &mut [u32]) -> usize
-    requires { ⌜ (indexRefusal (now card) ≡ Accepted) × (wordsGood (indexT (now card)) (now terms) ≡ true) × (length (now shapes) ≡ 64) ⌝ }
-    ensures { λ r. ⌜ (r ≡ leadOf (listsIn (now (card .entry)) (now (terms .entry)))) × OpenedPages (now (card .entry)) (now (terms .entry)) (now (shapes .exit)) ⌝ }
+    requires { ⌜ (indexRefusal (now card) ≡ Accepted) × (wordsGood (indexT (now card)) (now terms) ≡ true)
+        × (length (now shapes) ≡ 64) ⌝ }
+    ensures { λ r. ⌜ (r ≡ leadOf (listsIn (now (card .entry)) (now (terms .entry))))
+        × OpenedPages (now (card .entry)) (now (terms .entry)) (now (shapes .exit)) ⌝ }
 {
     let mut places = [0u32; 16];
     place_lists(card, terms, 0, &mut places);

@@ -46,19 +46,28 @@ module _ (U : ℕ) (xs room : List ℕ) (a : writeList U xs room .refusal ≡ Ac
           ]
 
 -- What the writer accepts is a valid list, and its answer's bytes are that list's block.
-pub written-block : (U : ℕ) (xs room : List ℕ) (r : Written) (s : List ℕ) → ListWritten U xs room r s → r .refusal ≡ Accepted
+pub written-block : (U : ℕ) (xs room : List ℕ) (r : Written) (s : List ℕ) → ListWritten U xs room r s → r .refusal
+    ≡ Accepted
     → (validList U xs ≡ true) × (take (r .size) s ≡ block U xs)
 unfolding laid
 written-block U xs room r s e a =
     let w = wrote U xs room (sym (ap (λ m. m .refusal) e) ∙ a) in
     let v = valid-parts U xs (w .valid) in
-    let l : made r s ≡ record { refusal = Accepted; size = size U (length xs); room = laid (block U xs) room } = e ∙ write-laid U xs room (v .0) (v .1) (w .fits) in
+    let l : made r s ≡ record {
+      refusal = Accepted;
+      size = size U (length xs);
+      room = laid (block U xs) room;
+    } = e ∙ write-laid U xs room (v .0) (v .1) (w .fits) in
     let n : r .size ≡ size U (length xs) = ap (λ m. m .size) l in
-    let t : s ≡ laid (block U xs) room = ap (λ m. m .room) l in
-    (w .valid, rw (n, t) (take-at (block U xs) (drop (length (block U xs)) room) (size U (length xs)) (block-size U xs)))
+    let t : s ≡ laid (block U xs) room = ap (λ m. m .room) l in (
+      w .valid,
+      rw (n, t) (take-at (block U xs) (drop (length (block U xs)) room) (size U (length xs))
+          (block-size U xs)),
+    )
 
 -- What the writer writes is accepted, and reading it gives the list.
-pub written-read : (U : ℕ) (xs room : List ℕ) (r : Written) (s : List ℕ) → ListWritten U xs room r s → r .refusal ≡ Accepted
+pub written-read : (U : ℕ) (xs room : List ℕ) (r : Written) (s : List ℕ) → ListWritten U xs room r s → r .refusal
+    ≡ Accepted
     → (listRefusal (take (r .size) s) ≡ Accepted) × (decode (take (r .size) s) ≡ xs)
 written-read U xs room r s e a =
     let b = written-block U xs room r s e a in
@@ -66,7 +75,11 @@ written-read U xs room r s e a =
 
 -- Writing what was read of accepted bytes gives the same bytes.
 pub read-written : (s room : List ℕ) → listRefusal s ≡ Accepted → length s ≤ length room
-    → writeList (listU s) (decode s) room ≡ record { refusal = Accepted; size = length s; room = s ++ drop (length s) room }
+    → writeList (listU s) (decode s) room ≡ record {
+      refusal = Accepted;
+      size = length s;
+      room = s ++ drop (length s) room;
+    }
 unfolding laid
 read-written s room a h =
     let b = accepted-block s a in

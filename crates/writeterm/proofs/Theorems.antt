@@ -27,7 +27,8 @@ module _ (N : ℕ) (w : Word) (room : List ℕ) (r : Written) (s : List ℕ) (e 
       (k .writable, ap (λ m. take (m .size) (m .room)) e ∙ k .front)
 
   -- They are accepted, and reading them gives the word.
-  pub written-read : r .refusal ≡ Accepted → (termRefusal (take (r .size) s) ≡ Accepted) × (readWord (take (r .size) s) ≡ w)
+  pub written-read : r .refusal ≡ Accepted → (termRefusal (take (r .size) s) ≡ Accepted)
+      × (readWord (take (r .size) s) ≡ w)
   written-read a =
       let k = written N w room (accepts a) in
       let f = ap (λ m. take (m .size) (m .room)) e in

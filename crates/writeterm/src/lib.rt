@@ -186,7 +186,8 @@ pub fn write_term(
     positions: &[u32],
     room: &mut [u8],
 ) -> Written
-    ensures { λ r. ⌜ TermWritten n (wordOf (now (pages .entry)) (now (counts .entry)) (now (positions .entry))) (now (room .entry)) r (now (room .exit)) ⌝ }
+    ensures { λ r. ⌜ TermWritten n (wordOf (now (pages .entry)) (now (counts .entry)) (now (positions .entry)))
+        (now (room .entry)) r (now (room .exit)) ⌝ }
 {
     if 16777216 < n {
         return Written {

@@ -11,7 +11,8 @@ use Rattle.ask.proofs.answer_all.Statement.{statement}
 use Rattle.ask.proofs.answer_all.Tie as tie
 
 abbrev Inv-loop : tie.InvT-loop
-Inv-loop card questions room₀ at₀ answered₀ used₀ room at answered used = Under card questions room₀ room at answered used
+Inv-loop card questions room₀ at₀ answered₀ used₀ room at answered used =
+    Under card questions room₀ room at answered used
 
 abbrev μ-loop : tie.MeasureT-loop
 μ-loop card questions room₀ at₀ answered₀ used₀ room at answered used = length questions - at
@@ -25,14 +26,20 @@ end-of-requires : tie.Need-end-of-requires Inv-loop μ-loop
 end-of-requires c κs =
     let at = c .before .loop in
     let a = c .before .before .before .before .before .args in
-    omega (arith, turn-inside (a .card .now) (a .questions .now) (a .room .now) (at .room) (at .at) (at .answered) (at .used) (at .inv) _ (c .loop-test .taken) refl)
+    omega (
+      arith,
+      turn-inside (a .card .now) (a .questions .now) (a .room .now) (at .room) (at .at) (at .answered)
+          (at .used) (at .inv) _ (c .loop-test .taken) refl,
+    )
 
 -- where the question ends
-inside : (c : tie.After-end-of Inv-loop μ-loop) → c .end-of .result ≤ length (c .before .before .before .before .before .before .args .questions .now)
+inside : (c : tie.After-end-of Inv-loop μ-loop)
+    → c .end-of .result ≤ length (c .before .before .before .before .before .before .args .questions .now)
 inside c =
     let at = c .before .before .loop in
     let a = c .before .before .before .before .before .before .args in
-    turn-inside (a .card .now) (a .questions .now) (a .room .now) (at .room) (at .at) (at .answered) (at .used) (at .inv) (c .end-of .result) (c .before .loop-test .taken) (c .end-of .ensures .0)
+    turn-inside (a .card .now) (a .questions .now) (a .room .now) (at .room) (at .at) (at .answered) (at .used)
+    (at .inv) (c .end-of .result) (c .before .loop-test .taken) (c .end-of .ensures .0)
 
 mul-answer-one-2 : tie.Need-mul-answer-one-2 Inv-loop μ-loop
 mul-answer-one-2 c = omega (arith, inside (c .before))
@@ -62,7 +69,8 @@ answer-one-requires c κs =
     let b = e .before .before .before .before .before .before in
     let a = b .args in (
       b .pre .0,
-      turn-good (a .card .now) (a .questions .now) (a .room .now) (at .room) (at .at) (at .answered) (at .used) (at .inv) (e .end-of .result) (e .before .loop-test .taken) (e .end-of .ensures .0),
+      turn-good (a .card .now) (a .questions .now) (a .room .now) (at .room) (at .at) (at .answered) (at .used)
+          (at .inv) (e .end-of .result) (e .before .loop-test .taken) (e .end-of .ensures .0),
     )
 
 -- what the turn brings
@@ -70,13 +78,17 @@ turn : (c : tie.After-answer-one Inv-loop μ-loop) →
     let at = c .before .before .before .before .before .before in
     let a = at .before .before .before .before .args in
     let u = at .loop .used in
-    Turned (a .card .now) (a .questions .now) (a .room .now) (at .loop .answered) u (c .before .before .before .before .end-of .result) (c .answer-one .result) (putMid u (length (at .loop .room) - u) (at .loop .room) (c .answer-one .last .1 .1 .1 .0))
+    Turned (a .card .now) (a .questions .now) (a .room .now) (at .loop .answered) u
+    (c .before .before .before .before .end-of .result) (c .answer-one .result)
+    (putMid u (length (at .loop .room) - u) (at .loop .room) (c .answer-one .last .1 .1 .1 .0))
 turn c =
     let e = c .before .before .before .before in
     let at = e .before .before .loop in
     let a = e .before .before .before .before .before .before .args in
     let one = c .answer-one in
-    turned (a .card .now) (a .questions .now) (a .room .now) (at .room) (at .at) (at .answered) (at .used) (at .inv) (e .end-of .result) (e .before .loop-test .taken) (e .end-of .ensures .0) (one .result) (one .last .1 .1 .1 .0) (one .ensures)
+    turned (a .card .now) (a .questions .now) (a .room .now) (at .room) (at .at) (at .answered) (at .used) (at .inv)
+    (e .end-of .result) (e .before .loop-test .taken) (e .end-of .ensures .0) (one .result)
+    (one .last .1 .1 .1 .0) (one .ensures)
 
 same-length : tie.Need-same-length Inv-loop μ-loop
 same-length c = turn (c .before .before .before) .same
@@ -90,7 +102,13 @@ add-used c =
     omega (arith, t .on (omega (arith, c .if1 .left)) .fits, t .same)
 
 add-answered : tie.Need-add-answered Inv-loop μ-loop
-add-answered c = omega (arith, turn (c .before .before .before) .on (omega (arith, c .if1 .left)) .few, inside (c .before .before .before .before .before .before .before))
+add-answered c =
+    omega (
+      arith,
+      turn (c .before .before .before) .on (omega (arith, c .if1 .left)) .few,
+      inside
+          (c .before .before .before .before .before .before .before),
+    )
 
 loop-less : tie.Need-loop-less Inv-loop μ-loop
 loop-less c =
@@ -107,7 +125,8 @@ returns-2 : tie.Need-returns-2 Inv-loop μ-loop
 returns-2 c =
     let at = c .before .loop in
     let a = c .before .before .before .before .before .args in
-    under-end (a .card .now) (a .questions .now) (a .room .now) (at .room) (at .at) (at .answered) (at .used) (at .inv) (c .loop-test .left)
+    under-end (a .card .now) (a .questions .now) (a .room .now) (at .room) (at .at) (at .answered) (at .used)
+    (at .inv) (c .loop-test .left)
 
 pub answer-all-spec : {M : Type 1} → statement M
 answer-all-spec =

@@ -13,29 +13,38 @@ use Rattle.ask.proofs.answer_one.Statement.{statement}
 use Rattle.ask.proofs.answer_one.Tie as tie
 
 -- a term below T, and one number more
-pair : (c : tie.Start) → 0 < c .args .kind → c .args .kind < 3 → (length (c .args .args .now) ≡ 2) × (getD (c .args .args .now) 0 0 < indexT (c .args .card .now))
+pair : (c : tie.Start) → 0 < c .args .kind → c .args .kind < 3 → (length (c .args .args .now) ≡ 2)
+    × (getD (c .args .args .now) 0 0 < indexT (c .args .card .now))
 pair c h k =
     let a = c .args in
-    pair-parts (indexT (a .card .now)) (a .args .now) (sym (good-pair (indexT (a .card .now)) (a .kind) (a .args .now) h k) ∙ c .pre .1)
+    pair-parts (indexT (a .card .now)) (a .args .now)
+    (sym (good-pair (indexT (a .card .now)) (a .kind) (a .args .now) h k) ∙ c .pre .1)
 
 -- one to eight terms
-words : (c : tie.Start) → (c .args .kind ≡ 1 → ⊥) → (c .args .kind ≡ 2 → ⊥) → wordsGood (indexT (c .args .card .now)) (c .args .args .now) ≡ true
+words : (c : tie.Start) → (c .args .kind ≡ 1 → ⊥) → (c .args .kind ≡ 2 → ⊥)
+    → wordsGood (indexT (c .args .card .now)) (c .args .args .now) ≡ true
 words c p q = good-rest (indexT (c .args .card .now)) (c .args .kind) (c .args .args .now) p q (c .pre .1)
 
 shared-slice-read-by-rank : tie.Need-shared-slice-read-by-rank
-shared-slice-read-by-rank c = omega (arith, pair (c .before .before .before .before .before) (omega arith) (omega arith) .0)
+shared-slice-read-by-rank c =
+    omega (arith, pair (c .before .before .before .before .before) (omega arith) (omega arith) .0)
 
 cast-by-rank : tie.Need-cast-by-rank
 cast-by-rank c = omega (arith, c .shared-slice-known3 .given 0)
 
 shared-slice-read-by-rank-2 : tie.Need-shared-slice-read-by-rank-2
-shared-slice-read-by-rank-2 c = omega (arith, pair (c .before .before .before .before .before .before) (omega arith) (omega arith) .0)
+shared-slice-read-by-rank-2 c =
+    omega (arith, pair (c .before .before .before .before .before .before) (omega arith) (omega arith) .0)
 
 cast-by-rank-2 : tie.Need-cast-by-rank-2
 cast-by-rank-2 c = omega (arith, c .shared-slice-known4 .given 1)
 
 by-rank-requires : tie.Need-by-rank-requires
-by-rank-requires c κs = (c .before .before .before .before .before .before .before .pre .0, pair (c .before .before .before .before .before .before .before) (omega arith) (omega arith) .1)
+by-rank-requires c κs = (
+  c .before .before .before .before .before .before .before .pre .0,
+  pair
+      (c .before .before .before .before .before .before .before) (omega arith) (omega arith) .1,
+)
 
 returns : tie.Need-returns
 returns c =
@@ -44,16 +53,22 @@ returns c =
     rw (answer-rank (a .card .now) (a .kind) (a .args .now) (omega arith)) (p .by-rank .ensures)
 
 shared-slice-read-by-bound : tie.Need-shared-slice-read-by-bound
-shared-slice-read-by-bound c = omega (arith, pair (c .before .before .before .before .before .before) (omega arith) (omega arith) .0)
+shared-slice-read-by-bound c =
+    omega (arith, pair (c .before .before .before .before .before .before) (omega arith) (omega arith) .0)
 
 shared-slice-read-by-bound-2 : tie.Need-shared-slice-read-by-bound-2
-shared-slice-read-by-bound-2 c = omega (arith, pair (c .before .before .before .before .before .before .before) (omega arith) (omega arith) .0)
+shared-slice-read-by-bound-2 c =
+    omega (arith, pair (c .before .before .before .before .before .before .before) (omega arith) (omega arith) .0)
 
 cast-by-bound : tie.Need-cast-by-bound
 cast-by-bound c = omega (arith, c .shared-slice-known6 .given 1)
 
 by-bound-requires : tie.Need-by-bound-requires
-by-bound-requires c κs = (c .before .before .before .before .before .before .before .before .pre .0, pair (c .before .before .before .before .before .before .before .before) (omega arith) (omega arith) .1)
+by-bound-requires c κs = (
+  c .before .before .before .before .before .before .before .before .pre .0,
+  pair
+      (c .before .before .before .before .before .before .before .before) (omega arith) (omega arith) .1,
+)
 
 returns-2 : tie.Need-returns-2
 returns-2 c =
@@ -62,7 +77,11 @@ returns-2 c =
     rw (answer-bound (a .card .now) (a .kind) (a .args .now) (omega arith)) (p .by-bound .ensures)
 
 by-common-requires : tie.Need-by-common-requires
-by-common-requires c κs = (c .before .before .before .before .before .before .before .pre .0, words (c .before .before .before .before .before .before .before) (λ e. omega arith) (λ e. omega arith))
+by-common-requires c κs = (
+  c .before .before .before .before .before .before .before .pre .0,
+  words
+      (c .before .before .before .before .before .before .before) (λ e. omega arith) (λ e. omega arith),
+)
 
 returns-3 : tie.Need-returns-3
 returns-3 c =
@@ -71,13 +90,18 @@ returns-3 c =
     rw (answer-common (a .card .now) (a .kind) (a .args .now) (omega arith)) (p .by-common .ensures)
 
 by-phrase-requires : tie.Need-by-phrase-requires
-by-phrase-requires c κs = (c .before .before .before .before .before .before .before .pre .0, words (c .before .before .before .before .before .before .before) (λ e. omega arith) (λ e. omega arith))
+by-phrase-requires c κs = (
+  c .before .before .before .before .before .before .before .pre .0,
+  words
+      (c .before .before .before .before .before .before .before) (λ e. omega arith) (λ e. omega arith),
+)
 
 returns-4 : tie.Need-returns-4
 returns-4 c =
     let p = c .before .before in
     let a = p .before .before .before .before .before .before .before .before .args in
-    rw (answer-phrase (a .card .now) (a .kind) (a .args .now) (λ e. omega arith) (λ e. omega arith) (λ e. omega arith)) (p .by-phrase .ensures)
+    rw (answer-phrase (a .card .now) (a .kind) (a .args .now) (λ e. omega arith) (λ e. omega arith)
+    (λ e. omega arith)) (p .by-phrase .ensures)
 
 pub answer-one-spec : {M : Type 1} → statement M
 answer-one-spec =

@@ -11,7 +11,8 @@ returns : tie.Need-returns
 returns c =
     let sums = c .before in
     let entry = sums .before in
-    byte-place (entry .args .b) (entry .args .j) (sums .summed .result) (c .above .result) (omega arith) (omega arith) (sums .summed .ensures) (c .above .ensures)
+    byte-place (entry .args .b) (entry .args .j) (sums .summed .result) (c .above .result) (omega arith) (omega arith)
+    (sums .summed .ensures) (c .above .ensures)
 
 pub one-of-byte-spec : {M : Type 1} → statement M
 one-of-byte-spec =

@@ -19,7 +19,8 @@ in-byte c =
     let marks = c .before in
     let sums = marks .before in
     let a = sums .before .before .args in
-    held (a .x) (a .j) (sums .running-counts .result) (marks .above .result) (sums .running-counts .ensures) (marks .above .ensures) (sums .before .if1 .left) (c .if2 .left)
+    held (a .x) (a .j) (sums .running-counts .result) (marks .above .result) (sums .running-counts .ensures)
+    (marks .above .ensures) (sums .before .if1 .left) (c .if2 .left)
 
 returns : tie.Need-returns
 returns c =
@@ -32,8 +33,11 @@ returns-2 : tie.Need-returns-2
 returns-2 c =
     let marks = c .before in
     let sums = marks .before in
-    let a = sums .before .before .args in
-    (sym (none-held (a .x) (a .j) (sums .running-counts .result) (marks .above .result) (sums .running-counts .ensures) (marks .above .ensures) (sums .before .if1 .left) (c .if2 .taken)), omega arith)
+    let a = sums .before .before .args in (
+      sym (none-held (a .x) (a .j) (sums .running-counts .result) (marks .above .result)
+          (sums .running-counts .ensures) (marks .above .ensures) (sums .before .if1 .left) (c .if2 .taken)),
+      omega arith,
+    )
 
 sub-p : tie.Need-sub-p
 sub-p c = in-byte c .least
@@ -65,7 +69,12 @@ one-of-byte-requires c κs = in-byte c .few
 add-result : tie.Need-add-result
 add-result c =
     let a = c .before .before .before .before .before .args in
-    omega (arith, in-byte (c .before) .lands (c .one-of-byte .result) (c .one-of-byte .ensures), place-le 64 (a .x) (a .j))
+    omega (
+      arith,
+      in-byte (c .before) .lands (c .one-of-byte .result) (c .one-of-byte .ensures),
+      place-le 64 (a .x)
+          (a .j),
+    )
 
 returns-3 : tie.Need-returns-3
 returns-3 c =

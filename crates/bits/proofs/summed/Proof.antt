@@ -8,7 +8,8 @@ returns : tie.Need-returns
 returns c =
     let four = c .before in
     let two = four .before in
-    doubled (two .before .args .counts) (two .wrapping-add-u64 .result) (four .wrapping-add-u642 .result) (c .wrapping-add-u643 .result) (omega arith)
+    doubled (two .before .args .counts) (two .wrapping-add-u64 .result) (four .wrapping-add-u642 .result)
+    (c .wrapping-add-u643 .result) (omega arith)
     (two .wrapping-add-u64 .ensures) (four .wrapping-add-u642 .ensures) (c .wrapping-add-u643 .ensures)
 
 pub summed-spec : {M : Type 1} → statement M

@@ -12,7 +12,9 @@ use Rattle.bycommon.proofs.by_common.Statement.{statement}
 use Rattle.bycommon.proofs.by_common.Tie as tie
 
 -- the words' lists are opened
-opened : (c : tie.After-open-pages) → OpenedPages (c .before .before .before .before .before .args .card .now) (c .before .before .before .before .before .args .terms .now) (c .open-pages .last .1 .1 .0)
+opened : (c : tie.After-open-pages)
+    → OpenedPages (c .before .before .before .before .before .args .card .now)
+    (c .before .before .before .before .before .args .terms .now) (c .open-pages .last .1 .1 .0)
 opened c = c .open-pages .ensures .1
 
 add-if1 : tie.Need-add-if1
@@ -51,18 +53,27 @@ returns-2 c =
     let a = p .before .before .before .before .before .args in
     let r = p .open-pages .last .1 .1 .0 in
     let l = length-tallied (wholeFrom (a .card .now) r (length (a .terms .now)) 0) in
-    rw (← opened-answer (a .card .now) (a .terms .now) r (opened p)) (wrote-none _ _ _ (omega (arith, c .before .before .before .list-common .ensures .0 .found, c .if2 .taken)) refl)
+    rw (← opened-answer (a .card .now) (a .terms .now) r (opened p))
+    (wrote-none _ _ _ (omega (arith, c .before .before .before .list-common .ensures .0 .found, c .if2 .taken))
+    refl)
 
 put-common-requires-2 : tie.Need-put-common-requires-2
 put-common-requires-2 c κs =
     let p = c .before .before .before .before .before .before .before .before .before .before .before .before in
     let a = p .before .before .before .before .before .args in
-    let r = p .open-pages .last .1 .1 .0 in
-    (opened p .lists, omega (arith, c .before .before .before .before .before .list-common .ensures .0 .found, c .before .before .if2 .left))
+    let r = p .open-pages .last .1 .1 .0 in (
+      opened p .lists,
+      omega (
+        arith,
+        c .before .before .before .before .before .list-common .ensures .0 .found,
+        c .before .before .if2 .left,
+      ),
+    )
 
 returns-3 : tie.Need-returns-3
 returns-3 c =
-    let p = c .before .before .before .before .before .before .before .before .before .before .before .before .before .before .before in
+    let p =
+    c .before .before .before .before .before .before .before .before .before .before .before .before .before .before .before in
     let a = p .before .before .before .before .before .args in
     let r = p .open-pages .last .1 .1 .0 in
     rw (← opened-answer (a .card .now) (a .terms .now) r (opened p)) (c .before .before .put-common2 .ensures)

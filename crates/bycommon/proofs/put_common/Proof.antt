@@ -25,9 +25,11 @@ returns : tie.Need-returns
 returns c =
     let l = c .before .before .before .before in
     let b = l .before .before .before .before .before in
-    put-tally (wholeFrom (b .args .card .now) (b .args .shapes .now) (b .args .k) 0) (b .args .room .now) (l .list-common .last .1 .1 .1 .1 .0)
+    put-tally (wholeFrom (b .args .card .now) (b .args .shapes .now) (b .args .k) 0) (b .args .room .now)
+    (l .list-common .last .1 .1 .1 .1 .0)
     (l .list-common .result .found) (l .list-common .result .seeks) (l .list-common .result .looks) (b .pre .1)
-    (l .list-common .ensures .1) (l .list-common .ensures .0 .found) (l .list-common .ensures .0 .seeks) (l .list-common .ensures .0 .looks)
+    (l .list-common .ensures .1) (l .list-common .ensures .0 .found) (l .list-common .ensures .0 .seeks)
+    (l .list-common .ensures .0 .looks)
 
 pub put-common-spec : {M : Type 1} → statement M
 put-common-spec =

@@ -13,7 +13,8 @@ use Rattle.cards.proofs.show_term.Tie as tie
 
 known : (c : tie.Else3)
     → (indexRefusal (c .before .before .before .before .before .before .before .args .card .now) ≡ Accepted)
-    × (c .before .before .before .before .before .before .before .args .t < indexT (c .before .before .before .before .before .before .before .args .card .now))
+    × (c .before .before .before .before .before .before .before .args .t < indexT
+    (c .before .before .before .before .before .before .before .args .card .now))
 unfolding indexT
 known c =
     let n = c .before in
@@ -21,7 +22,8 @@ known c =
     let p = e .before in
     let i = p .before in
     let s = i .before .before .args .card .now in (
-      told-passed (p .passed .result) (i .check-index .result) (indexRefusal s) (p .passed .ensures) (i .check-index .ensures) (e .if1 .left),
+      told-passed (p .passed .result) (i .check-index .result) (indexRefusal s) (p .passed .ensures)
+          (i .check-index .ensures) (e .if1 .left),
       omega (arith, n .read-u16 .ensures .0, c .if3 .left),
     )
 

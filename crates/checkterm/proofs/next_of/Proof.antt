@@ -26,7 +26,8 @@ returns c =
     let s = g .before .before .args .list .now in
     sym (next-none 0 (decode s) (omega (arith, many g, c .if1 .taken)))
 
-last-is : (c : tie.After-last-of) → c .last-of .result + 1 ≡ next 0 (decode (c .before .before .before .before .before .args .list .now))
+last-is : (c : tie.After-last-of) → c .last-of .result + 1
+    ≡ next 0 (decode (c .before .before .before .before .before .args .list .now))
 last-is c =
     let g = c .before .before .before in
     let s = g .before .before .args .list .now in

@@ -24,46 +24,73 @@ next-common-requires c κs =
     rw (c .new .ensures) (new-running (b .args .card .now) (o .open-pages .last .1 .1 .0) 1 (o .open-pages .ensures .1 .lists) (b .args .bound))
 
 -- the next page of the one list
-next : (c : tie.After-next-common) → Turned (c .before .before .before .before .before .before .before .before .before .args .card .now) (c .before .before .before .before .open-pages .last .1 .1 .0) 1 newQuery (c .before .before .before .before .before .before .before .before .before .args .bound) (c .next-common .result)
+next : (c : tie.After-next-common)
+    → Turned (c .before .before .before .before .before .before .before .before .before .args .card .now)
+    (c .before .before .before .before .open-pages .last .1 .1 .0) 1 newQuery
+    (c .before .before .before .before .before .before .before .before .before .args .bound) (c .next-common .result)
 next c = rw (c .before .new .ensures) at (c .next-common .ensures)
 
 -- where there is one, the cursor tells its rank
-on-page : (c : tie.After-next-common) → (c .next-common .result .mark ≡ spentMark → ⊥) → Ranked (c .before .before .before .before .before .before .before .before .before .args .card .now) (c .before .before .before .before .open-pages .last .1 .1 .0) (c .next-common .result .q) 0 (c .next-common .result .mark - 1)
+on-page : (c : tie.After-next-common) → (c .next-common .result .mark ≡ spentMark → ⊥)
+    → Ranked (c .before .before .before .before .before .before .before .before .before .args .card .now)
+    (c .before .before .before .before .open-pages .last .1 .1 .0) (c .next-common .result .q) 0
+    (c .next-common .result .mark - 1)
 on-page c m =
     let o = c .before .before .before .before in
     let a = o .before .before .before .before .before .args in
     let r = o .open-pages .last .1 .1 .0 in
-    turned-ranked (a .card .now) r 1 newQuery (a .bound) (new-running (a .card .now) r 1 (o .open-pages .ensures .1 .lists) (a .bound) .apt) (c .next-common .result) (next c) m 0 (omega arith)
+    turned-ranked (a .card .now) r 1 newQuery (a .bound)
+    (new-running (a .card .now) r 1 (o .open-pages .ensures .1 .lists) (a .bound) .apt) (c .next-common .result)
+    (next c) m 0 (omega arith)
 
 returns : tie.Need-returns
 returns c =
     let n = c .before .before .before .before .before .before .before in
     let o = n .before .before .before .before in
     let a = o .before .before .before .before .before .args in
-    rw (bound-none (a .card .now) (a .t) (o .open-pages .last .1 .1 .0) (o .open-pages .ensures .1) (a .bound) (n .next-common .result) (next n) (c .before .before .before .before .before .if1 .taken)) (c .before .before .put .ensures)
+    rw (bound-none (a .card .now) (a .t) (o .open-pages .last .1 .1 .0) (o .open-pages .ensures .1) (a .bound)
+    (n .next-common .result) (next n) (c .before .before .before .before .before .if1 .taken))
+    (c .before .before .put .ensures)
 
 rank-in-requires : tie.Need-rank-in-requires
 rank-in-requires c κs =
     let n = c .before .before .before in
-    let o = n .before .before .before .before in
-    (o .open-pages .ensures .1 .lists .each 0 (omega arith) .room, omega arith, next n .eight, on-page n (c .before .if1 .left) .on-element)
+    let o = n .before .before .before .before in (
+      o .open-pages .ensures .1 .lists .each 0 (omega arith) .room,
+      omega arith,
+      next n .eight,
+      on-page n
+          (c .before .if1 .left) .on-element,
+    )
 
 sub-t26 : tie.Need-sub-t26
 sub-t26 c =
     let n = c .before .before .before .before .before in
     let o = n .before .before .before .before in
     let a = o .before .before .before .before .before .args in
-    bound-marked (a .card .now) (a .t) (o .open-pages .last .1 .1 .0) (o .open-pages .ensures .1) (a .bound) (n .next-common .result) (next n) (c .before .before .before .if1 .left)
+    bound-marked (a .card .now) (a .t) (o .open-pages .last .1 .1 .0) (o .open-pages .ensures .1) (a .bound)
+    (n .next-common .result) (next n) (c .before .before .before .if1 .left)
 
 cast-t27 : tie.Need-cast-t27
-cast-t27 c = omega (arith, c .before .rank-in .ensures, on-page (c .before .before .before .before .before) (c .before .before .before .if1 .left) .small)
+cast-t27 c =
+    omega (
+      arith,
+      c .before .rank-in .ensures,
+      on-page (c .before .before .before .before .before)
+          (c .before .before .before .if1 .left) .small,
+    )
 
 returns-2 : tie.Need-returns-2
 returns-2 c =
     let n = c .before .before .before .before .before .before .before .before .before .before in
     let o = n .before .before .before .before in
     let a = o .before .before .before .before .before .args in
-    rw (bound-some (a .card .now) (a .t) (o .open-pages .last .1 .1 .0) (o .open-pages .ensures .1) (a .bound) (n .next-common .result) (next n) (c .before .before .before .before .before .before .before .before .if1 .left), ← (c .before .before .before .before .before .before .rank-in .ensures)) (c .before .before .put2 .ensures)
+    rw (
+      bound-some (a .card .now) (a .t) (o .open-pages .last .1 .1 .0) (o .open-pages .ensures .1) (a .bound)
+          (n .next-common .result) (next n)
+          (c .before .before .before .before .before .before .before .before .if1 .left),
+      ← (c .before .before .before .before .before .before .rank-in .ensures),
+    ) (c .before .before .put2 .ensures)
 
 pub by-bound-spec : {M : Type 1} → statement M
 by-bound-spec =

@@ -12,7 +12,8 @@ use Rattle.kinds.proofs.put.Tie as tie
 
 abbrev Inv-loop : tie.InvT-loop
 Inv-loop answer room₀ size i₀ room i =
-    (size ≡ length answer) × (i ≤ size) × (size ≤ length room₀) × (length room ≡ length room₀) × (room ≡ laid (take i answer) room₀)
+    (size ≡ length answer) × (i ≤ size) × (size ≤ length room₀) × (length room ≡ length room₀)
+    × (room ≡ laid (take i answer) room₀)
 
 abbrev μ-loop : tie.MeasureT-loop
 μ-loop answer room₀ size i₀ room i = size - i
@@ -51,7 +52,8 @@ loop-again c =
       omega arith,
       at .inv .2,
       length-set (at .room) (at .i) v ∙ at .inv .3,
-      ap (λ (t : List ℕ). set t (at .i) v) (at .inv .4) ∙ laid-more (a .answer .now) (a .room .now) (at .i) (omega arith) (omega arith),
+      ap (λ (t : List ℕ). set t (at .i) v) (at .inv .4)
+          ∙ laid-more (a .answer .now) (a .room .now) (at .i) (omega arith) (omega arith),
     )
 
 same-length : tie.Need-same-length Inv-loop μ-loop
@@ -63,7 +65,8 @@ returns-2 c =
     let a = c .before .before .before in
     let i : at .i ≡ length (a .args .answer .now) = omega arith in
     let t : take (at .i) (a .args .answer .now) ≡ a .args .answer .now = rw i (take-length (a .args .answer .now)) in
-    wrote-whole (a .args .answer .now) (a .args .room .now) (length (a .args .answer .now)) (at .room) (a .pre) refl (at .inv .2) (at .inv .4 ∙ ap (λ (l : List ℕ). laid l (a .args .room .now)) t)
+    wrote-whole (a .args .answer .now) (a .args .room .now) (length (a .args .answer .now)) (at .room) (a .pre) refl
+    (at .inv .2) (at .inv .4 ∙ ap (λ (l : List ℕ). laid l (a .args .room .now)) t)
 
 pub put-spec : {M : Type 1} → statement M
 put-spec =

@@ -12,7 +12,8 @@ abbrev μ-loop : tie.MeasureT-loop
 μ-loop x i₀ i = 65 - i
 
 loop-less : tie.Need-loop-less Inv-loop μ-loop
-loop-less c = omega (arith, next-after 64 (c .before .before .before .before .args .x) (c .before .before .before .loop .i))
+loop-less c =
+    omega (arith, next-after 64 (c .before .before .before .before .args .x) (c .before .before .before .loop .i))
 
 pub walk-ones-spec : {M : Type 1} → statement M
 walk-ones-spec =

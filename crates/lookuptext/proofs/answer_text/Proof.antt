@@ -25,7 +25,9 @@ returns c =
     let a = j .before .before .before .args in
     let s = a .card .now in
     let qs = a .questions .now in
-    let e = printed-large s qs (⊎-elim (λ t. inl (t .taken)) (λ t. inr (ltb-true fileLimit (length qs) (t .1 .taken))) (j .if1 .came)) in
+    let e =
+    printed-large s qs (⊎-elim (λ t. inl (t .taken)) (λ t. inr (ltb-true fileLimit (length qs) (t .1 .taken)))
+    (j .if1 .came)) in
     printed-laid s qs (a .text .now) e (omega (arith, refused-most Room)) (c .put-refused .ensures)
 
 put-refused-requires-2 : tie.Need-put-refused-requires-2
@@ -40,7 +42,8 @@ returns-2 c =
     let s = a .card .now in
     let qs = a .questions .now in
     let e = printed-rest s qs (f .before .if1 .left) (ltb-false fileLimit (length qs) (f .if2 .left)) (omega arith) in
-    printed-laid s qs (a .text .now) (e ∙ ap refusedLine (sym (r .ensures))) (omega (arith, refused-most (r .result))) (c .put-refused2 .ensures)
+    printed-laid s qs (a .text .now) (e ∙ ap refusedLine (sym (r .ensures))) (omega (arith, refused-most (r .result)))
+    (c .put-refused2 .ensures)
 
 returns-3 : tie.Need-returns-3
 returns-3 c =
@@ -48,9 +51,12 @@ returns-3 c =
     let a = f .before .before .before .before .args in
     let s = a .card .now in
     let qs = a .questions .now in
-    let e = printed-whole s qs (f .before .if1 .left) (ltb-false fileLimit (length qs) (f .if2 .left)) (c .before .before .if3 .left) in
+    let e =
+    printed-whole s qs (f .before .if1 .left) (ltb-false fileLimit (length qs) (f .if2 .left))
+    (c .before .before .if3 .left) in
     let p = reply s (wordsOf qs) answerRoom in
-    printed-laid s qs (a .text .now) e (omega (arith, reply-most p (reply-fits s (wordsOf qs) answerRoom))) (c .put-reply .ensures)
+    printed-laid s qs (a .text .now) e (omega (arith, reply-most p (reply-fits s (wordsOf qs) answerRoom)))
+    (c .put-reply .ensures)
 
 pub answer-text-spec : {M : Type 1} → statement M
 answer-text-spec =

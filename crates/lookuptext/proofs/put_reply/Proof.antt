@@ -25,7 +25,18 @@ abbrev zeros : List ℕ
 zeros = replicate answerRoom 0
 
 abbrev After : Type 0
-After = lts.After-ask (read-numbers-reads.Asked, read-numbers-reads.Learnt, ask-reads.Asked, ask-reads.Learnt, put-lines-reads.Asked, put-lines-reads.Learnt, put-refused-reads.Asked, put-refused-reads.Learnt) reads.Pre reads.Post
+After =
+    lts.After-ask (
+      read-numbers-reads.Asked,
+      read-numbers-reads.Learnt,
+      ask-reads.Asked,
+      ask-reads.Learnt,
+      put-lines-reads.Asked,
+      put-lines-reads.Learnt,
+      put-refused-reads.Asked,
+      put-refused-reads.Learnt,
+    ) reads.Pre
+    reads.Post
 
 -- the reply that is asked for
 abbrev reply-of : After → Replied
@@ -67,14 +78,22 @@ put-refused-requires c κs =
     let s = k .before .before .before .before .before .before .before .before .before in
     let o = k .ask .result in
     let room = k .ask .last .1 .1 .0 in
-    omega (arith, s .pre .1, told-lines (reply-of k) o room (told-of k), refused-most (o .refusal), l .put-lines .ensures .next, put-length (l .put-lines .ensures))
+    omega (
+      arith,
+      s .pre .1,
+      told-lines (reply-of k) o room (told-of k),
+      refused-most (o .refusal),
+      l .put-lines .ensures .next,
+      put-length (l .put-lines .ensures),
+    )
 
 returns : tie.Need-returns
 returns c =
     let r = c .before .before in
     let l = r .before .before .before .before in
     let k = l .before .before .before .before .before in
-    put-told (reply-of k) (k .ask .result) (k .ask .last .1 .1 .0) (told-of k) (l .put-lines .ensures) (r .put-refused .ensures)
+    put-told (reply-of k) (k .ask .result) (k .ask .last .1 .1 .0) (told-of k) (l .put-lines .ensures)
+    (r .put-refused .ensures)
 
 pub put-reply-spec : {M : Type 1} → statement M
 put-reply-spec =

@@ -11,14 +11,16 @@ returns : tie.Need-returns
 returns c =
     let p = c .before .passed in
     let k = c .before .before in
-    told-stop (p .result) (k .check-index .result) (indexRefusal (k .before .before .args .card .now)) (p .ensures) (k .check-index .ensures) Question (c .if1 .taken)
+    told-stop (p .result) (k .check-index .result) (indexRefusal (k .before .before .args .card .now)) (p .ensures)
+    (k .check-index .ensures) Question (c .if1 .taken)
 
 returns-2 : tie.Need-returns-2
 returns-2 c =
     let p = c .before .passed in
     let k = c .before .before in
     let q = indexRefusal (k .before .before .args .card .now) in
-    sym (andThen-next q Question (told-passed (p .result) (k .check-index .result) q (p .ensures) (k .check-index .ensures) (c .if1 .left)))
+    sym (andThen-next q Question
+    (told-passed (p .result) (k .check-index .result) q (p .ensures) (k .check-index .ensures) (c .if1 .left)))
 
 pub refuse-rest-spec : {M : Type 1} → statement M
 refuse-rest-spec = tie.close (tie.spec (λ c κs. search needs) (λ c κs. search needs) returns returns-2)

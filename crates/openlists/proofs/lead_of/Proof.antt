@@ -27,8 +27,13 @@ length-of-requires c κs =
 loop-holds : tie.Need-loop-holds Inv-loop μ-loop
 unfolding placedIn
 loop-holds c =
-    let s = c .before .before .before in
-    (s .pre .some, s .pre .some, s .pre .few, rw (c .length-of .ensures) (lead-start (placePages (now (s .args .card)) (now (s .args .places))) (s .args .k) (s .pre .some)))
+    let s = c .before .before .before in (
+      s .pre .some,
+      s .pre .some,
+      s .pre .few,
+      rw (c .length-of .ensures)
+          (lead-start (placePages (now (s .args .card)) (now (s .args .places))) (s .args .k) (s .pre .some)),
+    )
 
 length-of-requires-2 : tie.Need-length-of-requires-2 Inv-loop μ-loop
 length-of-requires-2 c κs =
@@ -45,17 +50,27 @@ loop-again c =
     elim (c .if1 .came) [
       | inl e ↦
           let g : length (f (l .i)) < l .least = omega (arith, n .ensures, e .0 .taken) in
-          rw (e .1, e .2, n .ensures) (h, omega arith, l .inv .2, sym (lead-less f (s .args .k) (l .lead) (l .least) (l .i) h g) ∙ l .inv .3)
+          rw (e .1, e .2, n .ensures)
+          (h, omega arith, l .inv .2, sym (lead-less f (s .args .k) (l .lead) (l .least) (l .i) h g) ∙ l .inv .3)
       | inr e ↦
           let g : l .least ≤ length (f (l .i)) = omega (arith, n .ensures, e .0 .left) in
-          rw (e .1, e .2) (l .inv .0, omega arith, l .inv .2, sym (lead-more f (s .args .k) (l .lead) (l .least) (l .i) h g) ∙ l .inv .3)
+          rw (e .1, e .2) (
+            l .inv .0,
+            omega arith,
+            l .inv .2,
+            sym
+                (lead-more f (s .args .k) (l .lead) (l .least) (l .i) h g) ∙ l .inv .3,
+          )
     ]
 
 returns : tie.Need-returns Inv-loop μ-loop
 returns c =
     let l = c .before .loop in
-    let s = c .before .before .before .before .before in
-    (sym (lead-end (placePages (now (s .args .card)) (now (s .args .places))) (s .args .k) (l .lead) (l .least) (l .i) (c .loop-test .left)) ∙ l .inv .3, l .inv .0)
+    let s = c .before .before .before .before .before in (
+      sym (lead-end (placePages (now (s .args .card)) (now (s .args .places))) (s .args .k) (l .lead) (l .least) (l .i)
+          (c .loop-test .left)) ∙ l .inv .3,
+      l .inv .0,
+    )
 
 pub lead-of-spec : {M : Type 1} → statement M
 lead-of-spec =

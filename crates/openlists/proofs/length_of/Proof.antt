@@ -12,7 +12,9 @@ use Rattle.openlists.proofs.length_of.Tie as tie
 read-u32-requires : tie.Need-read-u32-requires
 read-u32-requires c κs =
     let start = c .before .before .before in
-    rw (c .part-of .ensures) (accepted-framed (placePart (now (start .args .card)) (now (start .args .places)) (start .args .i)) (start .pre .1 .accepted) .0 .header)
+    rw (c .part-of .ensures)
+    (accepted-framed (placePart (now (start .args .card)) (now (start .args .places)) (start .args .i))
+    (start .pre .1 .accepted) .0 .header)
 
 returns : tie.Need-returns
 unfolding placePages listN

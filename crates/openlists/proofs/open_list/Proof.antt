@@ -13,12 +13,17 @@ use Rattle.readlist.proofs.shape_at.Reads as shape-at-reads
 
 -- where the shape is known
 abbrev Shaped : Type 0
-Shaped = lts.After-shape-at (part-of-reads.Asked, part-of-reads.Learnt, shape-at-reads.Asked, shape-at-reads.Learnt) reads.Pre reads.Post
+Shaped =
+    lts.After-shape-at (part-of-reads.Asked, part-of-reads.Learnt, shape-at-reads.Asked, shape-at-reads.Learnt)
+    reads.Pre reads.Post
 
 fits : (c : Shaped) → Narrow (c .shape-at .result)
 fits c =
     let start = c .before .before .before .before in
-    open-narrow (now (c .before .part-of .result)) (c .shape-at .result) (record { accepted = rw (c .before .part-of .ensures) (start .pre .1 .accepted); shape = c .shape-at .ensures })
+    open-narrow (now (c .before .part-of .result)) (c .shape-at .result) (record {
+      accepted = rw (c .before .part-of .ensures) (start .pre .1 .accepted);
+      shape = c .shape-at .ensures;
+    })
 
 shape-at-requires : tie.Need-shape-at-requires
 shape-at-requires c κs = rw (c .part-of .ensures) (c .before .before .before .pre .1 .accepted)

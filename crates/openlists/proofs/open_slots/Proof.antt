@@ -30,16 +30,24 @@ open-list-requires c κs =
 
 put-list-requires : tie.Need-put-list-requires Inv-loop μ-loop
 put-list-requires c κs =
-    let l = c .before .before .before .before in
-    (l .loop .inv .1 .room, omega (arith, l .before .before .before .before .pre .0 .few), ap length (c .before .open-list .ensures))
+    let l = c .before .before .before .before in (
+      l .loop .inv .1 .room,
+      omega (arith, l .before .before .before .before .pre .0 .few),
+      ap length
+          (c .before .open-list .ensures),
+    )
 
 loop-again : tie.Need-loop-again Inv-loop μ-loop
 loop-again c =
     let l = c .before .before .before .before .before .before .before in
     let numbers = c .before .before .before .before .open-list .ensures in
     let source = c .before .before .before .before .before .source-of .ensures in
-    let filled = rw (numbers, source) at (c .before .before .put-list .ensures) in
-    (omega arith, rw filled (slots-more _ _ _ (l .loop .shapes) (l .loop .t) (omega (arith, l .before .before .before .before .pre .0 .few)) (l .loop .inv .1)))
+    let filled = rw (numbers, source) at (c .before .before .put-list .ensures) in (
+      omega arith,
+      rw filled
+          (slots-more _ _ _ (l .loop .shapes) (l .loop .t)
+          (omega (arith, l .before .before .before .before .pre .0 .few)) (l .loop .inv .1)),
+    )
 
 same-length : tie.Need-same-length Inv-loop μ-loop
 same-length c = omega (arith, c .before .loop .inv .1 .room, c .before .before .before .before .before .pre .2)

@@ -23,8 +23,14 @@ abbrev μ-loop : tie.MeasureT-loop
 
 loop-holds : tie.Need-loop-holds Inv-loop μ-loop
 loop-holds c =
-    let b = c .before .before .before in
-    (omega arith, words-parts (indexT (b .args .card .now)) (b .args .terms .now) (b .pre .1) .1, record { room = b .pre .3; slot = λ i h. absurd (omega arith) })
+    let b = c .before .before .before in (
+      omega arith,
+      words-parts (indexT (b .args .card .now)) (b .args .terms .now) (b .pre .1) .1,
+      record {
+        room = b .pre .3;
+        slot = λ i h. absurd (omega arith);
+      },
+    )
 
 mul-list-in : tie.Need-mul-list-in Inv-loop μ-loop
 mul-list-in c = omega arith
@@ -37,11 +43,17 @@ cast-list-in c = omega (arith, c .shared-slice-known3 .given (c .before .before 
 
 list-in-requires : tie.Need-list-in-requires Inv-loop μ-loop
 list-in-requires c κs =
-    let b = c .before .before .before .before .before .before in
-    (b .pre .0, word-below (indexT (b .args .card .now)) (b .args .terms .now) (b .pre .1) (c .before .before .loop .i) (c .before .loop-test .taken), b .pre .2)
+    let b = c .before .before .before .before .before .before in (
+      b .pre .0,
+      word-below (indexT (b .args .card .now)) (b .args .terms .now) (b .pre .1)
+          (c .before .before .loop .i) (c .before .loop-test .taken),
+      b .pre .2,
+    )
 
 -- the place of a word's list lies in the card, whose bytes are fewer than 2 ^ 32
-within : (c : tie.After-list-in Inv-loop μ-loop) → Within (c .before .before .before .before .before .before .before .args .card .now) (c .list-in .result .from) (c .list-in .result .to)
+within : (c : tie.After-list-in Inv-loop μ-loop)
+    → Within (c .before .before .before .before .before .before .before .args .card .now) (c .list-in .result .from)
+    (c .list-in .result .to)
 within c =
     let b = c .before .before .before .before .before .before in record {
       starts = c .list-in .ensures .starts;
@@ -50,11 +62,16 @@ within c =
     }
 
 -- and the list is accepted
-accepted : (c : tie.After-list-in Inv-loop μ-loop) → listRefusal (listOf (c .before .before .before .before .before .before .before .args .card .now) (getD (c .before .before .before .before .before .before .before .args .terms .now) (c .before .before .before .loop .i) 0) (c .before .before .before .before .before .before .before .args .k)) ≡ Accepted
+accepted : (c : tie.After-list-in Inv-loop μ-loop)
+    → listRefusal (listOf (c .before .before .before .before .before .before .before .args .card .now)
+    (getD (c .before .before .before .before .before .before .before .args .terms .now)
+    (c .before .before .before .loop .i) 0) (c .before .before .before .before .before .before .before .args .k))
+    ≡ Accepted
 accepted c =
     let b = c .before .before .before .before .before .before .before in
     list-accepted (b .args .card .now) _ (b .args .k) (b .pre .0)
-    (word-below (indexT (b .args .card .now)) (b .args .terms .now) (b .pre .1) (c .before .before .before .loop .i) (c .before .before .loop-test .taken)) (b .pre .2)
+    (word-below (indexT (b .args .card .now)) (b .args .terms .now) (b .pre .1) (c .before .before .before .loop .i)
+    (c .before .before .loop-test .taken)) (b .pre .2)
 
 numbers-at-requires : tie.Need-numbers-at-requires Inv-loop μ-loop
 numbers-at-requires c κs = (within c, rw (c .list-in .ensures .bytes) (accepted c))
@@ -76,10 +93,13 @@ loop-again c =
     let at = l .before .before .before .loop in
     let a = l .before .before .before .before .before .before .before .args in
     let b : List ℕ = listOf (a .card .now) (getD (a .terms .now) (at .i) 0) (a .k) in
-    let filled = rw (c .before .before .before .before .numbers-at .ensures, l .list-in .ensures .bytes) at (c .before .before .put-list .ensures) in (
+    let filled =
+    rw (c .before .before .before .before .numbers-at .ensures, l .list-in .ensures .bytes) at
+    (c .before .before .put-list .ensures) in (
       omega arith,
       at .inv .1,
-      rw filled (filled-more (a .card .now) (l .list-in .result .from) (l .list-in .result .to) b (within l) (l .list-in .ensures .bytes) (accepted l)
+      rw filled (filled-more (a .card .now) (l .list-in .result .from) (l .list-in .result .to) b (within l)
+          (l .list-in .ensures .bytes) (accepted l)
           (a .terms .now) (a .k) (at .i) (at .shapes) (omega arith) refl (at .inv .2)),
     )
 

@@ -5,7 +5,8 @@ use native.Mathlib.Omega.{arith}
 use borrow.Author.Tests.{not-true, not-false}
 use Rattle.span.specs.declared.Walk.{Walk}
 use Rattle.phrase.specs.Words.{walkIn, endIn}
-use Rattle.phrase.proofs.CountLaws.{Counting, Trying, counting-begins, counting-ready, counting-ends, counting-tries, counting-goes, counting-last, stood-one}
+use Rattle.phrase.proofs.CountLaws.{Counting, Trying, counting-begins, counting-ready, counting-ends}
+use Rattle.phrase.proofs.CountLaws.{counting-tries, counting-goes, counting-last, stood-one}
 use Rattle.phrase.proofs.count_starts.Statement.{statement}
 use Rattle.phrase.proofs.count_starts.Tie as tie
 
@@ -19,26 +20,33 @@ loop-holds : tie.Need-loop-holds Inv-loop μ-loop
 loop-holds c =
     let start = c .before .before .before .before in
     let a = start .args in
-    counting-begins (a .card .now) (a .shapes .now) (a .spans .now) (a .k) (start .pre .0) (a .walks .now) (start .pre .1)
+    counting-begins (a .card .now) (a .shapes .now) (a .spans .now) (a .k) (start .pre .0) (a .walks .now)
+    (start .pre .1)
 
 pass-on-requires : tie.Need-pass-on-requires Inv-loop μ-loop
 pass-on-requires c κs =
     let start = c .before .before .before .before .before .before .before in
     let a = start .args in
     let w = start .pre .0 in
-    let at = c .before .before .loop in
-    (w .lists 0 (w .some), w .room, counting-ready (a .card .now) (a .shapes .now) (a .spans .now) (a .k) w (at .walks) (at .count) (at .inv))
+    let at = c .before .before .loop in (
+      w .lists 0 (w .some),
+      w .room,
+      counting-ready (a .card .now) (a .shapes .now) (a .spans .now) (a .k) w
+          (at .walks) (at .count) (at .inv),
+    )
 
 same-length : tie.Need-same-length Inv-loop μ-loop
 same-length c =
-    c .before .before .before .pass-on .ensures .ready .room ∙ sym (c .before .before .before .before .before .before .before .before .before .before .before .pre .1 .room)
+    c .before .before .before .pass-on .ensures .ready .room
+    ∙ sym (c .before .before .before .before .before .before .before .before .before .before .before .pre .1 .room)
 
 returns : tie.Need-returns Inv-loop μ-loop
 returns c =
     let start = c .before .before .before .before .before .before .before .before .before .before .before in
     let a = start .args in
     let at = c .before .before .before .before .before .before .loop in
-    counting-ends (a .card .now) (a .shapes .now) (a .spans .now) (a .k) (start .pre .0) (at .walks) (at .count) (at .inv) _ _ (c .before .before .before .pass-on .ensures) (not-true _ (c .if1 .taken))
+    counting-ends (a .card .now) (a .shapes .now) (a .spans .now) (a .k) (start .pre .0) (at .walks) (at .count)
+    (at .inv) _ _ (c .before .before .before .pass-on .ensures) (not-true _ (c .if1 .taken))
 
 -- the position to try
 trying : (c : tie.Else1 Inv-loop μ-loop)
@@ -46,24 +54,35 @@ trying : (c : tie.Else1 Inv-loop μ-loop)
     (c .before .before .before .before .before .before .before .before .before .before .before .args .shapes .now)
     (c .before .before .before .before .before .before .before .before .before .before .before .args .spans .now)
     (c .before .before .before .before .before .before .before .before .before .before .before .args .k)
-    (c .before .before .before .before .before .before .loop .walks) (c .before .before .before .pass-on .last .1 .1 .1 .1 .1 .0)
+    (c .before .before .before .before .before .before .loop .walks)
+    (c .before .before .before .pass-on .last .1 .1 .1 .1 .1 .0)
 trying c =
     let start = c .before .before .before .before .before .before .before .before .before .before .before in
     let a = start .args in
     let at = c .before .before .before .before .before .before .loop in
-    counting-tries (a .card .now) (a .shapes .now) (a .spans .now) (a .k) (start .pre .0) (at .walks) (at .count) (at .inv) _ _ (c .before .before .before .pass-on .ensures) (not-false _ (c .if1 .left))
+    counting-tries (a .card .now) (a .shapes .now) (a .spans .now) (a .k) (start .pre .0) (at .walks) (at .count)
+    (at .inv) _ _ (c .before .before .before .pass-on .ensures) (not-false _ (c .if1 .left))
 
 stand-requires : tie.Need-stand-requires Inv-loop μ-loop
 stand-requires c κs =
     let y = trying (c .before .before .before) in
-    let p = c .before .before .before .before .before .before .before .before .before .before .before .before .before .before .pre in
+    let p =
+    c .before .before .before .before .before .before .before .before .before .before .before .before .before .before .pre in
     (p .0, y .beside, omega (arith, y .small))
 
 add-count : tie.Need-add-count Inv-loop μ-loop
 add-count c =
     let y = trying (c .before .before .before .before .before .before .before) in
-    let at = c .before .before .before .before .before .before .before .before .before .before .before .before .before .loop in
-    omega (arith, y .few, y .next-is, at .inv .few, stood-one _ _ _ _ _ _ _ _ (c .before .before .before .stand .ensures))
+    let at =
+    c .before .before .before .before .before .before .before .before .before .before .before .before .before .loop in
+    omega (
+      arith,
+      y .few,
+      y .next-is,
+      at .inv .few,
+      stood-one _ _ _ _ _ _ _ _
+          (c .before .before .before .stand .ensures),
+    )
 
 same-length-2 : tie.Need-same-length-2 Inv-loop μ-loop
 same-length-2 c =
@@ -76,7 +95,8 @@ returns-2 c =
     let at = tried .before .before .before .before .before .before .loop in
     let start = tried .before .before .before .before .before .before .before .before .before .before .before in
     let a = start .args in
-    counting-last (a .card .now) (a .shapes .now) (a .spans .now) (a .k) (start .pre .0) (at .walks) (at .count) (at .inv) _ (trying tried) _ _ (c .before .before .before .before .stand .ensures) (c .if2 .taken)
+    counting-last (a .card .now) (a .shapes .now) (a .spans .now) (a .k) (start .pre .0) (at .walks) (at .count)
+    (at .inv) _ (trying tried) _ _ (c .before .before .before .before .stand .ensures) (c .if2 .taken)
 
 loop-less : tie.Need-loop-less Inv-loop μ-loop
 loop-less c =
@@ -90,7 +110,8 @@ loop-again c =
     let at = tried .before .before .before .before .before .before .loop in
     let start = tried .before .before .before .before .before .before .before .before .before .before .before in
     let a = start .args in
-    counting-goes (a .card .now) (a .shapes .now) (a .spans .now) (a .k) (start .pre .0) (at .walks) (at .count) (at .inv) _ (trying tried) _ _ (c .before .before .before .before .stand .ensures)
+    counting-goes (a .card .now) (a .shapes .now) (a .spans .now) (a .k) (start .pre .0) (at .walks) (at .count)
+    (at .inv) _ (trying tried) _ _ (c .before .before .before .before .stand .ensures)
 
 pub count-starts-spec : {M : Type 1} → statement M
 count-starts-spec =

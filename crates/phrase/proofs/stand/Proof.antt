@@ -26,10 +26,14 @@ loop-holds c =
 
 -- the word is one of eight, and where it has to stand a small number
 small : (c : tie.In-loop Inv-loop μ-loop)
-    → (c .before .loop .i < 8) × (baseIn (c .before .before .before .before .before .before .args .spans .now) (c .before .loop .i) < 2 ^ 32)
+    → (c .before .loop .i < 8)
+    × (baseIn (c .before .before .before .before .before .before .args .spans .now) (c .before .loop .i) < 2 ^ 32)
 small c =
-    let start = c .before .before .before .before .before .before in
-    (omega (arith, start .pre .0 .few, c .loop-test .taken), start .pre .0 .bases (c .before .loop .i) (c .loop-test .taken))
+    let start = c .before .before .before .before .before .before in (
+      omega (arith, start .pre .0 .few, c .loop-test .taken),
+      start .pre .0 .bases (c .before .loop .i)
+          (c .loop-test .taken),
+    )
 
 pass-on-requires : tie.Need-pass-on-requires Inv-loop μ-loop
 pass-on-requires c κs =
@@ -40,7 +44,8 @@ pass-on-requires c κs =
 
 same-length : tie.Need-same-length Inv-loop μ-loop
 same-length c =
-    c .before .before .before .pass-on .ensures .ready .room ∙ sym (c .before .before .before .before .before .before .before .before .before .before .before .before .pre .1 .room)
+    c .before .before .before .pass-on .ensures .ready .room
+    ∙ sym (c .before .before .before .before .before .before .before .before .before .before .before .before .pre .1 .room)
 
 returns : tie.Need-returns Inv-loop μ-loop
 returns c =
@@ -50,20 +55,36 @@ returns c =
     let start = c .before .before .before .before .before .before .before .before .before .before .before .before in
     let a = start .args in
     let l = ltb-false _ _ (sym (pass .ensures .found) ∙ not-true _ (c .if1 .taken)) in
-    let none = word-none (a .card .now) (a .shapes .now) (a .spans .now) (a .k) (start .pre .0) (a .a) (at .i) h _ _ _ (pass .ensures) l in
+    let none =
+    word-none (a .card .now) (a .shapes .now) (a .spans .now) (a .k) (start .pre .0) (a .a) (at .i) h _ _ _
+    (pass .ensures) l in
     record {
-      counted = rw (all-fail (a .card .now) (a .shapes .now) (a .spans .now) (a .k) (a .a) (at .i) (at .inv .0) h (none (a .a) (omega arith)));
-      last = λ e d g. all-fail (a .card .now) (a .shapes .now) (a .spans .now) (a .k) d (at .i) (at .inv .0) h (none d g);
-      beside = beside-kept (a .card .now) (a .shapes .now) (a .spans .now) (a .k) (start .pre .0) (a .a) (at .i) h _ _ _ (pass .ensures) (at .inv .0) (at .inv .2);
+      counted =
+          rw (all-fail (a .card .now) (a .shapes .now) (a .spans .now) (a .k) (a .a) (at .i) (at .inv .0) h
+          (none (a .a) (omega arith)));
+      last =
+          λ e d g. all-fail (a .card .now) (a .shapes .now) (a .spans .now) (a .k) d (at .i) (at .inv .0) h (none d g);
+      beside =
+          beside-kept (a .card .now) (a .shapes .now) (a .spans .now) (a .k) (start .pre .0) (a .a) (at .i) h _ _ _
+          (pass .ensures) (at .inv .0) (at .inv .2);
       first = pass .ensures .others 0 (λ e. omega (arith, at .inv .0)) ∙ at .inv .3;
     }
 
 slice-read-if2 : tie.Need-slice-read-if2 Inv-loop μ-loop
-slice-read-if2 c = omega (arith, small (c .before .before .before .before .before .before .before), c .before .before .before .before .pass-on .ensures .ready .room)
+slice-read-if2 c =
+    omega (
+      arith,
+      small (c .before .before .before .before .before .before .before),
+      c .before .before .before .before .pass-on .ensures .ready .room,
+    )
 
 add-if2-2 : tie.Need-add-if2-2 Inv-loop μ-loop
 add-if2-2 c =
-    omega (arith, small (c .before .before .before .before .before .before .before), c .before .before .before .before .before .before .before .before .before .before .before .before .before .pre .2)
+    omega (
+      arith,
+      small (c .before .before .before .before .before .before .before),
+      c .before .before .before .before .before .before .before .before .before .before .before .before .before .pre .2,
+    )
 
 same-length-2 : tie.Need-same-length-2 Inv-loop μ-loop
 same-length-2 c =
@@ -75,14 +96,20 @@ returns-2 c =
     let pass = c .before .before .before .before .before .pass-on in
     let at = c .before .before .before .before .before .before .before .before .before .loop in
     let h = c .before .before .before .before .before .before .before .before .loop-test .taken in
-    let start = c .before .before .before .before .before .before .before .before .before .before .before .before .before .before in
+    let start =
+    c .before .before .before .before .before .before .before .before .before .before .before .before .before .before in
     let a = start .args in
     let l = ltb-true _ _ (sym (pass .ensures .found) ∙ not-false _ (c .before .before .if1 .left)) in
-    let lacks = word-lacks (a .card .now) (a .shapes .now) (a .spans .now) (a .k) (start .pre .0) (a .a) (at .i) h _ _ _ (pass .ensures) l (c .if2 .taken) in
+    let lacks =
+    word-lacks (a .card .now) (a .shapes .now) (a .spans .now) (a .k) (start .pre .0) (a .a) (at .i) h _ _ _
+    (pass .ensures) l (c .if2 .taken) in
     record {
-      counted = rw (all-fail (a .card .now) (a .shapes .now) (a .spans .now) (a .k) (a .a) (at .i) (at .inv .0) h lacks);
+      counted =
+          rw (all-fail (a .card .now) (a .shapes .now) (a .spans .now) (a .k) (a .a) (at .i) (at .inv .0) h lacks);
       last = λ e. absurd (omega (arith, ap {B = ℕ} (λ (b : Bool). cond b 1 0) e));
-      beside = beside-kept (a .card .now) (a .shapes .now) (a .spans .now) (a .k) (start .pre .0) (a .a) (at .i) h _ _ _ (pass .ensures) (at .inv .0) (at .inv .2);
+      beside =
+          beside-kept (a .card .now) (a .shapes .now) (a .spans .now) (a .k) (start .pre .0) (a .a) (at .i) h _ _ _
+          (pass .ensures) (at .inv .0) (at .inv .2);
       first = pass .ensures .others 0 (λ e. omega (arith, at .inv .0)) ∙ at .inv .3;
     }
 
@@ -91,13 +118,17 @@ loop-again c =
     let pass = c .before .before .before .before .before .pass-on in
     let at = c .before .before .before .before .before .before .before .before .before .loop in
     let h = c .before .before .before .before .before .before .before .before .loop-test .taken in
-    let start = c .before .before .before .before .before .before .before .before .before .before .before .before .before .before in
+    let start =
+    c .before .before .before .before .before .before .before .before .before .before .before .before .before .before in
     let a = start .args in
     let l = ltb-true _ _ (sym (pass .ensures .found) ∙ not-false _ (c .before .before .if1 .left)) in
-    let has = word-has (a .card .now) (a .shapes .now) (a .spans .now) (a .k) (start .pre .0) (a .a) (at .i) h _ _ _ (pass .ensures) l (c .if2 .left) in (
+    let has =
+    word-has (a .card .now) (a .shapes .now) (a .spans .now) (a .k) (start .pre .0) (a .a) (at .i) h _ _ _
+    (pass .ensures) l (c .if2 .left) in (
       omega arith,
       omega (arith, h),
-      beside-kept (a .card .now) (a .shapes .now) (a .spans .now) (a .k) (start .pre .0) (a .a) (at .i) h _ _ _ (pass .ensures) (at .inv .0) (at .inv .2),
+      beside-kept (a .card .now) (a .shapes .now) (a .spans .now) (a .k) (start .pre .0) (a .a) (at .i) h _ _ _
+          (pass .ensures) (at .inv .0) (at .inv .2),
       pass .ensures .others 0 (λ e. omega (arith, at .inv .0)) ∙ at .inv .3,
       λ j p g. elim (ℕ-discrete j (at .i)) [ yes e ↦ rw e has | no e ↦ at .inv .4 j p (omega arith) ],
     )
@@ -110,7 +141,9 @@ returns-3 c =
     let at = c .before .loop in
     let a = c .before .before .before .before .before .before .args in
     record {
-      counted = rw (all-stand (a .card .now) (a .shapes .now) (a .spans .now) (a .k) (a .a) (λ i p h. at .inv .4 i p (omega (arith, at .inv .1, c .loop-test .left))));
+      counted =
+          rw (all-stand (a .card .now) (a .shapes .now) (a .spans .now) (a .k) (a .a)
+          (λ i p h. at .inv .4 i p (omega (arith, at .inv .1, c .loop-test .left))));
       last = λ e. absurd (omega (arith, ap {B = ℕ} (λ (b : Bool). cond b 1 0) e));
       beside = at .inv .2;
       first = at .inv .3;

@@ -18,21 +18,33 @@ pass-to-requires c κs =
 
 slice-write-spans : tie.Need-slice-write-spans
 slice-write-spans c =
-    let p = c .before .before .before .before .before .before .before .before .before .before .before .before .before .pre in
+    let p =
+    c .before .before .before .before .before .before .before .before .before .before .before .before .before .pre in
     omega (arith, p .3, p .0 .block .few)
 
 slice-write-spans-2 : tie.Need-slice-write-spans-2
 slice-write-spans-2 c =
-    let p = c .before .before .before .before .before .before .before .before .before .before .before .before .before .pre in
+    let p =
+    c .before .before .before .before .before .before .before .before .before .before .before .before .before .pre in
     rw length-set (omega (arith, p .3, p .0 .block .few))
 
 returns : tie.Need-returns
 returns c =
-    let start = c .before .before .before .before .before .before .before .before .before .before .before .before .before in
+    let start =
+    c .before .before .before .before .before .before .before .before .before .before .before .before .before in
     let a = start .args in
-    let w = rw (c .before .before .before .before .before .before .part-at .ensures, c .before .before .before .before .before .shape-in .ensures) at (c .before .before .before .before .pass-to .ensures) in
-    let e = w .on .past-is ∙ ap (past (elementsAt (a .card .now) (a .shapes .now) (a .i))) (w .at) in
-    (rw e, rw (c .before .before .put-walk .ensures) (walked (a .card .now) (a .shapes .now) (a .walks .now) (a .i) (a .x .from) (c .before .before .before .before .pass-to .result) (start .pre .0 .block) (start .pre .0 .room) w))
+    let w =
+    rw (
+      c .before .before .before .before .before .before .part-at .ensures,
+      c .before .before .before .before .before .shape-in .ensures,
+    ) at
+    (c .before .before .before .before .pass-to .ensures) in
+    let e = w .on .past-is ∙ ap (past (elementsAt (a .card .now) (a .shapes .now) (a .i))) (w .at) in (
+      rw e,
+      rw (c .before .before .put-walk .ensures)
+          (walked (a .card .now) (a .shapes .now) (a .walks .now) (a .i) (a .x .from)
+          (c .before .before .before .before .pass-to .result) (start .pre .0 .block) (start .pre .0 .room) w),
+    )
 
 pub turn-to-spec : {M : Type 1} → statement M
 turn-to-spec =

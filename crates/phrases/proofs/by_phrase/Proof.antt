@@ -11,35 +11,58 @@ use Rattle.phrases.proofs.by_phrase.Tie as tie
 
 fits-requires : tie.Need-fits-requires
 fits-requires c κs =
-    let b = c .before .before .before .before .before .before .before .before .before .before .before .before .before .before .before in
+    let b =
+    c .before .before .before .before .before .before .before .before .before .before .before .before .before .before .before in
     let p = c .before .before .before .before .before .before .before .before .before .before .open-pages .ensures in
-    good-asked _ _ (b .pre .0) (b .pre .1) _ _ _ _ (p .0) (p .1) (c .before .before .before .before .before .before .before .open-words .ensures) (c .before .before .before .before .open-words2 .ensures)
+    good-asked _ _ (b .pre .0) (b .pre .1) _ _ _ _ (p .0) (p .1)
+    (c .before .before .before .before .before .before .before .open-words .ensures)
+    (c .before .before .before .before .open-words2 .ensures)
 
 returns : tie.Need-returns
 returns c =
-    let b = c .before .before .before .before .before .before .before .before .before .before .before .before .before .before .before .before .before in
-    answer-none _ _ (b .pre .0) (b .pre .1) (b .args .room .now) (sym (c .before .fits2 .ensures) ∙ not-true _ (c .if1 .taken))
+    let b =
+    c .before .before .before .before .before .before .before .before .before .before .before .before .before .before .before .before .before in
+    answer-none _ _ (b .pre .0) (b .pre .1) (b .args .room .now)
+    (sym (c .before .fits2 .ensures) ∙ not-true _ (c .if1 .taken))
 
 list-starts-requires : tie.Need-list-starts-requires
 list-starts-requires c κs =
-    let b = c .before .before .before .before .before .before .before .before .before .before .before .before .before .before .before .before .before .before .before .before .before in
-    let f = ltb-true (length (foundIn (b .args .card .now) (b .args .terms .now))) (length (b .args .room .now)) (sym (c .before .before .before .before .before .fits2 .ensures) ∙ not-false _ (c .before .before .before .before .if1 .left)) in
-    let p = c .before .before .before .before .before .before .before .before .before .before .before .before .before .before .before .before .open-pages .ensures in
-    (good-asked _ _ (b .pre .0) (b .pre .1) _ _ _ _ (p .0) (p .1) (c .before .before .before .before .before .before .before .before .before .before .before .before .before .open-words .ensures) (c .before .before .before .before .before .before .before .before .before .before .open-words2 .ensures), omega (arith, f))
+    let b =
+    c .before .before .before .before .before .before .before .before .before .before .before .before .before .before .before .before .before .before .before .before .before in
+    let f =
+    ltb-true (length (foundIn (b .args .card .now) (b .args .terms .now))) (length (b .args .room .now))
+    (sym (c .before .before .before .before .before .fits2 .ensures)
+    ∙ not-false _ (c .before .before .before .before .if1 .left)) in
+    let p =
+    c .before .before .before .before .before .before .before .before .before .before .before .before .before .before .before .before .open-pages .ensures in (
+      good-asked _ _ (b .pre .0) (b .pre .1) _ _ _ _ (p .0) (p .1)
+          (c .before .before .before .before .before .before .before .before .before .before .before .before .before .open-words .ensures) (c .before .before .before .before .before .before .before .before .before .before .open-words2 .ensures),
+      omega (arith, f),
+    )
 
 slice-write-room : tie.Need-slice-write-room
 slice-write-room c =
-    let b = c .before .before .before .before .before .before .before .before .before .before .before .before .before .before .before .before .before .before .before .before .before .before .before .before in
-    let f = ltb-true (length (foundIn (b .args .card .now) (b .args .terms .now))) (length (b .args .room .now)) (sym (c .before .before .before .before .before .before .before .before .fits2 .ensures) ∙ not-false _ (c .before .before .before .before .before .before .before .if1 .left)) in
+    let b =
+    c .before .before .before .before .before .before .before .before .before .before .before .before .before .before .before .before .before .before .before .before .before .before .before .before in
+    let f =
+    ltb-true (length (foundIn (b .args .card .now) (b .args .terms .now))) (length (b .args .room .now))
+    (sym (c .before .before .before .before .before .before .before .before .fits2 .ensures)
+    ∙ not-false _ (c .before .before .before .before .before .before .before .if1 .left)) in
     let l = c .before .before .list-starts .ensures in
-    rw (l .2 (omega (arith, l .0, f))) (laid-some (foundIn (b .args .card .now) (b .args .terms .now)) (b .args .room .now))
+    rw (l .2 (omega (arith, l .0, f)))
+    (laid-some (foundIn (b .args .card .now) (b .args .terms .now)) (b .args .room .now))
 
 returns-2 : tie.Need-returns-2
 returns-2 c =
-    let b = c .before .before .before .before .before .before .before .before .before .before .before .before .before .before .before .before .before .before .before .before .before .before .before .before in
-    let f = ltb-true (length (foundIn (b .args .card .now) (b .args .terms .now))) (length (b .args .room .now)) (sym (c .before .before .before .before .before .before .before .before .fits2 .ensures) ∙ not-false _ (c .before .before .before .before .before .before .before .if1 .left)) in
+    let b =
+    c .before .before .before .before .before .before .before .before .before .before .before .before .before .before .before .before .before .before .before .before .before .before .before .before in
+    let f =
+    ltb-true (length (foundIn (b .args .card .now) (b .args .terms .now))) (length (b .args .room .now))
+    (sym (c .before .before .before .before .before .before .before .before .fits2 .ensures)
+    ∙ not-false _ (c .before .before .before .before .before .before .before .if1 .left)) in
     let l = c .before .before .list-starts .ensures in
-    answer-whole _ _ (b .pre .0) (b .pre .1) (b .args .room .now) (c .before .before .list-starts .result) _ (l .0) (omega (arith, l .0, f)) (l .2 (omega (arith, l .0, f)))
+    answer-whole _ _ (b .pre .0) (b .pre .1) (b .args .room .now) (c .before .before .list-starts .result) _ (l .0)
+    (omega (arith, l .0, f)) (l .2 (omega (arith, l .0, f)))
 
 pub by-phrase-spec : {M : Type 1} → statement M
 by-phrase-spec =

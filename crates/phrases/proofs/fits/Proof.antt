@@ -23,7 +23,8 @@ returns : tie.Need-returns
 returns c =
     let b = c .before .before .before .before .before .before .before in
     let f = found-few _ _ _ _ _ _ (b .pre) .0 in
-    sym (lt-ltb (length (foundIn (b .args .card .now) (b .args .terms .now))) (b .args .size) (omega (arith, c .if1 .taken, c .before .number .ensures, f)))
+    sym (lt-ltb (length (foundIn (b .args .card .now) (b .args .terms .now))) (b .args .size)
+    (omega (arith, c .if1 .taken, c .before .number .ensures, f)))
 
 returns-2 : tie.Need-returns-2
 returns-2 c = rw (c .before .list-starts .ensures .0)

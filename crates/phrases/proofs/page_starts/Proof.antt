@@ -17,8 +17,15 @@ rank-in-requires c κs =
     rw (c .slot-of .ensures) (l .room, l .few, b .pre .1 .eight, r .on-element)
 
 -- the rank that was read
-ranked : (c : tie.After-rank-in) → c .rank-in .result ≡ rankBy (c .before .before .before .before .before .before .before .before .before .before .args .pages .now) (c .before .before .before .before .before .before .before .before .before .before .args .q) (slotOf (c .before .before .before .before .before .before .before .before .before .before .args .lead) 0)
-ranked c = c .rank-in .ensures ∙ ap (rankBy (c .before .before .before .before .before .before .before .before .before .before .args .pages .now) (c .before .before .before .before .before .before .before .before .before .before .args .q)) (c .before .slot-of .ensures)
+ranked : (c : tie.After-rank-in) → c .rank-in .result
+    ≡ rankBy (c .before .before .before .before .before .before .before .before .before .before .args .pages .now)
+    (c .before .before .before .before .before .before .before .before .before .before .args .q)
+    (slotOf (c .before .before .before .before .before .before .before .before .before .before .args .lead) 0)
+ranked c =
+    c .rank-in .ensures ∙ ap
+    (rankBy (c .before .before .before .before .before .before .before .before .before .before .args .pages .now)
+    (c .before .before .before .before .before .before .before .before .before .before .args .q))
+    (c .before .slot-of .ensures)
 
 ranks-at-requires : tie.Need-ranks-at-requires
 ranks-at-requires c κs =
@@ -29,29 +36,40 @@ ranks-at-requires c κs =
 
 sub-result : tie.Need-sub-result
 sub-result c =
-    let b = c .before .before .before .before .before .before .before .before .before .before .before .before .before .before .before in
+    let b =
+    c .before .before .before .before .before .before .before .before .before .before .before .before .before .before .before in
     let x = c .before .before .before .ranks-at in
     let e = rw (ranked (c .before .before .before .before .before)) at (x .ensures) in
-    lone-counted _ _ _ _ _ _ (b .pre .0) _ _ (b .pre .1) (c .before .before .before .before .before .before .before .if1 .taken) _ _ (b .pre .2) (x .result) (e .0) _ (e .1) .0
+    lone-counted _ _ _ _ _ _ (b .pre .0) _ _ (b .pre .1)
+    (c .before .before .before .before .before .before .before .if1 .taken) _ _ (b .pre .2) (x .result) (e .0) _
+    (e .1) .0
 
 returns : tie.Need-returns
 returns c =
-    let b = c .before .before .before .before .before .before .before .before .before .before .before .before .before .before .before in
+    let b =
+    c .before .before .before .before .before .before .before .before .before .before .before .before .before .before .before in
     let x = c .before .before .before .ranks-at in
     let e = rw (ranked (c .before .before .before .before .before)) at (x .ensures) in
-    let r = lone-counted _ _ _ _ _ _ (b .pre .0) _ _ (b .pre .1) (c .before .before .before .before .before .before .before .if1 .taken) _ _ (b .pre .2) (x .result) (e .0) _ (e .1) in
+    let r =
+    lone-counted _ _ _ _ _ _ (b .pre .0) _ _ (b .pre .1)
+    (c .before .before .before .before .before .before .before .if1 .taken) _ _ (b .pre .2) (x .result) (e .0) _
+    (e .1) in
     (r .1, r .2, r .3)
 
 count-starts-requires : tie.Need-count-starts-requires
 count-starts-requires c κs =
-    let b = c .before .before .before .before .before .before .before .before .before .before .before .before .before .before .before .before .before .before .before in
+    let b =
+    c .before .before .before .before .before .before .before .before .before .before .before .before .before .before .before .before .before .before .before in
     let f = c .before .before .before .before .before .before .before .turn-words .ensures in
     (turned-words _ _ _ _ _ _ (b .pre .0) _ _ _ _ f, turned-begun _ _ _ _ _ _ (b .pre .0) _ _ _ _ f)
 
 returns-2 : tie.Need-returns-2
 returns-2 c =
-    let b = c .before .before .before .before .before .before .before .before .before .before .before .before .before .before .before .before .before .before .before .before .before .before in
-    page-counted _ _ _ _ _ _ (b .pre .0) _ _ _ _ (c .before .before .before .before .before .before .before .before .before .before .turn-words .ensures) _ _ (c .before .before .count-starts .ensures)
+    let b =
+    c .before .before .before .before .before .before .before .before .before .before .before .before .before .before .before .before .before .before .before .before .before .before in
+    page-counted _ _ _ _ _ _ (b .pre .0) _ _ _ _
+    (c .before .before .before .before .before .before .before .before .before .before .turn-words .ensures) _ _
+    (c .before .before .count-starts .ensures)
 
 pub page-starts-spec : {M : Type 1} → statement M
 page-starts-spec =

@@ -16,7 +16,8 @@ returns-2 c a e =
 returns-3 : tie.Need-returns-3
 returns-3 c a e =
     let b = c .before .before in
-    rw (← e) (pair-left a (b .args .page) (b .args .count) (omega (arith, c .before .if1 .left)) (b .args .room .now) (omega (arith, e, c .if2 .left)))
+    rw (← e) (pair-left a (b .args .page) (b .args .count) (omega (arith, c .before .if1 .left)) (b .args .room .now)
+    (omega (arith, e, c .if2 .left)))
 
 pub put-pair-spec : {M : Type 1} → statement M
 put-pair-spec =

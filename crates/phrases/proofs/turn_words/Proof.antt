@@ -16,12 +16,19 @@ Inv-loop card terms lead pages counts positions q page counted₀ walked₀ span
     TurnedWords card terms counts positions page i counted walked spans × (i ≤ length terms)
 
 abbrev μ-loop : tie.MeasureT-loop
-μ-loop card terms lead pages counts positions q page counted₀ walked₀ spans₀ i₀ counted walked spans i = length terms - i
+μ-loop card terms lead pages counts positions q page counted₀ walked₀ spans₀ i₀ counted walked spans i =
+    length terms - i
 
 loop-holds : tie.Need-loop-holds Inv-loop μ-loop
 loop-holds c =
     let p = c .before .before .before .before .before .before .before .before .pre in (
-      record { counted-room = p .2 .counted-room; walked-room = p .2 .walked-room; spans-room = p .3; turned = λ i h. absurd (omega arith); others = λ i l h. p .2 .each i h },
+      record {
+        counted-room = p .2 .counted-room;
+        walked-room = p .2 .walked-room;
+        spans-room = p .3;
+        turned = λ i h. absurd (omega arith);
+        others = λ i l h. p .2 .each i h;
+      },
       omega arith,
     )
 
@@ -36,8 +43,11 @@ rank-in-requires c κs =
 
 -- the rank that was read
 ranked : (c : tie.After-rank-in Inv-loop μ-loop)
-    → c .rank-in .result ≡ rankBy (c .before .before .before .before .before .before .before .before .before .before .before .before .args .pages .now) (c .before .before .before .before .before .before .before .before .before .before .before .before .args .q) (slotOf (c .before .before .before .before .before .before .before .before .before .before .before .before .args .lead) (c .before .before .before .loop .i))
-ranked c = c .rank-in .ensures ∙ ap (rankBy (c .before .before .before .before .before .before .before .before .before .before .before .before .args .pages .now) (c .before .before .before .before .before .before .before .before .before .before .before .before .args .q)) (c .before .slot-of .ensures)
+    → c .rank-in .result ≡ rankBy
+    (c .before .before .before .before .before .before .before .before .before .before .before .before .args .pages .now) (c .before .before .before .before .before .before .before .before .before .before .before .before .args .q) (slotOf (c .before .before .before .before .before .before .before .before .before .before .before .before .args .lead) (c .before .before .before .loop .i))
+ranked c =
+    c .rank-in .ensures ∙ ap
+    (rankBy (c .before .before .before .before .before .before .before .before .before .before .before .before .args .pages .now) (c .before .before .before .before .before .before .before .before .before .before .before .before .args .q)) (c .before .slot-of .ensures)
 
 ranks-at-requires : tie.Need-ranks-at-requires Inv-loop μ-loop
 ranks-at-requires c κs =
@@ -45,41 +55,62 @@ ranks-at-requires c κs =
     let at = c .before .before .before .before .loop in
     let h = c .before .before .before .loop-test .taken in
     let f = at .inv .0 in
-    rw (ranked (c .before)) (rank-ready _ _ _ _ _ _ (b .pre .0) _ _ (b .pre .1) (at .i) h _ _ (f .counted-room) (f .others (at .i) (omega arith) h))
+    rw (ranked (c .before))
+    (rank-ready _ _ _ _ _ _ (b .pre .0) _ _ (b .pre .1) (at .i) h _ _ (f .counted-room)
+    (f .others (at .i) (omega arith) h))
 
 turn-to-requires : tie.Need-turn-to-requires Inv-loop μ-loop
 turn-to-requires c κs =
-    let b = c .before .before .before .before .before .before .before .before .before .before .before .before .before .before .before .before .before .before in
+    let b =
+    c .before .before .before .before .before .before .before .before .before .before .before .before .before .before .before .before .before .before in
     let at = c .before .before .before .before .before .before .before .before .before .loop in
     let h = c .before .before .before .before .before .before .before .before .loop-test .taken in
     let f = at .inv .0 in
     let x = c .before .before .before .before .ranks-at in
-    let r = turn-ready _ _ _ _ _ _ (b .pre .0) _ _ (b .pre .1) (at .i) h (x .result) (rw (ranked (c .before .before .before .before .before .before)) at (x .ensures .0)) _ _ (f .walked-room) (f .others (at .i) (omega arith) h) in
+    let r =
+    turn-ready _ _ _ _ _ _ (b .pre .0) _ _ (b .pre .1) (at .i) h (x .result)
+    (rw (ranked (c .before .before .before .before .before .before)) at (x .ensures .0)) _ _ (f .walked-room)
+    (f .others (at .i) (omega arith) h) in
     (r .0, r .1, r .2, f .spans-room)
 
 loop-again : tie.Need-loop-again Inv-loop μ-loop
 loop-again c =
-    let b = c .before .before .before .before .before .before .before .before .before .before .before .before .before .before .before .before .before .before .before .before .before .before .before in
-    let at = c .before .before .before .before .before .before .before .before .before .before .before .before .before .before .loop in
-    let h = c .before .before .before .before .before .before .before .before .before .before .before .before .before .loop-test .taken in
+    let b =
+    c .before .before .before .before .before .before .before .before .before .before .before .before .before .before .before .before .before .before .before .before .before .before .before in
+    let at =
+    c .before .before .before .before .before .before .before .before .before .before .before .before .before .before .loop in
+    let h =
+    c .before .before .before .before .before .before .before .before .before .before .before .before .before .loop-test .taken in
     let x = c .before .before .before .before .before .before .before .before .before .ranks-at in
-    let e = rw (ranked (c .before .before .before .before .before .before .before .before .before .before .before)) at (x .ensures) in
-    let y = c .before .before .before .before .turn-to .ensures in
-    (turned-more _ _ _ _ _ _ (b .pre .0) _ _ (b .pre .1) (at .i) h (x .result) (e .0) _ _ _ _ _ _ (at .inv .0) (e .1) (y .1) (y .0), omega arith)
+    let e =
+    rw (ranked (c .before .before .before .before .before .before .before .before .before .before .before)) at
+    (x .ensures) in
+    let y = c .before .before .before .before .turn-to .ensures in (
+      turned-more _ _ _ _ _ _ (b .pre .0) _ _ (b .pre .1) (at .i) h (x .result) (e .0) _ _ _ _ _ _ (at .inv .0) (e .1)
+          (y .1) (y .0),
+      omega arith,
+    )
 
 same-length : tie.Need-same-length Inv-loop μ-loop
-same-length c = c .before .loop .inv .0 .counted-room ∙ sym (c .before .before .before .before .before .before .before .before .before .before .pre .2 .counted-room)
+same-length c =
+    c .before .loop .inv .0 .counted-room
+    ∙ sym (c .before .before .before .before .before .before .before .before .before .before .pre .2 .counted-room)
 
 same-length-2 : tie.Need-same-length-2 Inv-loop μ-loop
-same-length-2 c = c .before .loop .inv .0 .walked-room ∙ sym (c .before .before .before .before .before .before .before .before .before .before .pre .2 .walked-room)
+same-length-2 c =
+    c .before .loop .inv .0 .walked-room
+    ∙ sym (c .before .before .before .before .before .before .before .before .before .before .pre .2 .walked-room)
 
 same-length-3 : tie.Need-same-length-3 Inv-loop μ-loop
-same-length-3 c = c .before .loop .inv .0 .spans-room ∙ sym (c .before .before .before .before .before .before .before .before .before .before .pre .3)
+same-length-3 c =
+    c .before .loop .inv .0 .spans-room
+    ∙ sym (c .before .before .before .before .before .before .before .before .before .before .pre .3)
 
 returns : tie.Need-returns Inv-loop μ-loop
 returns c =
     let b = c .before .before .before .before .before .before .before .before .before .before in
-    let e : c .before .loop .i ≡ length (b .args .terms .now) = omega (arith, c .before .loop .inv .1, c .loop-test .left) in
+    let e : c .before .loop .i ≡ length (b .args .terms .now) =
+    omega (arith, c .before .loop .inv .1, c .loop-test .left) in
     rw e at (c .before .loop .inv .0)
 
 pub turn-words-spec : {M : Type 1} → statement M

@@ -19,8 +19,14 @@ totals-requires c κs =
 returns : tie.Need-returns
 returns c =
     let a = c .before .before .before .scan-lists .ensures .listed refl in
-    let t = c .totals .ensures in
-    (record { found = t .0 ∙ a .tells .found; seeks = t .1 ∙ a .tells .seeks; looks = t .2 ∙ a .tells .looks }, a .room-is)
+    let t = c .totals .ensures in (
+      record {
+        found = t .0 ∙ a .tells .found;
+        seeks = t .1 ∙ a .tells .seeks;
+        looks = t .2 ∙ a .tells .looks;
+      },
+      a .room-is,
+    )
 
 pub list-common-spec : {M : Type 1} → statement M
 list-common-spec =

@@ -8,12 +8,15 @@ use borrow.Author.Needs.{needs}
 use borrow.Author.Tests.{ltb-true, not-true, not-false, lt-ltb}
 use Rattle.seek.specs.Cursors.{unused}
 use Rattle.query.specs.Queries.{seeksOf}
-use Rattle.query.proofs.ScanLaws.{Scanning, scanning-start, scanning-seekable, scanning-found, scanning-some, scanning-none, scanning-less, scanning-larger, scanning-same, scanning-stops, scanning-lists}
+use Rattle.query.proofs.ScanLaws.{Scanning, scanning-start, scanning-seekable, scanning-found, scanning-some}
+use Rattle.query.proofs.ScanLaws.{scanning-none, scanning-less, scanning-larger, scanning-same, scanning-stops}
+use Rattle.query.proofs.ScanLaws.{scanning-lists}
 use Rattle.query.proofs.scan_lists.Statement.{statement}
 use Rattle.query.proofs.scan_lists.Tie as tie
 
 abbrev Inv-loop : tie.InvT-loop
-Inv-loop card shapes k bound all room₀ q₀ b₀ found₀ i₀ room q b found i = Scanning card shapes k q₀ b₀ all room₀ q b i found room
+Inv-loop card shapes k bound all room₀ q₀ b₀ found₀ i₀ room q b found i =
+    Scanning card shapes k q₀ b₀ all room₀ q b i found room
 
 abbrev μ-loop : tie.MeasureT-loop
 μ-loop card shapes k bound all room₀ q₀ b₀ found₀ i₀ room q b found i = 2 ^ 28 - seeksOf q
@@ -57,7 +60,8 @@ unfolding unused
 returns c =
     let l = c .before .before .before .loop in
     let s = c .before .seek-list in
-    scanning-none _ _ _ _ _ _ _ (l .q) (l .b) (l .i) (l .found) (l .room) (l .inv) (s .result) (s .ensures) (c .if1 .taken)
+    scanning-none _ _ _ _ _ _ _ (l .q) (l .b) (l .i) (l .found) (l .room) (l .inv) (s .result) (s .ensures)
+    (c .if1 .taken)
 
 sub-page : tie.Need-sub-page Inv-loop μ-loop
 unfolding unused
@@ -71,19 +75,24 @@ unfolding unused
 loop-less c =
     let l = c .before .before .before .before .before .loop in
     let s = c .before .before .before .seek-list in
-    scanning-less _ _ _ _ _ _ _ (l .q) (l .b) (l .i) (l .found) (l .room) (l .inv) (s .result) (s .ensures) (c .before .before .if1 .left)
+    scanning-less _ _ _ _ _ _ _ (l .q) (l .b) (l .i) (l .found) (l .room) (l .inv) (s .result) (s .ensures)
+    (c .before .before .if1 .left)
 
 loop-again : tie.Need-loop-again Inv-loop μ-loop
 unfolding unused
 loop-again c =
     let l = c .before .before .before .before .before .loop in
     let s = c .before .before .before .seek-list in
-    scanning-larger _ _ _ _ _ _ _ (l .q) (l .b) (l .i) (l .found) (l .room) (l .inv) (s .result) (s .ensures) (c .before .before .if1 .left) (omega (arith, c .before .if2 .taken)) (ltb-true (l .b) (s .result .mark - 1) (c .if3 .taken))
+    scanning-larger _ _ _ _ _ _ _ (l .q) (l .b) (l .i) (l .found) (l .room) (l .inv) (s .result) (s .ensures)
+    (c .before .before .if1 .left) (omega (arith, c .before .if2 .taken))
+    (ltb-true (l .b) (s .result .mark - 1) (c .if3 .taken))
 
 -- past that test the page is no larger one
-no-larger : (c : tie.Joined2 Inv-loop μ-loop) → 0 < c .before .before .before .before .loop .i → c .before .before .before .before .loop .b < c .before .before .seek-list .result .mark - 1 → ⊥
+no-larger : (c : tie.Joined2 Inv-loop μ-loop) → 0 < c .before .before .before .before .loop .i
+    → c .before .before .before .before .loop .b < c .before .before .seek-list .result .mark - 1 → ⊥
 no-larger c h g = elim (c .if2 .came) [
-  | inl e ↦ false≢true (sym (e .1 .left) ∙ lt-ltb (c .before .before .before .before .loop .b) (c .before .before .seek-list .result .mark - 1) g)
+  | inl e ↦ false≢true (sym (e .1 .left)
+      ∙ lt-ltb (c .before .before .before .before .loop .b) (c .before .before .seek-list .result .mark - 1) g)
   | inr e ↦ omega (arith, e .left)
 ]
 
@@ -97,14 +106,16 @@ unfolding unused
 loop-less-2 c =
     let l = c .before .before .before .before .before .loop in
     let s = c .before .before .before .seek-list in
-    scanning-less _ _ _ _ _ _ _ (l .q) (l .b) (l .i) (l .found) (l .room) (l .inv) (s .result) (s .ensures) (c .before .before .if1 .left)
+    scanning-less _ _ _ _ _ _ _ (l .q) (l .b) (l .i) (l .found) (l .room) (l .inv) (s .result) (s .ensures)
+    (c .before .before .if1 .left)
 
 loop-again-2 : tie.Need-loop-again-2 Inv-loop μ-loop
 unfolding unused
 loop-again-2 c =
     let l = c .before .before .before .before .before .loop in
     let s = c .before .before .before .seek-list in
-    scanning-same _ _ _ _ _ _ _ (l .q) (l .b) (l .i) (l .found) (l .room) (l .inv) (s .result) (s .ensures) (c .before .before .if1 .left) (no-larger (c .before)) (c .if4 .taken)
+    scanning-same _ _ _ _ _ _ _ (l .q) (l .b) (l .i) (l .found) (l .room) (l .inv) (s .result) (s .ensures)
+    (c .before .before .if1 .left) (no-larger (c .before)) (c .if4 .taken)
 
 same-length-2 : tie.Need-same-length-2 Inv-loop μ-loop
 same-length-2 c = c .before .before .before .before .before .before .loop .inv .long
@@ -114,7 +125,9 @@ unfolding unused
 returns-2 c =
     let l = c .before .before .before .before .before .before .loop in
     let s = c .before .before .before .before .seek-list in
-    scanning-stops _ _ _ _ _ _ _ (l .q) (l .b) (l .i) (l .found) (l .room) (l .inv) (s .result) (s .ensures) (c .before .before .before .if1 .left) (no-larger (c .before .before)) (c .before .if4 .left) (not-true _ (c .if5 .taken))
+    scanning-stops _ _ _ _ _ _ _ (l .q) (l .b) (l .i) (l .found) (l .room) (l .inv) (s .result) (s .ensures)
+    (c .before .before .before .if1 .left) (no-larger (c .before .before)) (c .before .if4 .left)
+    (not-true _ (c .if5 .taken))
 
 sub-put : tie.Need-sub-put Inv-loop μ-loop
 unfolding unused
@@ -126,14 +139,19 @@ sub-put c =
 add-found : tie.Need-add-found Inv-loop μ-loop
 add-found c =
     let l = c .before .before .before .before .before .before .before .before .before .before .loop in
-    omega (arith, scanning-found _ _ _ _ _ _ _ (l .q) (l .b) (l .i) (l .found) (l .room) (l .inv) (not-false _ (c .before .before .before .before .if5 .left)))
+    omega (
+      arith,
+      scanning-found _ _ _ _ _ _ _ (l .q) (l .b) (l .i) (l .found) (l .room) (l .inv)
+          (not-false _ (c .before .before .before .before .if5 .left)),
+    )
 
 loop-less-3 : tie.Need-loop-less-3 Inv-loop μ-loop
 unfolding unused
 loop-less-3 c =
     let l = c .before .before .before .before .before .before .before .before .before .before .loop in
     let s = c .before .before .before .before .before .before .before .before .seek-list in
-    scanning-less _ _ _ _ _ _ _ (l .q) (l .b) (l .i) (l .found) (l .room) (l .inv) (s .result) (s .ensures) (c .before .before .before .before .before .before .before .if1 .left)
+    scanning-less _ _ _ _ _ _ _ (l .q) (l .b) (l .i) (l .found) (l .room) (l .inv) (s .result) (s .ensures)
+    (c .before .before .before .before .before .before .before .if1 .left)
 
 loop-again-3 : tie.Need-loop-again-3 Inv-loop μ-loop
 unfolding unused
@@ -142,7 +160,9 @@ loop-again-3 c =
     let s = c .before .before .before .before .before .before .before .before .seek-list in
     let f = c .before .before .before .before in
     rw (c .before .before .put .ensures)
-    (scanning-lists _ _ _ _ _ _ _ (l .q) (l .b) (l .i) (l .found) (l .room) (l .inv) (s .result) (s .ensures) (f .before .before .before .if1 .left) (no-larger (f .before .before)) (f .before .if4 .left) (not-false _ (f .if5 .left)))
+    (scanning-lists _ _ _ _ _ _ _ (l .q) (l .b) (l .i) (l .found) (l .room) (l .inv) (s .result) (s .ensures)
+    (f .before .before .before .if1 .left) (no-larger (f .before .before)) (f .before .if4 .left)
+    (not-false _ (f .if5 .left)))
 
 pub scan-lists-spec : {M : Type 1} → statement M
 scan-lists-spec =

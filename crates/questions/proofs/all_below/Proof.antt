@@ -41,8 +41,11 @@ loop-again : tie.Need-loop-again Inv-loop μ-loop
 loop-again c =
     let at = c .before .before .before in
     let a = at .before .args in
-    let e = lt-ltb (getD (a .args .now) (at .loop .i) 0) (a .t) (c .if1 .left) in
-    (omega arith, sym (below-at (a .t) (a .args .now) (at .loop .i) (c .before .before .loop-test .taken) ∙ rw e) ∙ at .loop .inv .1)
+    let e = lt-ltb (getD (a .args .now) (at .loop .i) 0) (a .t) (c .if1 .left) in (
+      omega arith,
+      sym (below-at (a .t) (a .args .now) (at .loop .i) (c .before .before .loop-test .taken) ∙ rw e)
+          ∙ at .loop .inv .1,
+    )
 
 returns-2 : tie.Need-returns-2 Inv-loop μ-loop
 unfolding allBelow

@@ -40,7 +40,9 @@ returns-3 c =
     let e = c .before .before .before .before .before in
     let at = e .before .before .before in
     let a = at .before .before .args in
-    let f = formed-at (a .questions .now) (at .loop .at) (e .end-of .result) (omega arith) (e .end-of .ensures .0) (a .t) (omega arith) in
+    let f =
+    formed-at (a .questions .now) (at .loop .at) (e .end-of .result) (omega arith) (e .end-of .ensures .0) (a .t)
+    (omega arith) in
     let g = sym (c .before .may-ask .ensures) ∙ not-true (c .before .may-ask .result) (c .if3 .taken) in
     sym (f ∙ rw g) ∙ at .loop .inv .1
 
@@ -52,7 +54,9 @@ loop-again c =
     let e = c .before .before .before .before .before in
     let at = e .before .before .before in
     let a = at .before .before .args in
-    let f = formed-at (a .questions .now) (at .loop .at) (e .end-of .result) (omega arith) (e .end-of .ensures .0) (a .t) (omega arith) in
+    let f =
+    formed-at (a .questions .now) (at .loop .at) (e .end-of .result) (omega arith) (e .end-of .ensures .0) (a .t)
+    (omega arith) in
     let g = sym (c .before .may-ask .ensures) ∙ not-false (c .before .may-ask .result) (c .if3 .left) in
     (omega arith, sym (f ∙ rw g) ∙ at .loop .inv .1)
 

@@ -27,7 +27,9 @@ returns-3 c =
     let start = c .before .before .before .before .before in
     let a = start .args in
     let i : ℕ = a .guess + 8 in
-    let l = leb-false (pointerOf (a .block .now) (a .g) i) (256 * i + a .rank) (sym (c .before .precedes .ensures) ∙ c .if2 .left) in
+    let l =
+    leb-false (pointerOf (a .block .now) (a .g) i) (256 * i + a .rank)
+    (sym (c .before .precedes .ensures) ∙ c .if2 .left) in
     (omega arith, below-ends (a .block .now) (a .g) (start .pre .0) (a .rank) i (omega arith) (omega arith) l)
 
 pub high-near-spec : {M : Type 1} → statement M

@@ -53,4 +53,5 @@ value-at-requires c κs =
 
 pub last-of-spec : {M : Type 1} → statement M
 last-of-spec =
-    tie.close (tie.spec (λ c κs. search needs) last-one-requires (λ c. search needs) value-at-requires (λ c. search needs))
+    tie.close (tie.spec (λ c κs. search needs) last-one-requires (λ c. search needs) value-at-requires
+    (λ c. search needs))

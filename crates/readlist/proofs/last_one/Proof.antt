@@ -47,12 +47,14 @@ loop-holds c =
 -- word k has no one, so that there is a word below it, and the ones below word k are all
 left : (c : tie.In-loop Inv-loop μ-loop)
     → (0 < c .before .loop .k)
-    × (onesBelow (c .before .before .before .before .args .run .now) 0 (64 * c .before .loop .k) ≡ onesIn (c .before .before .before .before .args .run .now))
+    × (onesBelow (c .before .before .before .before .args .run .now) 0 (64 * c .before .loop .k)
+    ≡ onesIn (c .before .before .before .before .args .run .now))
 left c =
     let at = c .before .loop in
     let start = c .before .before .before .before in
     let s : List ℕ = start .args .run .now in
-    let e : onesBelow s 0 (64 * at .k) ≡ onesIn s = sym (none-below s 0 (at .k) (at .x) (at .inv .1) (at .inv .2) (c .loop-test .taken)) ∙ at .inv .3 in
+    let e : onesBelow s 0 (64 * at .k) ≡ onesIn s =
+    sym (none-below s 0 (at .k) (at .x) (at .inv .1) (at .inv .2) (c .loop-test .taken)) ∙ at .inv .3 in
     let l = count-lt s 0 0 (64 * at .k) (omega (arith, below-none s 0, start .pre .some, e)) in
     (omega arith, e)
 

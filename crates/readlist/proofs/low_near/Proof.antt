@@ -17,8 +17,11 @@ returns c =
 returns-2 : tie.Need-returns-2
 returns-2 c =
     let a = c .before .before .before .before .args in
-    let i : ℕ = a .guess - 8 in
-    (omega arith, leb-true (pointerOf (a .block .now) (a .g) i) (256 * i + a .rank) (sym (c .before .precedes .ensures) ∙ c .if2 .taken))
+    let i : ℕ = a .guess - 8 in (
+      omega arith,
+      leb-true (pointerOf (a .block .now) (a .g) i) (256 * i + a .rank)
+          (sym (c .before .precedes .ensures) ∙ c .if2 .taken),
+    )
 
 returns-3 : tie.Need-returns-3
 returns-3 c =

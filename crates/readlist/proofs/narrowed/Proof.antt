@@ -20,13 +20,18 @@ returns c =
     record {
       order = omega arith;
       before = first-before s g (start .pre .0) (start .args .rank);
-      ends = last-ends s g (start .pre .0) (start .args .rank) (c .before .last-pointer .result) (c .before .last-pointer .ensures);
+      ends =
+          last-ends s g (start .pre .0) (start .args .rank) (c .before .last-pointer .result)
+          (c .before .last-pointer .ensures);
     }
 
 mul-guess : tie.Need-mul-guess
 mul-guess c =
     let start = c .before .before .before in
-    record { fits = share-fits (start .args .block .now) (start .args .g) (start .pre .0) (start .args .rank) (c .before .last-pointer .result) (start .pre .1) (omega arith) }
+    record {
+      fits = share-fits (start .args .block .now) (start .args .g) (start .pre .0) (start .args .rank)
+          (c .before .last-pointer .result) (start .pre .1) (omega arith);
+    }
 
 low-near-requires : tie.Need-low-near-requires
 low-near-requires c κs =

@@ -15,13 +15,15 @@ sub-one-from : tie.Need-sub-one-from
 sub-one-from c =
     let start = c .before .before .before in
     let a = start .args in
-    start-splits (a .run .now) (a .start) (a .before) (a .rank) (start .pre) (c .before .run-word .result) (c .ones-below .result) (c .before .run-word .ensures) (c .ones-below .ensures .0) .0
+    start-splits (a .run .now) (a .start) (a .before) (a .rank) (start .pre) (c .before .run-word .result)
+    (c .ones-below .result) (c .before .run-word .ensures) (c .ones-below .ensures .0) .0
 
 one-from-requires : tie.Need-one-from-requires
 one-from-requires c κs =
     let start = c .before .before .before in
     let a = start .args in
-    start-splits (a .run .now) (a .start) (a .before) (a .rank) (start .pre) (c .before .run-word .result) (c .ones-below .result) (c .before .run-word .ensures) (c .ones-below .ensures .0) .1
+    start-splits (a .run .now) (a .start) (a .before) (a .rank) (start .pre) (c .before .run-word .result)
+    (c .ones-below .result) (c .before .run-word .ensures) (c .ones-below .ensures .0) .1
 
 pub one-past-spec : {M : Type 1} → statement M
 one-past-spec =

@@ -19,7 +19,8 @@ run-word-requires : tie.Need-run-word-requires Inv-loop μ-loop
 run-word-requires c κs =
     let a = c .before .args in
     let p = c .before .pre in
-    word-inside (a .block .now) (a .g) (p .0) (a .start) (p .1) (a .start / 64) (flat-inside (a .block .now) (a .g) (p .0) (a .start) (p .1) (a .start) refl) .0
+    word-inside (a .block .now) (a .g) (p .0) (a .start) (p .1) (a .start / 64)
+    (flat-inside (a .block .now) (a .g) (p .0) (a .start) (p .1) (a .start) refl) .0
 
 loop-holds : tie.Need-loop-holds Inv-loop μ-loop
 loop-holds c =
@@ -27,15 +28,20 @@ loop-holds c =
     let a = start .args in
     let p = start .pre in
     let e : 64 * (a .start / 64) + a .start % 64 ≡ a .start = omega arith in
-    reach-word (a .block .now) (a .g) (p .0) (a .start) (p .1) (a .start / 64) (a .start % 64) (c .before .run-word .result) (c .next-one .result)
-    (flat-inside (a .block .now) (a .g) (p .0) (a .start) (p .1) (a .start) refl) (omega arith) (ap (onesBelow (a .block .now) (a .g .upper)) e)
+    reach-word (a .block .now) (a .g) (p .0) (a .start) (p .1) (a .start / 64) (a .start % 64)
+    (c .before .run-word .result) (c .next-one .result)
+    (flat-inside (a .block .now) (a .g) (p .0) (a .start) (p .1) (a .start) refl) (omega arith)
+    (ap (onesBelow (a .block .now) (a .g .upper)) e)
     (c .before .run-word .ensures) (c .next-one .ensures .0)
 
 -- the word after one without
 past : (c : tie.In-loop Inv-loop μ-loop)
     → (c .before .loop .k + 1 < wordsFor (c .before .before .before .before .before .args .g .bits))
-    × (onesBelow (c .before .before .before .before .before .args .block .now) (c .before .before .before .before .before .args .g .upper) (64 * (c .before .loop .k + 1) + 0)
-    ≡ onesBelow (c .before .before .before .before .before .args .block .now) (c .before .before .before .before .before .args .g .upper) (c .before .before .before .before .before .args .start))
+    × (onesBelow (c .before .before .before .before .before .args .block .now)
+    (c .before .before .before .before .before .args .g .upper) (64 * (c .before .loop .k + 1) + 0)
+    ≡ onesBelow (c .before .before .before .before .before .args .block .now)
+    (c .before .before .before .before .before .args .g .upper)
+    (c .before .before .before .before .before .args .start))
 past c =
     let start = c .before .before .before .before .before in
     let a = start .args in
@@ -47,14 +53,17 @@ add-k : tie.Need-add-k Inv-loop μ-loop
 add-k c =
     let start = c .before .before .before .before .before in
     let a = start .args in
-    let w = word-inside (a .block .now) (a .g) (start .pre .0) (a .start) (start .pre .1) (c .before .loop .k) (c .before .loop .inv .inside) in
+    let w =
+    word-inside (a .block .now) (a .g) (start .pre .0) (a .start) (start .pre .1) (c .before .loop .k)
+    (c .before .loop .inv .inside) in
     omega arith
 
 run-word-requires-2 : tie.Need-run-word-requires-2 Inv-loop μ-loop
 run-word-requires-2 c κs =
     let start = c .before .before .before .before .before in
     let a = start .args in
-    word-inside (a .block .now) (a .g) (start .pre .0) (a .start) (start .pre .1) (c .before .loop .k + 1) (past c .0) .0
+    word-inside (a .block .now) (a .g) (start .pre .0) (a .start) (start .pre .1) (c .before .loop .k + 1)
+    (past c .0) .0
 
 loop-less : tie.Need-loop-less Inv-loop μ-loop
 loop-less c = omega (arith, past (c .before .before) .0)
@@ -64,7 +73,8 @@ loop-again c =
     let start = c .before .before .before .before .before .before .before in
     let a = start .args in
     let n = past (c .before .before) in
-    reach-word (a .block .now) (a .g) (start .pre .0) (a .start) (start .pre .1) (c .before .before .before .loop .k + 1) 0 (c .before .run-word2 .result) (c .next-one2 .result)
+    reach-word (a .block .now) (a .g) (start .pre .0) (a .start) (start .pre .1)
+    (c .before .before .before .loop .k + 1) 0 (c .before .run-word2 .result) (c .next-one2 .result)
     (n .0) (omega arith) (n .1) (c .before .run-word2 .ensures) (c .next-one2 .ensures .0)
 
 -- the place is a small number
@@ -72,7 +82,8 @@ small : (c : tie.After-loop Inv-loop μ-loop) → c .before .loop .k < 2 ^ 32
 small c =
     let start = c .before .before .before .before .before in
     let a = start .args in
-    word-inside (a .block .now) (a .g) (start .pre .0) (a .start) (start .pre .1) (c .before .loop .k) (c .before .loop .inv .inside) .1
+    word-inside (a .block .now) (a .g) (start .pre .0) (a .start) (start .pre .1) (c .before .loop .k)
+    (c .before .loop .inv .inside) .1
 
 returns : tie.Need-returns Inv-loop μ-loop
 returns c =

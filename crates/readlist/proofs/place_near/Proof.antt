@@ -16,14 +16,16 @@ one-past-requires c κs =
     let start = c .before .before .before in
     let a = start .args in
     let p = start .pre in
-    run-ahead (a .block .now) (a .g) (p .0) (c .upper-of .result .now) (c .upper-of .ensures) (a .start) (a .before) (a .rank) (p .2) (p .3) (p .1)
+    run-ahead (a .block .now) (a .g) (p .0) (c .upper-of .result .now) (c .upper-of .ensures) (a .start) (a .before)
+    (a .rank) (p .2) (p .3) (p .1)
 
 returns-2 : tie.Need-returns-2
 returns-2 c =
     let start = c .before .before .before .before in
     let a = start .args in
     let u = c .before .upper-of in
-    run-one (a .block .now) (a .g) (start .pre .0) (u .result .now) (u .ensures) (a .rank) (c .one-past .result) (c .one-past .ensures .0) (c .one-past .ensures .1)
+    run-one (a .block .now) (a .g) (start .pre .0) (u .result .now) (u .ensures) (a .rank) (c .one-past .result)
+    (c .one-past .ensures .0) (c .one-past .ensures .1)
 
 pub place-near-spec : {M : Type 1} → statement M
 place-near-spec =

@@ -9,7 +9,8 @@ sub-one-past c =
     let b = c .before .before in
     let start = b .before .before in
     let a = start .args in
-    pointer-ones (a .block .now) (a .g) (start .pre .0) (c .upper-of .result .now) (c .upper-of .ensures) (b .pointer-before .result) (a .rank) (c .before .pointer-at .result)
+    pointer-ones (a .block .now) (a .g) (start .pre .0) (c .upper-of .result .now) (c .upper-of .ensures)
+    (b .pointer-before .result) (a .rank) (c .before .pointer-at .result)
     (c .before .pointer-at .ensures) (b .pointer-before .ensures) .0
 
 one-past-requires : tie.Need-one-past-requires
@@ -19,16 +20,19 @@ one-past-requires c κs =
     let a = start .args in
     let u = c .upper-of in
     let p =
-    pointer-ones (a .block .now) (a .g) (start .pre .0) (u .result .now) (u .ensures) (b .pointer-before .result) (a .rank) (c .before .pointer-at .result)
+    pointer-ones (a .block .now) (a .g) (start .pre .0) (u .result .now) (u .ensures) (b .pointer-before .result)
+    (a .rank) (c .before .pointer-at .result)
     (c .before .pointer-at .ensures) (b .pointer-before .ensures) in
-    run-ahead (a .block .now) (a .g) (start .pre .0) (u .result .now) (u .ensures) _ _ (a .rank) (p .1) (p .2) (start .pre .1)
+    run-ahead (a .block .now) (a .g) (start .pre .0) (u .result .now) (u .ensures) _ _ (a .rank) (p .1) (p .2)
+    (start .pre .1)
 
 returns : tie.Need-returns
 returns c =
     let start = c .before .before .before .before .before in
     let a = start .args in
     let u = c .before .upper-of in
-    run-one (a .block .now) (a .g) (start .pre .0) (u .result .now) (u .ensures) (a .rank) (c .one-past .result) (c .one-past .ensures .0) (c .one-past .ensures .1)
+    run-one (a .block .now) (a .g) (start .pre .0) (u .result .now) (u .ensures) (a .rank) (c .one-past .result)
+    (c .one-past .ensures .0) (c .one-past .ensures .1)
 
 pub place-of-spec : {M : Type 1} → statement M
 place-of-spec =

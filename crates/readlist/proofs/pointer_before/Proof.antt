@@ -27,7 +27,9 @@ loop-again c =
     let mid : ℕ = at .high - (at .high - at .low) / 2 in
     record {
       order = omega arith;
-      before = leb-true (pointerOf (a .block .now) (a .g) mid) (256 * mid + a .rank) (sym (c .before .precedes .ensures) ∙ c .if1 .taken);
+      before =
+          leb-true (pointerOf (a .block .now) (a .g) mid) (256 * mid + a .rank)
+          (sym (c .before .precedes .ensures) ∙ c .if1 .taken);
       ends = at .inv .ends;
     }
 
@@ -38,7 +40,9 @@ loop-again-2 c =
     let a = start .args in
     let mid : ℕ = at .high - (at .high - at .low) / 2 in
     let within = at .inv .ends .within in
-    let l = leb-false (pointerOf (a .block .now) (a .g) mid) (256 * mid + a .rank) (sym (c .before .precedes .ensures) ∙ c .if1 .left) in
+    let l =
+    leb-false (pointerOf (a .block .now) (a .g) mid) (256 * mid + a .rank)
+    (sym (c .before .precedes .ensures) ∙ c .if1 .left) in
     record {
       order = omega arith;
       before = at .inv .before;

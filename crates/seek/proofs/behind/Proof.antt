@@ -23,9 +23,11 @@ kept : (x f own : ℕ) → x < 2 ^ 64 → own ≤ 1
 kept x f own l h =
     let q : ℕ = x / 2 ^ (f + own) in
     let e : own + f ≡ f + own = omega arith in
-    let c : bitAnd (x / 2 ^ f) ((2 ^ 64 - 1) - own) ≡ q * 2 ^ own = cleared (x / 2 ^ f) own (omega (arith, div-le-self x (2 ^ f))) h ∙ rw shr-shr in
+    let c : bitAnd (x / 2 ^ f) ((2 ^ 64 - 1) - own) ≡ q * 2 ^ own =
+    cleared (x / 2 ^ f) own (omega (arith, div-le-self x (2 ^ f))) h ∙ rw shr-shr in
     let d : q * 2 ^ own * 2 ^ f ≡ q * 2 ^ (f + own) = rw (mul-assoc, ← pow-add 2 own f, e) in
-    ap (λ (y : ℕ). (y * 2 ^ f) % 2 ^ 64) c ∙ ap (λ (y : ℕ). y % 2 ^ 64) d ∙ mod-eq-of-lt (omega (arith, div-mul-le-self x (2 ^ (f + own))))
+    ap (λ (y : ℕ). (y * 2 ^ f) % 2 ^ 64) c ∙ ap (λ (y : ℕ). y % 2 ^ 64) d
+    ∙ mod-eq-of-lt (omega (arith, div-mul-le-self x (2 ^ (f + own))))
 
 returns : tie.Need-returns
 returns c = kept (c .args .x) (c .args .place) (c .args .own) (omega arith) (omega arith)

@@ -71,7 +71,12 @@ page-lt c =
     let a = start .args in
     let o = start .pre .0 in
     let r = open-reads (a .s .now) (a .g) o in
-    omega (arith, open-U (a .s .now) (a .g) o, rising-below 0 _ _ (open-rising (a .s .now) (a .g) o) (a .rank) (omega (arith, ranked start .number, open-length (a .s .now) (a .g) o)))
+    omega (
+      arith,
+      open-U (a .s .now) (a .g) o,
+      rising-below 0 _ _ (open-rising (a .s .now) (a .g) o) (a .rank)
+          (omega (arith, ranked start .number, open-length (a .s .now) (a .g) o)),
+    )
 
 add-page : tie.Need-add-page
 add-page c = record { fits = omega (arith, page-is c, page-lt c) }

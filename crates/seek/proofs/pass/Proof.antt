@@ -57,7 +57,9 @@ returns c =
     let p = start .pre in
     let e = c .before .before .before .before .before .look .ensures in
     passed-start (a .s .now) (a .g) (p .0) (a .b) (a .from) (p .2) (p .3) (a .looks) _ (p .4)
-    (c .before .before .behind .ensures ∙ ap (λ (x : ℕ). x / 2 ^ (a .from .bit % 64 + a .from .own) * 2 ^ (a .from .bit % 64 + a .from .own)) (e .0)) refl refl (e .1)
+    (c .before .before .behind .ensures
+    ∙ ap (λ (x : ℕ). x / 2 ^ (a .from .bit % 64 + a .from .own) * 2 ^ (a .from .bit % 64 + a .from .own)) (e .0))
+    refl refl (e .1)
 
 skip-requires : tie.Need-skip-requires
 skip-requires c κs =
@@ -67,7 +69,8 @@ skip-requires c κs =
     let e = c .before .before .before .before .look .ensures in (
       p .0,
       open-ruled (a .s .now) (a .g) (p .0) (open-some (a .s .now) (a .g) (p .0) (omega arith)) .zeros-is (a .b) (p .1),
-      skipping-start (a .s .now) (a .g) (p .0) (a .b) (a .from) (p .2) (p .3) _ (a .looks) _ (p .4) (e .0) (c .from-place .ensures) refl refl (e .1) (omega arith),
+      skipping-start (a .s .now) (a .g) (p .0) (a .b) (a .from) (p .2) (p .3) _ (a .looks) _ (p .4) (e .0)
+          (c .from-place .ensures) refl refl (e .1) (omega arith),
     )
 
 returns-2 : tie.Need-returns-2

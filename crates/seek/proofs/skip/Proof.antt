@@ -158,7 +158,8 @@ returns c =
     record {
       at =
           walking-from (start .args .s .now) (start .args .g) (start .pre .0) p _ (omega (arith, f .inside)) (z .within)
-          (c .before .from-place .ensures ∙ ap (λ (x : ℕ). x / 2 ^ p * 2 ^ p) (z .word-is)) (omega (arith, f .rank-is, z .short)) (z .room);
+          (c .before .from-place .ensures ∙ ap (λ (x : ℕ). x / 2 ^ p * 2 ^ p) (z .word-is))
+          (omega (arith, f .rank-is, z .short)) (z .room);
       passed = rw e at (f .after);
       counted = at .inv .1;
     }

@@ -47,7 +47,8 @@ returns-2 c =
     let start = c .before .before .before .before .before .before in
     let a = start .args in
     let e = c .before .before .before .before .high-of .ensures in
-    started-here (a .s .now) (a .g) (start .pre .0) (a .c) (a .b) (start .pre .1) _ refl e (own-few (a .c .mark) .0) (own-few (a .c .mark) .1) (omega (arith, e))
+    started-here (a .s .now) (a .g) (start .pre .0) (a .c) (a .b) (start .pre .1) _ refl e (own-few (a .c .mark) .0)
+    (own-few (a .c .mark) .1) (omega (arith, e))
 
 pub start-spec : {M : Type 1} → statement M
 start-spec =

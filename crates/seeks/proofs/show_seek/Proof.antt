@@ -42,7 +42,9 @@ show-found-requires c κs =
     let s = c .before .before .before .before .before .before .before .before .before .before .args .s .now in
     let g = c .before .before .before .before .before .shape-at .result in (
       opened n,
-      rw (c .before .before .before .seek .ensures) (moved-held (listU s) (decode s) (open-rising s g (opened n)) (open-within s g (opened n)) _ (fresh-held n) _),
+      rw (c .before .before .before .seek .ensures)
+          (moved-held (listU s) (decode s) (open-rising s g (opened n)) (open-within s g (opened n)) _ (fresh-held n)
+          _),
     )
 
 pub show-seek-spec : {M : Type 1} → statement M

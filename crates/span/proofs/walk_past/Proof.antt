@@ -23,7 +23,13 @@ add-t7 c =
     let s = a .block .now in
     let r = open-reads s (a .g) (p .0) in
     let k = one-ranks s (a .g) (p .0) (a .place) (a .rank) (p .1) in
-    omega (arith, c .value-at .ensures, open-U s (a .g) (p .0), rising-below 0 (listU s) (decode s) (open-rising s (a .g) (p .0)) (a .rank) (omega (arith, k .number, open-length s (a .g) (p .0))))
+    omega (
+      arith,
+      c .value-at .ensures,
+      open-U s (a .g) (p .0),
+      rising-below 0 (listU s) (decode s)
+          (open-rising s (a .g) (p .0)) (a .rank) (omega (arith, k .number, open-length s (a .g) (p .0))),
+    )
 
 add-t8 : tie.Need-add-t8
 add-t8 c =

@@ -7,14 +7,16 @@ use borrow.Author.Needs.{needs}
 use lib.ListN.{length, drop, getD, length-set}
 use Rattle.rules.specs.Program.{digits}
 use Rattle.text.specs.Laid.{Put, Partly}
-use Rattle.text.proofs.PutLaws.{put-one, put-same, put-cat, put-length, partly-none, partly-same, partly-more, partly-end}
+use Rattle.text.proofs.PutLaws.{put-one, put-same, put-cat, put-length, partly-none, partly-same, partly-more}
+use Rattle.text.proofs.PutLaws.{partly-end}
 use Rattle.text.proofs.LineLaws.{ending, line-first, first-length, ending-at, ending-length, ending-last}
 use Rattle.text.proofs.put_line.Statement.{statement}
 use Rattle.text.proofs.put_line.Tie as tie
 
 abbrev Inv-loop : tie.InvT-loop
 Inv-loop text₀ at numbers next₀ i₀ i-end text next i =
-    (1 ≤ i) × (i ≤ length numbers) × (length text ≡ length text₀) × (next + length (ending (drop i numbers)) ≤ length text)
+    (1 ≤ i) × (i ≤ length numbers) × (length text ≡ length text₀)
+    × (next + length (ending (drop i numbers)) ≤ length text)
     × Partly (ending (drop 1 numbers)) (ending (drop i numbers)) next₀ next text₀ text
 
 abbrev μ-loop : tie.MeasureT-loop
@@ -40,17 +42,32 @@ loop-holds c =
 slice-write-text : tie.Need-slice-write-text Inv-loop μ-loop
 slice-write-text c =
     let l = c .before in
-    omega (arith, ending-length (l .before .before .before .before .before .before .before .before .args .numbers .now) (l .loop .i) (omega arith))
+    omega (
+      arith,
+      ending-length
+          (l .before .before .before .before .before .before .before .before .args .numbers .now) (l .loop .i)
+          (omega arith),
+    )
 
 add-put-number : tie.Need-add-put-number Inv-loop μ-loop
 add-put-number c =
     let l = c .before .before in
-    omega (arith, ending-length (l .before .before .before .before .before .before .before .before .args .numbers .now) (l .loop .i) (omega arith))
+    omega (
+      arith,
+      ending-length
+          (l .before .before .before .before .before .before .before .before .args .numbers .now) (l .loop .i)
+          (omega arith),
+    )
 
 put-number-requires-2 : tie.Need-put-number-requires-2 Inv-loop μ-loop
 put-number-requires-2 c κs =
     let l = c .before .before .before in
-    rw length-set (omega (arith, ending-length (l .before .before .before .before .before .before .before .before .args .numbers .now) (l .loop .i) (omega arith)))
+    rw length-set (omega (
+      arith,
+      ending-length
+          (l .before .before .before .before .before .before .before .before .args .numbers .now) (l .loop .i)
+          (omega arith),
+    ))
 
 loop-again : tie.Need-loop-again Inv-loop μ-loop
 loop-again c =
@@ -59,7 +76,8 @@ loop-again c =
     let ns = l .before .before .before .before .before .before .before .before .args .numbers .now in
     let i = l .loop .i in
     let h : i < length ns = omega arith in
-    let p : Put (32 ∷ digits (getD ns i 0)) (l .loop .next) (k .put-number2 .result) (l .loop .text) (k .put-number2 .last .0) =
+    let p : Put (32 ∷ digits (getD ns i 0)) (l .loop .next) (k .put-number2 .result) (l .loop .text)
+    (k .put-number2 .last .0) =
     put-cat (put-one 32 (l .loop .next) (l .loop .text)) (k .put-number2 .ensures) in (
       omega arith,
       omega arith,
@@ -91,7 +109,9 @@ returns c =
     let k = l .before .before .before in
     let s = k .before .before .before .before .before in
     let ns = s .args .numbers .now in
-    let p = partly-end (partly-same (ending-last ns (l .loop .i) (omega arith)) (l .loop .inv .4)) (put-one 10 (l .loop .next) (l .loop .text)) in
+    let p =
+    partly-end (partly-same (ending-last ns (l .loop .i) (omega arith)) (l .loop .inv .4))
+    (put-one 10 (l .loop .next) (l .loop .text)) in
     put-same (line-first ns (s .pre .0)) (put-cat (k .put-number .ensures) p)
 
 pub put-line-spec : {M : Type 1} → statement M

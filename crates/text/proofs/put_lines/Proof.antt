@@ -6,7 +6,8 @@ use lib.ListN.{length, drop}
 use Rattle.rules.specs.Program.{line, lines}
 use Rattle.text.specs.Laid.{Put, Partly, answersIn, Counted}
 use Rattle.text.proofs.PutLaws.{put-length, partly-none, partly-same, partly-more, partly-all}
-use Rattle.text.proofs.LineLaws.{answer-at, counted-fits, counted-rest, counted-some, lines-at, lines-length, lines-none}
+use Rattle.text.proofs.LineLaws.{answer-at, counted-fits, counted-rest, counted-some, lines-at, lines-length}
+use Rattle.text.proofs.LineLaws.{lines-none}
 use Rattle.text.proofs.put_lines.Statement.{statement}
 use Rattle.text.proofs.put_lines.Tie as tie
 
@@ -21,8 +22,14 @@ abbrev μ-loop : tie.MeasureT-loop
 
 loop-holds : tie.Need-loop-holds Inv-loop μ-loop
 loop-holds c =
-    let s = c .before .before in
-    (omega arith, s .pre .0, refl, s .pre .1, partly-none (lines (answersIn (s .args .numbers .now))) (s .args .at) (s .args .text .now))
+    let s = c .before .before in (
+      omega arith,
+      s .pre .0,
+      refl,
+      s .pre .1,
+      partly-none (lines (answersIn (s .args .numbers .now))) (s .args .at)
+          (s .args .text .now),
+    )
 
 cast-to : tie.Need-cast-to Inv-loop μ-loop
 cast-to c = omega (arith, c .shared-slice-known2 .given (c .before .before .loop .from))
@@ -30,7 +37,11 @@ cast-to c = omega (arith, c .shared-slice-known2 .given (c .before .before .loop
 add-to-2 : tie.Need-add-to-2 Inv-loop μ-loop
 add-to-2 c =
     let l = c .before .before in
-    omega (arith, counted-fits (l .before .before .before .args .numbers .now) (l .loop .from) (omega arith) (l .loop .inv .1))
+    omega (
+      arith,
+      counted-fits (l .before .before .before .args .numbers .now) (l .loop .from) (omega arith)
+          (l .loop .inv .1),
+    )
 
 part-put-line-end : tie.Need-part-put-line-end Inv-loop μ-loop
 part-put-line-end c =
@@ -56,7 +67,8 @@ loop-again c =
     let i = l .loop .from in
     let h : i < length ns = omega arith in
     let w = l .loop .inv .1 in
-    let p : Put (line (answer-at ns i)) (l .loop .next) (k .put-line .result) (l .loop .text) (k .put-line .last .0) = k .put-line .ensures in (
+    let p : Put (line (answer-at ns i)) (l .loop .next) (k .put-line .result) (l .loop .text) (k .put-line .last .0) =
+    k .put-line .ensures in (
       counted-fits ns i h w,
       counted-rest ns i h w,
       put-length p ∙ l .loop .inv .2,

@@ -23,8 +23,15 @@ put-line-requires : tie.Need-put-line-requires
 put-line-requires c κs =
     let w = c .before .before .before .before in
     let k = w .before .before .before in
-    let s = k .before .before in
-    (omega arith, omega (arith, refused-length (s .args .r) (k .number-of .result) (k .number-of .ensures) (omega arith), s .pre))
+    let s = k .before .before in (
+      omega arith,
+      omega (
+        arith,
+        refused-length (s .args .r) (k .number-of .result) (k .number-of .ensures)
+            (omega arith),
+        s .pre,
+      ),
+    )
 
 returns-2 : tie.Need-returns-2
 returns-2 c =

@@ -13,7 +13,8 @@ use Rattle.text.proofs.read_numbers.Tie as tie
 
 abbrev Inv-loop : tie.InvT-loop
 Inv-loop bytes numbers₀ count i₀ numbers i =
-    (i ≤ count) × (count ≡ length bytes / 4) × Partly (wordsOf bytes) (wordsOf (drop (4 * i) bytes)) 0 i numbers₀ numbers
+    (i ≤ count) × (count ≡ length bytes / 4)
+    × Partly (wordsOf bytes) (wordsOf (drop (4 * i) bytes)) 0 i numbers₀ numbers
 
 abbrev μ-loop : tie.MeasureT-loop
 μ-loop bytes numbers₀ count i₀ numbers i = count - i
@@ -31,8 +32,13 @@ loop-again c =
     let l = c .before .before in
     let qs = l .before .before .args .bytes .now in
     let i = l .loop .i in
-    let e = words-at i qs (omega arith) ∙ ap (λ v. v ∷ wordsOf (drop (4 * (i + 1)) qs)) (sym (c .read-u32 .ensures .0)) in
-    (omega arith, refl, partly-more (partly-same e (l .loop .inv .2)) (put-one (c .read-u32 .result) i (l .loop .numbers)))
+    let e =
+    words-at i qs (omega arith) ∙ ap (λ v. v ∷ wordsOf (drop (4 * (i + 1)) qs)) (sym (c .read-u32 .ensures .0)) in (
+      omega arith,
+      refl,
+      partly-more (partly-same e (l .loop .inv .2))
+          (put-one (c .read-u32 .result) i (l .loop .numbers)),
+    )
 
 returns : tie.Need-returns Inv-loop μ-loop
 returns c =

@@ -9,17 +9,25 @@ use Rattle.wordlists.proofs.open_pages.Tie as tie
 open-lists-requires : tie.Need-open-lists-requires
 open-lists-requires c κs =
     let p = c .before .before .before .place-lists in
-    let b = c .before .before .before .before .before .before .before .before in
-    (pages-places (b .args .card .now) (b .args .terms .now) (p .last .1 .1 .1 .0) (b .pre .0) (b .pre .1) (p .kept .1 .1 .1 .0) (p .ensures), pages-alike (b .args .card .now) (b .args .terms .now) (p .last .1 .1 .1 .0) (b .pre .0) (b .pre .1) (p .kept .1 .1 .1 .0) (p .ensures), b .pre .2)
+    let b = c .before .before .before .before .before .before .before .before in (
+      pages-places (b .args .card .now) (b .args .terms .now) (p .last .1 .1 .1 .0) (b .pre .0) (b .pre .1)
+          (p .kept .1 .1 .1 .0) (p .ensures),
+      pages-alike (b .args .card .now) (b .args .terms .now)
+          (p .last .1 .1 .1 .0) (b .pre .0) (b .pre .1) (p .kept .1 .1 .1 .0) (p .ensures),
+      b .pre .2,
+    )
 
 returns : tie.Need-returns
 returns c =
     let o = c .before .before in
     let p = o .before .before .before .before .place-lists in
     let b = c .before .before .before .before .before .before .before .before .before .before .before in
-    let lists = placed-lists (b .args .card .now) (b .args .terms .now) (p .last .1 .1 .1 .0) (b .pre .0) (b .pre .1) (p .kept .1 .1 .1 .0) (p .ensures) in (
+    let lists =
+    placed-lists (b .args .card .now) (b .args .terms .now) (p .last .1 .1 .1 .0) (b .pre .0) (b .pre .1)
+    (p .kept .1 .1 .1 .0) (p .ensures) in (
       o .open-lists .ensures .0 ∙ ap leadOf lists,
-      pages-opened (b .args .card .now) (b .args .terms .now) (p .last .1 .1 .1 .0) (b .pre .0) (b .pre .1) (p .kept .1 .1 .1 .0) (p .ensures) (o .open-lists .last .1 .1 .1 .0) (o .open-lists .ensures .1),
+      pages-opened (b .args .card .now) (b .args .terms .now) (p .last .1 .1 .1 .0) (b .pre .0) (b .pre .1)
+          (p .kept .1 .1 .1 .0) (p .ensures) (o .open-lists .last .1 .1 .1 .0) (o .open-lists .ensures .1),
     )
 
 pub open-pages-spec : {M : Type 1} → statement M

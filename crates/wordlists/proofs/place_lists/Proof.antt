@@ -11,15 +11,20 @@ use Rattle.wordlists.proofs.place_lists.Statement.{statement}
 use Rattle.wordlists.proofs.place_lists.Tie as tie
 
 abbrev Inv-loop : tie.InvT-loop
-Inv-loop card terms k places₀ i₀ places i = (i ≤ length terms) × (length terms ≤ 8) × (length places ≡ 16) × AllLying card terms k i places
+Inv-loop card terms k places₀ i₀ places i =
+    (i ≤ length terms) × (length terms ≤ 8) × (length places ≡ 16) × AllLying card terms k i places
 
 abbrev μ-loop : tie.MeasureT-loop
 μ-loop card terms k places₀ i₀ places i = length terms - i
 
 loop-holds : tie.Need-loop-holds Inv-loop μ-loop
 loop-holds c =
-    let b = c .before .before .before in
-    (omega arith, words-parts (indexT (b .args .card .now)) (b .args .terms .now) (b .pre .1) .1, b .pre .3, λ i h. absurd (omega arith))
+    let b = c .before .before .before in (
+      omega arith,
+      words-parts (indexT (b .args .card .now)) (b .args .terms .now) (b .pre .1) .1,
+      b .pre .3,
+      λ i h. absurd (omega arith),
+    )
 
 mul-list-in : tie.Need-mul-list-in Inv-loop μ-loop
 mul-list-in c = omega arith
@@ -32,8 +37,12 @@ cast-list-in c = omega (arith, c .shared-slice-known3 .given (c .before .before 
 
 list-in-requires : tie.Need-list-in-requires Inv-loop μ-loop
 list-in-requires c κs =
-    let b = c .before .before .before .before .before .before in
-    (b .pre .0, word-below (indexT (b .args .card .now)) (b .args .terms .now) (b .pre .1) (c .before .before .loop .i) (c .before .loop-test .taken), b .pre .2)
+    let b = c .before .before .before .before .before .before in (
+      b .pre .0,
+      word-below (indexT (b .args .card .now)) (b .args .terms .now) (b .pre .1)
+          (c .before .before .loop .i) (c .before .loop-test .taken),
+      b .pre .2,
+    )
 
 -- a card's bytes are fewer than 2 ^ 32
 short : (c : tie.At-loop Inv-loop μ-loop) → length (c .before .before .before .before .args .card .now) < 2 ^ 32
@@ -42,7 +51,14 @@ short c =
     card-short (b .before .args .card .now) (λ i. b .shared-slice-known .given i .fits) (b .before .pre .0)
 
 cast-places : tie.Need-cast-places Inv-loop μ-loop
-cast-places c = omega (arith, c .before .list-in .ensures .starts, c .before .list-in .ensures .ends, short (c .before .before .before .before))
+cast-places c =
+    omega (
+      arith,
+      c .before .list-in .ensures .starts,
+      c .before .list-in .ensures .ends,
+      short
+          (c .before .before .before .before),
+    )
 
 mul-places : tie.Need-mul-places Inv-loop μ-loop
 mul-places c = omega arith
@@ -54,7 +70,8 @@ slice-write-places : tie.Need-slice-write-places Inv-loop μ-loop
 slice-write-places c = omega arith
 
 cast-places-2 : tie.Need-cast-places-2 Inv-loop μ-loop
-cast-places-2 c = omega (arith, c .before .before .list-in .ensures .ends, short (c .before .before .before .before .before))
+cast-places-2 c =
+    omega (arith, c .before .before .list-in .ensures .ends, short (c .before .before .before .before .before))
 
 mul-places-3 : tie.Need-mul-places-3 Inv-loop μ-loop
 mul-places-3 c = omega arith
@@ -82,8 +99,10 @@ loop-again c =
     let i = at .loop .i in (
       omega arith,
       at .loop .inv .1,
-      length-set (set (at .loop .places) (2 * i) (l .result .from)) (2 * i + 1) (l .result .to) ∙ length-set (at .loop .places) (2 * i) (l .result .from) ∙ at .loop .inv .2,
-      lying-more (a .card .now) (a .terms .now) (a .k) i (at .loop .places) (l .result .from) (l .result .to) (omega arith) (at .loop .inv .3) (l .ensures),
+      length-set (set (at .loop .places) (2 * i) (l .result .from)) (2 * i + 1) (l .result .to)
+          ∙ length-set (at .loop .places) (2 * i) (l .result .from) ∙ at .loop .inv .2,
+      lying-more (a .card .now) (a .terms .now) (a .k) i (at .loop .places) (l .result .from) (l .result .to)
+          (omega arith) (at .loop .inv .3) (l .ensures),
     )
 
 same-length : tie.Need-same-length Inv-loop μ-loop
