@@ -82,7 +82,7 @@ one-of = refl
 pub ones-all : (v m p : ℕ) → v < 2 ^ m → m ≤ p → onesTo v p ≡ ones v
 ones-all v m p h l = ap ones (mod-eq-of-lt (lt-of-lt-of-le h (pow-mono l)))
 
-pub raised-none : (s : List ℕ) (at : ℕ) → Raised s at 0 0 0 (record { acc = 0; words = 0; next = 1 })
+pub raised-none : (s : List ℕ) (at : ℕ) → Raised s at 0 0 0 (record { acc = 0; words = 0; next = 1; stop = 64 })
 unfolding ones
 raised-none s at = record {
   held = held-none s at;
@@ -91,6 +91,7 @@ raised-none s at = record {
   top = omega arith;
   counted = refl;
   next = refl;
+  stop = (omega arith, omega arith);
   pointed = λ q l h. absurd (omega arith);
 }
 
@@ -104,6 +105,7 @@ module _ (s : List ℕ) (at h i v : ℕ) (b : Ups) (r : Raised s at h i v b) whe
     top = r .top;
     counted = r .counted;
     next = r .next;
+    stop = r .stop;
     pointed = λ q l u. subst (λ n. After (onesTo v) (256 * q) n)
         (sym (beAt-same 4 t s (9 + 4 * q) (λ j m n. g j (omega arith) (omega arith)))) (r .pointed q l u);
   }
@@ -113,6 +115,12 @@ module _ (s : List ℕ) (at h i v : ℕ) (b : Ups) (r : Raised s at h i v b) whe
   raised-lt =
       let e : 64 + 64 * b .words ≡ 64 * (b .words + 1) = omega arith in
       rw (r .held .rest) (shr-lt 64 (64 * b .words) (rw e (r .fits)))
+
+  -- and all of it lies below a place of the same word that no one has reached
+  pub raised-below : (p : ℕ) → h + i ≤ p → p / 64 ≡ b .words → b .acc < 2 ^ (p % 64)
+  raised-below p l e =
+      let g : h + i ≤ p % 64 + 64 * b .words = omega arith in
+      rw (r .held .rest) (shr-lt (p % 64) (64 * b .words) (lt-of-lt-of-le (r .top) (pow-mono g)))
 
   -- a pointer behind all the ones
   pointed-last : (q : ℕ) → b .next ≤ q → After (onesTo v) (256 * q) (256 * q + i)
@@ -135,14 +143,16 @@ module _ (s : List ℕ) (at h i v : ℕ) (b : Ups) (r : Raised s at h i v b) whe
             (pointed-last q (omega arith))
       ]
 
-  pub raised-more : (z word : ℕ) (t : List ℕ) → h ≤ z → Held t at v ((z + i) / 64) word
+  pub raised-more : (z word stop : ℕ) (t : List ℕ) → stop ≤ 64 * ((z + i) / 64 + 1)
+      → stop ≤ 256 * (z / 256 + 1) + (i + 1) → h ≤ z → Held t at v ((z + i) / 64) word
       → ((q : ℕ) → 0 < q → q < z / 256 + 1 → After (onesTo v) (256 * q) (beAt 4 t (9 + 4 * q)))
       → Raised t at z (i + 1) (v + 2 ^ (z + i)) (record {
         acc = word + 2 ^ ((z + i) % 64);
         words = (z + i) / 64;
         next = z / 256 + 1;
+        stop = stop;
       })
-  raised-more z word t hz a p = record {
+  raised-more z word stop t sw sd hz a p = record {
     held =
         let g : 64 * ((z + i) / 64) + (z + i) % 64 ≡ z + i = omega arith in
         rw (one-mul (2 ^ (z + i)), one-mul (2 ^ ((z + i) % 64))) at
@@ -157,6 +167,7 @@ module _ (s : List ℕ) (at h i v : ℕ) (b : Ups) (r : Raised s at h i v b) whe
     counted = rw (add-comm v (2 ^ (z + i)), ← one-mul (2 ^ (z + i)))
         (ones-cat (z + i) 1 v below ∙ omega (arith, one-of, r .counted));
     next = refl;
+    stop = (sw, sd);
     pointed = λ q l u. after-more v (z + i) (256 * q) (beAt 4 t (9 + 4 * q))
         (after-le (onesTo v) (ones-steps v) (256 * q) (beAt 4 t (9 + 4 * q)) (p q l u) (z + i)
         (omega (arith, ones-all v (h + i) (z + i) (r .top) (omega arith), r .counted)))

@@ -6,13 +6,15 @@ use mathlib.Core.List.{List, [], _∷_, _++_}
 use Prim.Native.Nat.{ℕ, _+_, _-_, _*_, _/_, _%_, _^_, _≤_, _<_}
 use native.Mathlib.Nat.{zero-add, zero-div, mod-eq-of-lt}
 use native.Mathlib.Omega.{arith}
-use lib.ListN.{length, getD}
+use lib.Bits.{bitOr}
+use lib.ListN.{length, getD, length-append}
 use lib.Pow.{shr-mono}
 use lib.Seq.{sets, length-sets, getD-set-same}
 use Rattle.rules.specs.Limits.{version}
 use Rattle.rules.specs.Bytes.{be, beAt}
 use Rattle.rules.specs.Runs.{wordsFor}
 use Rattle.rules.specs.List.{zeros, lower, upper}
+use Rattle.laws.proofs.BitLaws.{placed-one}
 use Rattle.laws.proofs.ByteLaws.{length-be, sets-other, beAt-sets, read-sets}
 use Rattle.shape.specs.declared.Shape.{Shape}
 use Rattle.listlaws.specs.Sound.{least}
@@ -20,9 +22,10 @@ use Rattle.listlaws.proofs.ValidLaws.{field-in}
 use Rattle.writelist.specs.declared.Lows.{Lows}
 use Rattle.writelist.specs.declared.Filling.{Filling}
 use Rattle.writelist.specs.Filling.{Stored, Flushed, Lower, Lowered, Raised}
-use Rattle.writelist.specs.Filling.{Fitting, Framed, high, Partly, Next, Ready}
+use Rattle.writelist.specs.Filling.{Fitting, Framed, high, Partly, Next, Ready, OneMore}
 use Rattle.writelist.proofs.FillLaws.{lowered-none, lowered-alike, lowered-lt}
-use Rattle.writelist.proofs.FillLaws.{lowered-more, raised-none, raised-more}
+use Rattle.writelist.proofs.FillLaws.{lowered-more, raised-none, raised-below, raised-more}
+use Rattle.writelist.proofs.StoreLaws.{stored-none, flushed-none}
 use Rattle.writelist.proofs.PassLaws.{Passed, passed}
 use Rattle.writelist.proofs.SideLaws.{sides, header-fits, end-small, zeros-of, least-snoc}
 use Rattle.writelist.proofs.SideLaws.{high-snoc, length-snoc, lower-snoc, upper-snoc}
@@ -81,7 +84,7 @@ module _ (g : Shape) (s : List ℕ) (f : Fitting g s) where
 pub partly-none : (g : Shape) (before s : List ℕ) → Framed g before s → Partly g [] (record {
   count = 0;
   lows = record { acc = 0; have = 0; words = 0 };
-  ups = record { acc = 0; words = 0; next = 1 };
+  ups = record { acc = 0; words = 0; next = 1; stop = 64 };
 }) before s
 unfolding least lower upper high
 partly-none g before s f =
@@ -144,7 +147,8 @@ module _ (g : Shape) (xs : List ℕ) (f : Filling) (before s : List ℕ)
       }
 
   -- what the steps leave
-  module _ (r : Lows) (s1 s2 s3 : List ℕ) (word : ℕ)
+  module _ (r : Lows) (s1 s2 s3 : List ℕ) (word stop : ℕ)
+      (in-word : stop ≤ 64 * ((z + f .count) / 64 + 1)) (undue : stop ≤ 256 * (z / 256 + 1) + (f .count + 1))
       (low : Lower (g .w) (g .lower) (f .lows) x r s s1)
       (mid : Stored 4 9 (λ q. 256 * q + f .count) (f .ups .next) (z / 256 + 1) s1 s2)
       (up : Flushed (g .upper) (f .ups .words) ((z + f .count) / 64 - f .ups .words) (f .ups .acc) word s2 s3) where
@@ -167,16 +171,27 @@ module _ (g : Shape) (xs : List ℕ) (f : Filling) (before s : List ℕ)
         (rw (low .words) (laid-on .lower-kept))
 
     raised-put : Raised s3 (g .upper) z (length xs + 1) (upper (g .w) 0 xs + 2 ^ (z + length xs))
-        (record { acc = word + 2 ^ ((z + f .count) % 64); words = (z + f .count) / 64; next = z / 256 + 1 })
+        (record {
+          acc = word + 2 ^ ((z + f .count) % 64);
+          words = (z + f .count) / 64;
+          next = z / 256 + 1;
+          stop = stop;
+        })
     raised-put =
         rw (p .count)
-        (raised-more s (g .upper) (high (g .w) xs) (length xs) (upper (g .w) 0 xs) (f .ups) (p .ups) z word s3 high-le
+        (raised-more s (g .upper) (high (g .w) xs) (length xs) (upper (g .w) 0 xs) (f .ups) (p .ups) z word stop s3
+        (rw (p .count) at in-word) (rw (p .count) at undue) high-le
         (rw (p .count) at (laid-on .words)) (laid-on .pointers))
 
     pub partly-more : Partly g (xs ++ (x ∷ [])) (record {
       count = f .count + 1;
       lows = r;
-      ups = record { acc = word + 2 ^ ((z + f .count) % 64); words = (z + f .count) / 64; next = z / 256 + 1 };
+      ups = record {
+        acc = word + 2 ^ ((z + f .count) % 64);
+        words = (z + f .count) / 64;
+        next = z / 256 + 1;
+        stop = stop;
+      };
     })
         before s3
     partly-more = record {
@@ -189,5 +204,45 @@ module _ (g : Shape) (xs : List ℕ) (f : Filling) (before s : List ℕ)
           raised-put;
     }
 
+  -- an element whose one lies below the stop: nothing but its low part may be written
+  module _ (near : z + f .count < f .ups .stop) where
+    near-word : (z + f .count) / 64 ≡ f .ups .words
+    near-word = let t = step in omega (arith, t .words-le, p .ups .stop)
+
+    near-next : z / 256 + 1 ≡ f .ups .next
+    near-next = let t = step in omega (arith, t .next-le, p .ups .stop, p .count)
+
+    pub near-acc : bitOr (f .ups .acc) ((1 * 2 ^ ((z + f .count) % 64)) % 2 ^ 64)
+        ≡ f .ups .acc + 2 ^ ((z + f .count) % 64)
+    near-acc =
+        let k : ℕ = (z + f .count) % 64 in
+        let a = raised-below s (g .upper) (high (g .w) xs) (length xs) (upper (g .w) 0 xs) (f .ups) (p .ups)
+        (z + f .count) (omega (arith, high-le, p .count)) near-word in
+        placed-one (f .ups .acc) 1 k 1 (omega arith) a (omega arith) (omega arith) ∙ omega arith
+
+    pub partly-near : (r : Lows) (t : List ℕ) → Lower (g .w) (g .lower) (f .lows) x r s t
+        → Partly g (xs ++ (x ∷ [])) (record {
+          count = f .count + 1;
+          lows = r;
+          ups = record {
+            acc = f .ups .acc + 2 ^ ((z + f .count) % 64);
+            words = f .ups .words;
+            next = f .ups .next;
+            stop = f .ups .stop;
+          };
+        }) before t
+    partly-near r t low =
+        rw (near-word, near-next) at
+        (partly-more r t t t (f .ups .acc) (f .ups .stop) (omega (arith, near-word, p .ups .stop))
+        (omega (arith, near-next, p .ups .stop, p .count)) low
+        (rw near-next (stored-none 4 9 (λ q. 256 * q + f .count) (f .ups .next) t))
+        (flushed-none (g .upper) (f .ups .words) (f .ups .acc) t ((z + f .count) / 64 - f .ups .words) (f .ups .acc)
+        (omega (arith, near-word)) refl))
+
 pub ready-step : {g : Shape} {f : Filling} {x : ℕ} {room : List ℕ} → Ready g f x room → Step g f x (length room)
 ready-step {g} {f} {x} {room} r = step g (r .xs) f (r .before) room (r .partly) x (r .next)
+
+pub count-more : {g : Shape} {f r : Filling} {x : ℕ} {d e : List ℕ} → Ready g f x d → OneMore g f x r d e
+    → r .count ≡ f .count + 1
+count-more {x = x} q m =
+    omega (arith, m (q .xs) (q .before) (q .partly) (q .next) .count, q .partly .count, length-append (q .xs) (x ∷ []))

@@ -12,17 +12,21 @@
 --   Next g xs x            x may follow xs
 --   Ready g f x room       some elements are laid, and x may follow
 --   OneMore g f x r d e    whatever elements are laid in d that x may follow, those and x are laid in e
+--   Follows g xs ys        the elements ys may follow xs
+--   Open g f ys room       some elements are laid, and ys may follow
+--   Laid g f ys k r d e    whatever elements are laid in d that ys may follow, those and the first k of ys are laid in e
 --   Full g f room          all elements are laid
 --   Closed g f d e         whatever elements are all laid in d, e is their block and behind it what was there
+use mathlib.Core.Bool.{true}
 use mathlib.Core.Path.{_≡_}
 use mathlib.Core.Logic.{_⊎_}
 use mathlib.Core.List.{List, [], _∷_, _++_}
 use Prim.Native.Nat.{ℕ, _+_, _-_, _*_, _/_, _%_, _^_, _≤_, _<_}
 use lib.Count.{ones}
-use lib.ListN.{length, getD}
+use lib.ListN.{length, getD, take}
 use Rattle.rules.specs.Limits.{limit, version}
 use Rattle.rules.specs.Bytes.{beAt}
-use Rattle.rules.specs.List.{lower, upper, block}
+use Rattle.rules.specs.List.{rising, lower, upper, block}
 use Rattle.rules.specs.Write.{laid}
 use Rattle.shape.specs.declared.Shape.{Shape}
 use Rattle.shape.specs.Shape.{shapeOf}
@@ -62,6 +66,7 @@ pub record Raised (s : List ℕ) (at h i v : ℕ) (b : Ups) : Type 0 where
   pub top : v < 2 ^ (h + i)
   pub counted : ones v ≡ i
   pub next : b .next ≡ h / 256 + 1
+  pub stop : (b .stop ≤ 64 * (b .words + 1)) × (b .stop ≤ 256 * b .next + i)
   pub pointed : (q : ℕ) → 0 < q → q < b .next → After (onesTo v) (256 * q) (beAt 4 s (9 + 4 * q))
 
 pub record Fitting (g : Shape) (s : List ℕ) : Type 0 where
@@ -103,6 +108,20 @@ pub record Ready (g : Shape) (f : Filling) (x : ℕ) (room : List ℕ) : Type 0 
 
 abbrev pub OneMore : Shape → Filling → ℕ → Filling → List ℕ → List ℕ → Type 0
 OneMore g f x r d e = (xs before : List ℕ) → Partly g xs f before d → Next g xs x → Partly g (xs ++ (x ∷ [])) r before e
+
+pub record Follows (g : Shape) (xs ys : List ℕ) : Type 0 where
+  pub few : length (xs ++ ys) ≤ g .n
+  pub rises : rising 0 (g .u) (xs ++ ys) ≡ true
+
+pub record Open (g : Shape) (f : Filling) (ys room : List ℕ) : Type 0 where
+  pub xs : List ℕ
+  pub before : List ℕ
+  pub partly : Partly g xs f before room
+  pub follows : Follows g xs ys
+
+abbrev pub Laid : Shape → Filling → List ℕ → ℕ → Filling → List ℕ → List ℕ → Type 0
+Laid g f ys k r d e =
+    (xs before : List ℕ) → Partly g xs f before d → Follows g xs ys → Partly g (xs ++ take k ys) r before e
 
 pub record Full (g : Shape) (f : Filling) (room : List ℕ) : Type 0 where
   pub xs : List ℕ

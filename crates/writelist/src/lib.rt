@@ -3,12 +3,12 @@
 ghost use mathlib.Core.Bool.{true};
 ghost use mathlib.Core.Path.{_≡_};
 ghost use mathlib.Core.List.{[]};
-ghost use Prim.Native.Nat.{_+_, _-_, _*_, _/_, _^_, _<_, _≤_};
-ghost use lib.ListN.{length};
+ghost use Prim.Native.Nat.{_+_, _-_, _*_, _/_, _^_, _<_, _≤_, min};
+ghost use lib.ListN.{length, drop};
 ghost use Rattle.rules.specs.List.{rising, block};
 ghost use Rattle.rules.specs.Write.{laid};
 ghost use Rattle.rules.specs.Promises.{ListWritten};
-ghost use Rattle.writelist.specs.Filling.{Stored, Flushed, Lower, Fitting, Partly, Ready, OneMore, Full, Closed};
+ghost use Rattle.writelist.specs.Filling.{Stored, Flushed, Lower, Fitting, Partly, Ready, OneMore, Open, Laid, Full, Closed};
 use rules::Refusal;
 use rules::Written;
 use shape::Shape;
@@ -21,10 +21,12 @@ pub struct Lows {
 }
 
 // The upper run so far: its words that stand in the room, the bits above them, and the next pointer's number.
+// A one below `stop` falls into the word in hand, and no pointer is due before it.
 pub struct Ups {
     pub acc: u64,
     pub words: usize,
     pub next: usize,
+    pub stop: usize,
 }
 
 // A block of which `count` elements are laid.
@@ -32,6 +34,16 @@ pub struct Filling {
     pub count: usize,
     pub lows: Lows,
     pub ups: Ups,
+}
+
+// The lesser of two numbers.
+pub fn lesser(a: usize, b: usize) -> usize
+    ensures { λ r. ⌜ r ≡ min a b ⌝ }
+{
+    if a < b {
+        return a;
+    }
+    b
 }
 
 // Writes words of a run up to number `to`: acc, and zeros above it. Gives what is left of acc.
@@ -104,12 +116,13 @@ pub fn begin(room: &mut [u8], g: Shape) -> Filling
             acc: 0,
             words: 0,
             next: 1,
+            stop: 64,
         },
     }
 }
 
 // Lays x, which is above the elements laid so far.
-pub fn put(room: &mut [u8], g: Shape, f: Filling, x: usize) -> Filling
+fn put(room: &mut [u8], g: Shape, f: Filling, x: usize) -> Filling
     requires { ⌜ Ready g f x (now room) ⌝ }
     ensures { λ r. ⌜ OneMore g f x r (now (room .entry)) (now (room .exit)) ⌝ }
 {
@@ -118,6 +131,7 @@ pub fn put(room: &mut [u8], g: Shape, f: Filling, x: usize) -> Filling
     let next = put_pointers(room, f.ups.next, high, f.count);
     let place = high + f.count;
     let word = put_words(room, g.upper, f.ups.words, place / 64, f.ups.acc);
+    let stop = lesser(64 * (place / 64) + 64, 256 * next + f.count);
     Filling {
         count: f.count + 1,
         lows,
@@ -125,8 +139,60 @@ pub fn put(room: &mut [u8], g: Shape, f: Filling, x: usize) -> Filling
             acc: word + (1u64 << (place % 64)),
             words: place / 64,
             next,
+            stop,
         },
     }
+}
+
+// Lays x, whose one lies below the stop.
+fn put_near(room: &mut [u8], g: Shape, f: Filling, x: usize) -> Filling
+    requires { ⌜ Ready g f x (now room) × (x / 2 ^ g .w + f .count < f .ups .stop) ⌝ }
+    ensures { λ r. ⌜ OneMore g f x r (now (room .entry)) (now (room .exit)) ⌝ }
+{
+    let lows = put_low(room, g.lower, g.w, f.lows, x);
+    let place = (x >> g.w) + f.count;
+    Filling {
+        count: f.count + 1,
+        lows,
+        ups: Ups {
+            acc: f.ups.acc | (1u64 << (place % 64)),
+            words: f.ups.words,
+            next: f.ups.next,
+            stop: f.ups.stop,
+        },
+    }
+}
+
+// Lays the elements from number `from` on whose ones lie below the stop.
+fn lay_near(room: &mut [u8], g: Shape, start: Filling, list: &[u32], from: usize) -> Filling
+    requires { ⌜ (from ≤ length (now list)) × Open g start (drop from (now list)) (now room) ⌝ }
+    ensures { λ r. ⌜ (start .count ≤ r .count) × (r .count ≤ start .count + (length (now (list .entry)) - from))
+        × Laid g start (drop from (now (list .entry))) (r .count - start .count) r (now (room .entry)) (now (room .exit)) ⌝ }
+{
+    let mut f = start;
+    for i in from..list.len() {
+        let x = list[i] as usize;
+        if f.ups.stop <= (x >> g.w) + f.count {
+            return f;
+        }
+        f = put_near(room, g, f, x);
+    }
+    f
+}
+
+// Lays all elements of the list, which are above those laid so far.
+pub fn lay(room: &mut [u8], g: Shape, start: Filling, list: &[u32]) -> Filling
+    requires { ⌜ Open g start (now list) (now room) ⌝ }
+    ensures { λ r. ⌜ Laid g start (now (list .entry)) (length (now (list .entry))) r (now (room .entry)) (now (room .exit)) ⌝ }
+{
+    let mut f = start;
+    let mut i: usize = 0;
+    while i < list.len() {
+        f = put(room, g, f, list[i] as usize);
+        f = lay_near(room, g, f, list, i + 1);
+        i = f.count - start.count;
+    }
+    f
 }
 
 // Writes what is in hand when all elements are laid: the last words, and the pointers behind the last element.
@@ -145,19 +211,23 @@ pub fn finish(room: &mut [u8], g: Shape, f: Filling)
     put_words(room, g.upper, f.ups.words, (g.end - g.upper) / 8, f.ups.acc);
 }
 
-// Whether the list rises strictly and stays below u.
+// Whether the list rises strictly and stays below u. No pair of neighbours ends the loop, so that it takes several at once.
 pub fn rises(u: usize, list: &[u32]) -> bool
     ensures { λ r. ⌜ r ≡ rising 0 u (now (list .entry)) ⌝ }
 {
-    let mut lo: usize = 0;
-    for i in 0..list.len() {
-        let x = list[i] as usize;
-        if x < lo {
-            return false;
-        }
-        lo = x + 1;
+    if list.len() == 0 {
+        return true;
     }
-    lo <= u
+    let mut falls = false;
+    for i in 1..list.len() {
+        if list[i] <= list[i - 1] {
+            falls = true;
+        }
+    }
+    if falls {
+        return false;
+    }
+    (list[list.len() - 1] as usize) < u
 }
 
 // Writes the block of a rising list of g's size.
@@ -165,10 +235,8 @@ pub fn fill(room: &mut [u8], g: Shape, list: &[u32])
     requires { ⌜ Fitting g (now room) × (length (now list) ≡ g .n) × (rising 0 (g .u) (now list) ≡ true) ⌝ }
     ensures { λ _. ⌜ now (room .exit) ≡ laid (block (g .u) (now (list .entry))) (now (room .entry)) ⌝ }
 {
-    let mut f = begin(room, g);
-    for i in 0..list.len() {
-        f = put(room, g, f, list[i] as usize);
-    }
+    let start = begin(room, g);
+    let f = lay(room, g, start, list);
     finish(room, g, f);
 }
 

@@ -1,20 +1,19 @@
 -- Laws of the tests of a word, read from the front: what is left to test gives what all of it gives.
-use mathlib.Core.Bool.{true, false, _&&_, and-false}
+use mathlib.Core.Bool.{false, and-false}
 use mathlib.Core.Path.{_≡_, refl, sym, ap, _∙_}
 use mathlib.Core.List.{List, [], _∷_}
-use Prim.Native.Nat.{ℕ, _+_, _-_, _≤_, _<_}
+use Prim.Native.Nat.{ℕ, zero, suc, _+_, _-_, _≤_, _<_}
 use native.Mathlib.Nat.{add-zero, add-assoc}
 use native.Mathlib.Decide.{ℕ-discrete}
 use native.Mathlib.Omega.{arith}
-use borrow.Author.Tests.{le-leb, lt-leb, lt-ltb, eq-eqb, ne-eqb}
+use borrow.Author.Tests.{lt-ltb, eq-eqb, ne-eqb}
 use lib.Dec.{eqb}
-use lib.ListN.{length, getD, take, drop, drop-of-length-le}
-use lib.Seq.{drop-drop}
-use Rattle.rules.specs.Term.{total, next, raised, placed, positive, inOrder, inOrderByPage}
+use lib.ListN.{length, getD, take, drop, length-drop, drop-of-length-le}
+use lib.Seq.{length-take-le, getD-take, getD-drop, drop-drop}
+use Rattle.rules.specs.Term.{total, next, raised, placed, positive}
 use Rattle.termlaws.proofs.OrderLaws.{next-append}
 use Rattle.writelist.proofs.RiseLaws.{drop-front}
-use Rattle.writeterm.specs.declared.Reach.{Reach}
-use Rattle.writeterm.specs.Reach.{summing, Ordered}
+use Rattle.writeterm.specs.Reach.{summing}
 
 -- ---- counts
 
@@ -58,27 +57,17 @@ summing-end n cs i h =
       | no e ↦ ne-eqb 0 n (λ f. e (sym f)) ∙ sym (ne-eqb n 0 e)
     ]
 
--- ---- one page
+-- ---- how far positions reach
 
-module _ (lo : ℕ) (ps : List ℕ) (i : ℕ) (h : i < length ps) where
-  abbrev p : ℕ
-  p = getD ps i 0
+pub next-last : (lo : ℕ) (xs : List ℕ) (k : ℕ) → length xs ≡ suc k → next lo xs ≡ getD xs k 0 + 1
+unfolding next
+next-last lo [] k e = absurd (omega arith)
+next-last lo (x ∷ []) zero e = refl
+next-last lo (x ∷ []) (suc k) e = absurd (omega arith)
+next-last lo (x ∷ (y ∷ xs)) zero e = absurd (omega arith)
+next-last lo (x ∷ (y ∷ xs)) (suc k) e = next-last (x + 1) (y ∷ xs) k (omega arith)
 
-  pub order-falls : p < lo → inOrder lo (drop i ps) ≡ false
-  unfolding inOrder
-  order-falls l = ap (inOrder lo) (drop-front ps i h) ∙ rw (lt-leb lo p l)
-
-  pub order-on : lo ≤ p → inOrder lo (drop i ps) ≡ inOrder (p + 1) (drop (i + 1) ps)
-  unfolding inOrder
-  order-on l = ap (inOrder lo) (drop-front ps i h) ∙ rw (le-leb lo p l)
-
-  pub next-on : next lo (drop i ps) ≡ next (p + 1) (drop (i + 1) ps)
-  unfolding next
-  next-on = ap (next lo) (drop-front ps i h)
-
--- ---- all pages
-
-pub next-raised : (b lo : ℕ) (ps : List ℕ) → next (b + lo) (raised b ps) ≡ b + next lo ps
+next-raised : (b lo : ℕ) (ps : List ℕ) → next (b + lo) (raised b ps) ≡ b + next lo ps
 unfolding next raised
 next-raised b lo [] = refl
 next-raised b lo (p ∷ ps) = ap (λ k. next k (raised b ps)) (add-assoc b p 1) ∙ next-raised b (p + 1) ps
@@ -103,33 +92,17 @@ module _ (cs ps : List ℕ) (i from : ℕ) (h : i < length cs) where
   abbrev c : ℕ
   c = getD cs i 0
 
-  spanned-on : spanned (drop i cs) (drop from ps)
-      ≡ next 0 (take c (drop from ps)) + spanned (drop (i + 1) cs) (drop (from + c) ps)
+  pub spanned-on : 0 < c → from + c ≤ length ps → spanned (drop i cs) (drop from ps)
+      ≡ getD ps (from + c - 1) 0 + 1 + spanned (drop (i + 1) cs) (drop (from + c) ps)
   unfolding spanned
-  spanned-on = ap (λ l. spanned l (drop from ps)) (drop-front cs i h) ∙ rw (drop-drop c from ps)
-
-  pages-on : inOrderByPage (drop i cs) (drop from ps)
-      ≡ inOrder 0 (take c (drop from ps)) && inOrderByPage (drop (i + 1) cs) (drop (from + c) ps)
-  unfolding inOrderByPage
-  pages-on = ap (λ l. inOrderByPage l (drop from ps)) (drop-front cs i h) ∙ rw (drop-drop c from ps)
-
-  -- by what is known of the page there
-  module _ (r : Reach) (o : Ordered (take (from + c - from) (drop from ps)) r) where
-    page : Ordered (take c (drop from ps)) r
-    page =
-        let e : from + c - from ≡ c = omega arith in
-        rw e at o
-
-    pub page-falls : r .ok ≡ false → inOrderByPage (drop i cs) (drop from ps) ≡ false
-    page-falls f = pages-on ∙ rw (← page .says, f)
-
-    pub page-on : r .ok ≡ true
-        → inOrderByPage (drop i cs) (drop from ps) ≡ inOrderByPage (drop (i + 1) cs) (drop (from + c) ps)
-    page-on t = pages-on ∙ rw (← page .says, t)
-
-    pub page-spans : r .ok ≡ true
-        → spanned (drop i cs) (drop from ps) ≡ r .next + spanned (drop (i + 1) cs) (drop (from + c) ps)
-    page-spans t = spanned-on ∙ rw (← page .ends t)
+  spanned-on some within =
+      let l : length (take c (drop from ps)) ≡ suc (c - 1) =
+      length-take-le c (drop from ps) (rw length-drop (omega arith)) ∙ omega arith in
+      let e : from + (c - 1) ≡ from + c - 1 = omega arith in
+      let n : next 0 (take c (drop from ps)) ≡ getD ps (from + c - 1) 0 + 1 =
+      next-last 0 (take c (drop from ps)) (c - 1) l
+      ∙ rw (getD-take c (drop from ps) (c - 1) 0 (omega arith), getD-drop from ps (c - 1) 0, e) in
+      ap (λ l. spanned l (drop from ps)) (drop-front cs i h) ∙ rw (drop-drop c from ps, n)
 
 pub total-on : (cs : List ℕ) (i : ℕ) → i < length cs → total (drop i cs) ≡ getD cs i 0 + total (drop (i + 1) cs)
 unfolding total

@@ -15,9 +15,11 @@ pub no-word : (N e : ℕ) (ps cs qs : List ℕ) → validWord N (wordOf ps cs qs
     → Reached (validWord N (wordOf ps cs qs)) e (record { ok = false; next = 0 })
 no-word N e ps cs qs v = record { says = sym v; ends = λ t. absurd (false≢true t) }
 
-pub summing-total : (n : ℕ) (cs : List ℕ) → summing n cs ≡ true → total cs ≡ n
+pub summing-parts : (n : ℕ) (cs : List ℕ) → summing n cs ≡ true → (total cs ≡ n) × (positive cs ≡ true)
 unfolding summing
-summing-total n cs s = eqb-true (total cs) n (and-parts (positive cs) (eqb (total cs) n) s .1)
+summing-parts n cs s =
+    let t = and-parts (positive cs) (eqb (total cs) n) s in
+    (eqb-true (total cs) n (t .1), t .0)
 
 module _ (N : ℕ) (ps cs qs : List ℕ) where
   pub lengths-differ : (length ps ≡ length cs → ⊥) → validWord N (wordOf ps cs qs) ≡ false

@@ -1,2 +1,3 @@
 pub mod Reach
 pub mod Lists
+pub mod Stretch

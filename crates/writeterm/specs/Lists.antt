@@ -1,33 +1,20 @@
 -- What is asked of the lists of a word before they are laid into room.
 --
---   Follows g xs ys    the elements ys may follow xs in a block of shape g
---   Page g f ys room   some elements are laid, and those of one page, ys, may follow
 --   Sums g cs room     the sums of cs make a list of shape g, and the room holds its block
 --   Places g cs ps room  the elements of the positions ps likewise
 --   Shaped p c q ps cs qs  p, c and q are the shapes of the lists of a writable word
 use mathlib.Core.Bool.{true}
 use mathlib.Core.Path.{_≡_}
-use mathlib.Core.List.{List, _++_}
-use Prim.Native.Nat.{ℕ, _≤_}
+use mathlib.Core.List.{List}
+use Prim.Native.Nat.{ℕ}
 use lib.ListN.{length}
 use Rattle.rules.specs.List.{rising}
 use Rattle.rules.specs.Term.{total, next, placed, places, positive}
 use Rattle.termlaws.specs.Words.{Writable}
 use Rattle.shape.specs.declared.Shape.{Shape}
 use Rattle.shape.specs.Shape.{shapeOf}
-use Rattle.writelist.specs.declared.Filling.{Filling}
-use Rattle.writelist.specs.Filling.{Fitting, Partly}
+use Rattle.writelist.specs.Filling.{Fitting}
 use Rattle.writeterm.specs.Reach.{wordOf}
-
-pub record Follows (g : Shape) (xs ys : List ℕ) : Type 0 where
-  pub few : length (xs ++ ys) ≤ g .n
-  pub rises : rising 0 (g .u) (xs ++ ys) ≡ true
-
-pub record Page (g : Shape) (f : Filling) (ys room : List ℕ) : Type 0 where
-  pub xs : List ℕ
-  pub before : List ℕ
-  pub partly : Partly g xs f before room
-  pub follows : Follows g xs ys
 
 pub record Sums (g : Shape) (cs room : List ℕ) : Type 0 where
   pub fitting : Fitting g room

@@ -3,15 +3,17 @@
 --   wordOf ps cs qs    the word of these pages, counts and positions
 --   summing n cs       every count is at least 1, and their sum is n
 --   capped x           x, or limit + 1 where that is less
---   Ordered ps r       r says whether one page's positions are in order, and where they end
+--   fallAt ps i        1 where element i does not rise above the one before it, else 0; the first has none before it
+--   fallsIn ps i k     how many of the k elements from number i on do not rise
 --   Reached v e r      r says whether v, and if so it is e, capped
-use mathlib.Core.Bool.{Bool, true, _&&_}
+use mathlib.Core.Bool.{Bool, true, cond, _&&_}
 use mathlib.Core.Path.{_≡_}
 use mathlib.Core.List.{List}
-use Prim.Native.Nat.{ℕ, _+_, _^_, _≤_, min}
-use lib.Dec.{eqb}
+use Prim.Native.Nat.{ℕ, zero, suc, _+_, min}
+use lib.Dec.{leb, eqb}
+use lib.ListN.{getD}
 use Rattle.rules.specs.Limits.{limit}
-use Rattle.rules.specs.Term.{Word, total, next, positive, inOrder}
+use Rattle.rules.specs.Term.{Word, total, positive}
 use Rattle.writeterm.specs.declared.Reach.{Reach}
 
 abbrev pub wordOf : List ℕ → List ℕ → List ℕ → Word
@@ -23,10 +25,13 @@ summing n cs = positive cs && eqb (total cs) n
 abbrev pub capped : ℕ → ℕ
 capped x = min x (limit + 1)
 
-pub record Ordered (ps : List ℕ) (r : Reach) : Type 0 where
-  pub says : r .ok ≡ inOrder 0 ps
-  pub ends : r .ok ≡ true → r .next ≡ next 0 ps
-  pub small : r .next ≤ 2 ^ 32
+unfoldable pub fallAt : List ℕ → ℕ → ℕ
+fallAt ps zero = 0
+fallAt ps (suc i) = cond (leb (getD ps (suc i) 0) (getD ps i 0)) 1 0
+
+unfoldable pub fallsIn : List ℕ → ℕ → ℕ → ℕ
+fallsIn ps i zero = 0
+fallsIn ps i (suc k) = fallAt ps i + fallsIn ps (suc i) k
 
 pub record Reached (v : Bool) (e : ℕ) (r : Reach) : Type 0 where
   pub says : r .ok ≡ v

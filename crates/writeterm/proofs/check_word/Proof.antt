@@ -4,7 +4,7 @@ use borrow.Author.Tests.{not-true, not-false}
 use borrow.Author.Needs.{needs}
 use lib.ListN.{length}
 use Rattle.rules.specs.Term.{places}
-use Rattle.writeterm.proofs.WordLaws.{no-word, summing-total, lengths-differ}
+use Rattle.writeterm.proofs.WordLaws.{no-word, summing-parts, lengths-differ}
 use Rattle.writeterm.proofs.WordLaws.{pages-fall, counts-fail, positions-left}
 use Rattle.writeterm.proofs.check_word.Statement.{statement}
 use Rattle.writeterm.proofs.check_word.Tie as tie
@@ -35,7 +35,7 @@ returns-3 c =
 positions-rise-requires : tie.Need-positions-rise-requires
 positions-rise-requires c κs =
     let a = c .before .before .before .before .before .before .before .before .args in
-    summing-total (length (a .positions .now)) (a .counts .now)
+    summing-parts (length (a .positions .now)) (a .counts .now)
     (sym (c .before .counts-fit .ensures) ∙ not-false (c .before .counts-fit .result) (c .if3 .left))
 
 returns-4 : tie.Need-returns-4

@@ -1,96 +1,104 @@
--- `positions_rise` tests page by page: what is left gives what all of it gives, with a base that stops above the limit.
-use mathlib.Core.Bool.{false≢true}
+-- `positions_rise` goes from page to page: what is left gives what all of it gives, with a base that stops above the limit.
 use mathlib.Core.List.{[]}
-use mathlib.Core.Path.{_≡_, refl, sym, _∙_}
-use Prim.Native.Nat.{_+_, _-_, _≤_}
+use mathlib.Core.Path.{_≡_, refl, sym, ap, ap₂, _∙_}
+use Prim.Native.Nat.{_+_, _-_, _^_, _≤_, _<_}
 use native.Mathlib.Omega.{arith}
-use borrow.Author.Tests.{not-true, not-false}
 use borrow.Author.Needs.{needs}
-use lib.ListN.{length, drop, drop-of-length-le}
+use lib.Dec.{eqb}
+use lib.ListN.{length, getD, drop, drop-of-length-le}
 use Rattle.rules.specs.Limits.{limit}
-use Rattle.rules.specs.Term.{total, inOrderByPage}
-use Rattle.writeterm.specs.Reach.{capped}
-use Rattle.writeterm.proofs.CheckLaws.{spanned, page-falls, page-on, page-spans, total-on, next-placed}
+use Rattle.rules.specs.Term.{total}
+use Rattle.writeterm.specs.Reach.{capped, fallsIn}
+use Rattle.writeterm.proofs.CheckLaws.{spanned, spanned-on, total-on, next-placed}
+use Rattle.writeterm.proofs.FallLaws.{seams, seams-on, seams-none, pages-in-order}
+use Rattle.writeterm.proofs.LayLaws.{positive-at}
 use Rattle.writeterm.proofs.positions_rise.Statement.{statement}
 use Rattle.writeterm.proofs.positions_rise.Tie as tie
 
 abbrev Inv-loop : tie.InvT-loop
-Inv-loop counts positions base₀ from₀ i₀ i-end base from i =
+Inv-loop counts positions base₀ from₀ seams₀ i₀ i-end base from fell i =
     (i ≤ length counts) × (i-end ≡ length counts) × (from + total (drop i counts) ≡ length positions)
-    × (base ≤ limit + 1)
-    × (inOrderByPage counts positions ≡ inOrderByPage (drop i counts) (drop from positions))
+    × (base ≤ limit + 1) × (fell ≤ i)
+    × (seams 0 counts positions ≡ fell + seams from (drop i counts) positions)
     × (capped (spanned counts positions) ≡ capped (base + spanned (drop i counts) (drop from positions)))
 
 abbrev μ-loop : tie.MeasureT-loop
-μ-loop counts positions base₀ from₀ i₀ i-end base from i = length counts - i
+μ-loop counts positions base₀ from₀ seams₀ i₀ i-end base from fell i = length counts - i
+
+-- the start, seen from the loop
+abbrev entry : tie.At-loop Inv-loop μ-loop → tie.Start Inv-loop μ-loop
+entry l = l .before .before .before
 
 loop-holds : tie.Need-loop-holds Inv-loop μ-loop
-loop-holds c = (omega arith, refl, omega (arith, c .before .before .pre), omega arith, refl, omega arith)
+loop-holds c = (
+  omega arith,
+  refl,
+  omega (arith, c .before .before .pre .0),
+  omega arith,
+  omega arith,
+  omega arith,
+  omega arith,
+)
 
-cast-to : tie.Need-cast-to Inv-loop μ-loop
-cast-to c = omega (arith, c .shared-slice-known3 .given (c .before .before .loop .i))
+-- the next page: its positions, its last one among them, and those of the pages behind it
+page : (c : tie.In-loop Inv-loop μ-loop)
+    → let l = c .before in
+    let a = entry l .args in
+    let n = getD (a .counts .now) (l .loop .i) 0 in
+    (0 < n) × (l .loop .from + n + total (drop (l .loop .i + 1) (a .counts .now)) ≡ length (a .positions .now))
+page c =
+    let l = c .before in
+    let s = entry l in
+    let cs = s .args .counts .now in
+    let h : l .loop .i < length cs = omega arith in
+    (positive-at cs (s .pre .1) (l .loop .i) h, omega (arith, total-on cs (l .loop .i) h))
 
-add-to : tie.Need-add-to Inv-loop μ-loop
-add-to c =
-    let l = c .before .before in
-    let a = l .before .before .before .args in
-    omega (arith, total-on (a .counts .now) (l .loop .i) (omega arith))
+cast-from : tie.Need-cast-from Inv-loop μ-loop
+cast-from c = omega (arith, c .shared-slice-known3 .given (c .before .before .before .loop .i))
 
-part-page-rises-start : tie.Need-part-page-rises-start Inv-loop μ-loop
-part-page-rises-start c =
-    let l = c .before .before in
-    let a = l .before .before .before .args in
-    omega (arith, total-on (a .counts .now) (l .loop .i) (omega arith))
-
-part-page-rises-end : tie.Need-part-page-rises-end Inv-loop μ-loop
-part-page-rises-end c =
-    let l = c .before .before in
-    let a = l .before .before .before .args in
-    omega (arith, total-on (a .counts .now) (l .loop .i) (omega arith))
-
-returns : tie.Need-returns Inv-loop μ-loop
-returns c =
-    let k = c .before .before .page-rises in
-    let l = c .before .before .before .before .before .before in
-    let a = l .before .before .before .args in
-    record {
-      says = sym (l .loop .inv .4 ∙ page-falls (a .counts .now) (a .positions .now) (l .loop .i) (l .loop .from)
-          (omega arith) (k .result) (k .ensures) (not-true (k .result .ok) (c .if1 .taken)));
-      ends = λ e. absurd (false≢true e);
-    }
-
-add-capped : tie.Need-add-capped Inv-loop μ-loop
-add-capped c = omega (arith, c .before .before .before .page-rises .ensures .small)
+last-fits : (c : tie.After-shared-slice-known4 Inv-loop μ-loop)
+    → let l = c .before .before .before .before in
+    let a = entry l .args in
+    getD (a .positions .now) (l .loop .from + getD (a .counts .now) (l .loop .i) 0 - 1) 0 < 2 ^ 32
+last-fits c =
+    let l = c .before .before .before .before in
+    let a = entry l .args in
+    omega (arith, c .shared-slice-known4 .given (l .loop .from + getD (a .counts .now) (l .loop .i) 0 - 1))
 
 loop-again : tie.Need-loop-again Inv-loop μ-loop
 loop-again c =
-    let k = c .before .before .before .before .page-rises in
-    let l = c .before .before .before .before .before .before .before .before in
-    let a = l .before .before .before .args in
-    let ok = not-false (k .result .ok) (c .before .before .if1 .left) in
-    let s = page-spans (a .counts .now) (a .positions .now) (l .loop .i) (l .loop .from) (omega arith) (k .result)
-    (k .ensures) ok in (
+    let f = c .before .before .before in
+    let t = f .before in
+    let l = t .before in
+    let a = entry l .args in
+    let cs = a .counts .now in
+    let ps = a .positions .now in
+    let i = l .loop .i in
+    let h : i < length cs = omega arith in
+    let p = page t in (
       omega arith,
       omega arith,
-      omega (arith, total-on (a .counts .now) (l .loop .i) (omega arith)),
+      p .1,
       omega (arith, c .capped .ensures),
-      l .loop .inv .4
-          ∙ page-on (a .counts .now) (a .positions .now) (l .loop .i) (l .loop .from) (omega arith) (k .result)
-          (k .ensures) ok,
-      omega (arith, s, c .capped .ensures),
+      omega (arith, f .fall .ensures),
+      omega (arith, l .loop .inv .5, f .fall .ensures, seams-on (l .loop .from) cs ps i h),
+      omega (arith, l .loop .inv .6, c .capped .ensures, spanned-on cs ps i (l .loop .from) h (p .0) (omega (arith, p))),
     )
 
-returns-2 : tie.Need-returns-2 Inv-loop μ-loop
-unfolding inOrderByPage spanned
-returns-2 c =
-    let l = c .before in
-    let a = l .before .before .before .args in
-    let d : drop (l .loop .i) (a .counts .now) ≡ [] =
-    drop-of-length-le (a .counts .now) {i = l .loop .i} (omega arith) in
-    let s = rw d at (l .loop .inv .5) in
+returns : tie.Need-returns Inv-loop μ-loop
+unfolding spanned
+returns c =
+    let l = c .before .before in
+    let s = entry l in
+    let cs = s .args .counts .now in
+    let ps = s .args .positions .now in
+    let d : drop (l .loop .i) cs ≡ [] = drop-of-length-le cs {i = l .loop .i} (omega arith) in
+    let n : seams 0 cs ps ≡ l .loop .seams =
+    omega (arith, rw d at (l .loop .inv .5), seams-none (l .loop .from) ps) in
     record {
-      says = sym (l .loop .inv .4 ∙ rw d);
-      ends = λ e. omega (arith, s, next-placed 0 (a .counts .now) (a .positions .now));
+      says = sym (pages-in-order 0 cs ps (s .pre .1) (omega (arith, s .pre .0))
+          ∙ ap₂ eqb (ap (fallsIn ps 0) (s .pre .0) ∙ sym (c .falls .ensures)) n);
+      ends = λ e. omega (arith, rw d at (l .loop .inv .6), next-placed 0 cs ps);
     }
 
 pub positions-rise-spec : {M : Type 1} → statement M
@@ -100,19 +108,21 @@ positions-rise-spec =
     Inv-loop
     μ-loop
     loop-holds
+    (λ c κs. omega (arith, page c))
+    (λ c. omega (arith, c .fall .ensures))
     (λ c. search needs)
     (λ c. search needs)
-    cast-to
-    add-to
-    (λ c. search needs)
-    (λ c. search needs)
-    part-page-rises-start
-    part-page-rises-end
-    (λ c κs. search needs)
-    returns
-    add-capped
+    cast-from
+    (λ c. omega (arith, page (c .before .before)))
+    (λ c. omega (arith, page (c .before .before)))
+    (λ c. omega (arith, page (c .before .before)))
+    (λ c. omega (arith, page (c .before .before .before)))
+    (λ c. omega (arith, last-fits c))
+    (λ c. omega (arith, last-fits c))
+    (λ c. omega (arith, last-fits c))
     (λ c κs. search needs)
     (λ c. search needs)
     (λ c. search needs)
     loop-again
-    returns-2)
+    (λ c κs. search needs)
+    returns)
