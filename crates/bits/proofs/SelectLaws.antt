@@ -17,9 +17,9 @@ use lib.Pow.{split, pow-pos, pow-add, pow-mono, shr-lt, shr-shr, shl-shr, field,
 use Rattle.laws.proofs.BitLaws.{drop-low, shl-keeps, digit}
 use Rattle.laws.proofs.CountLaws.{ones-parts}
 use Rattle.bits.specs.Words.{placeOfOne}
-use Rattle.bits.specs.ByteCounts.{each, byteOnes, runningOnes, marked}
+use Rattle.bits.specs.ByteCounts.{each, byteOnes, runningOnes, highestByte, marked}
 use Rattle.bits.proofs.WordLaws.{place-past, place-here, place-next, place-shl, place-trailing}
-use Rattle.bits.proofs.WordLaws.{place-none, place-empty, place-mod, place-low, place-high}
+use Rattle.bits.proofs.WordLaws.{place-mod, place-low, place-high}
 
 -- ---- the lowest one taken away
 
@@ -205,6 +205,14 @@ running-at (suc m) a x (suc i) h l =
     (running-at m v (x / 256) i (omega arith) (omega arith)
     ∙ add-assoc a (ones (x % 256)) (ones (x / 256 % 2 ^ (8 * i + 8))))
 
+-- the last of them counts all
+pub running-total : (x s : ℕ) → s ≡ runningOnes 8 0 x → x < 2 ^ 64 → highestByte s ≡ ones x
+running-total x s e h =
+    let l : runningOnes 8 0 x < 2 ^ 64 =
+    subst (λ (n : ℕ). n < 2 ^ 64) (running-is 8 0 x (lit< tt)) (mod-lt ((byteOnes 8 x + 0) * each 8 1) (pow-pos 64)) in
+    let a : s / 2 ^ 56 % 256 ≡ 0 + ones (x % 2 ^ 64) = rw e (running-at 8 0 x 7 (lit< tt) (lit< tt)) in
+    omega (arith, rw (mod-eq-of-lt h) at a)
+
 -- a byte below the a low bits
 byte-kept : (n a b k : ℕ) → a + 8 + k ≡ b → n % 2 ^ b / 2 ^ k % 2 ^ 8 ≡ n / 2 ^ k % 2 ^ 8
 byte-kept n a b k e = subst (λ (i : ℕ). n % 2 ^ i / 2 ^ k % 2 ^ 8 ≡ n / 2 ^ k % 2 ^ 8) e (rw (field, mod-mod-pow))
@@ -363,7 +371,7 @@ place-byte x j i h b r =
     place-high (8 * i) (8 + d) x (j - c) in
     ap (λ (q : ℕ). 8 * i + q) (place-mod 8 y (j - c) ∙ sym low) ∙ sym all ∙ ap₂ (λ (k q : ℕ). placeOfOne k x q) e f
 
--- ---- as `select_one` has them, where s holds the counts added up and t is the first mark's place
+-- ---- as `select_by` has them, where s holds the counts added up and t is the first mark's place
 
 abbrev before : ℕ → ℕ → ℕ
 before s t = bitAnd ((s * 2 ^ 8) % 2 ^ 64 / 2 ^ (t - 7)) 255
@@ -400,26 +408,16 @@ held-at x j t i e h b r =
       lands = λ n u. ap₂ _+_ p (u ∙ ap₂ (placeOfOne 8) y (ap (λ (k : ℕ). j - k) q)) ∙ place-byte x j i h b r;
     }
 
-module _ (x j s p : ℕ) (counts : s ≡ runningOnes 8 0 x) (marks : p ≡ marked 8 s j) (small : j < 64) where
-  outcome : Search 8 0 x j p
-  outcome =
-      subst (Search 8 0 x j) (ap (λ (n : ℕ). marked 8 n j) (sym counts) ∙ sym marks)
-      (searched 8 0 x j (omega arith) (omega arith) (lit< tt))
-
-  pub held : (p ≡ 0 → ⊥) → Held x j s (trailingZeros 64 p)
-  held some =
-      elim outcome [
-        | inl n ↦ absurd (some (n .0))
-        | inr f ↦ subst (λ (n : ℕ). Held x j n (trailingZeros 64 p)) (sym counts)
-            (held-at x j (trailingZeros 64 p) (f .byte) (place-trailing 64 p ∙ f .place) (f .within)
-            (omega (arith, f .below)) (omega (arith, f .reach)))
-      ]
-
-  pub none-held : p ≡ 0 → placeOfOne 64 x j ≡ 64
-  none-held e =
-      elim outcome [
-        | inl n ↦ place-none 64 x j (omega (arith, n .1))
-        | inr f ↦
-            let z : placeOfOne 64 p 0 ≡ 64 = rw e (place-empty 64 0) in
-            absurd (omega (arith, z, f .place, f .within))
-      ]
+pub held : (x j s p : ℕ) → s ≡ runningOnes 8 0 x → p ≡ marked 8 s j → x < 2 ^ 64 → j < ones x
+    → Held x j s (trailingZeros 64 p)
+held x j s p counts marks fits some =
+    let small : j < 64 = omega (arith, ones-le 64 x fits) in
+    let outcome : Search 8 0 x j p =
+    subst (Search 8 0 x j) (ap (λ (n : ℕ). marked 8 n j) (sym counts) ∙ sym marks)
+    (searched 8 0 x j (omega arith) (omega arith) (lit< tt)) in
+    elim outcome [
+      | inl n ↦ absurd (omega (arith, rw (mod-eq-of-lt fits) at (n .1)))
+      | inr f ↦ subst (λ (n : ℕ). Held x j n (trailingZeros 64 p)) (sym counts)
+          (held-at x j (trailingZeros 64 p) (f .byte) (place-trailing 64 p ∙ f .place) (f .within)
+          (omega (arith, f .below)) (omega (arith, f .reach)))
+    ]

@@ -6,16 +6,16 @@ use mathlib.Core.Path.{_≡_, refl, sym, ap, _∙_, subst}
 use mathlib.Core.Logic.{inl, inr}
 use mathlib.Core.List.{List}
 use Prim.Native.Nat.{ℕ, zero, suc, _+_, _-_, _*_, _/_, _%_, _^_, _≤_, _<_}
-use native.Mathlib.Nat.{zero-mod, add-zero, zero-add, mul-one, mod-one, div-one, pow-suc, pow-succ'}
+use native.Mathlib.Nat.{add-zero, zero-add, mul-one, mod-one, div-one, pow-suc, pow-succ'}
 use native.Mathlib.Nat.{div-div-eq-div-mul, le-antisymm, le-of-suc-le-suc, lt-of-not-le}
 use native.Mathlib.Numerals.{add-one}
 use native.Mathlib.Omega.{arith}
-use lib.Bits.{bitAnd, shifted-half, shifted-even}
+use lib.Bits.{shifted-half, shifted-even}
 use lib.Pow.{mod-mod-pow, field}
 use lib.Count.{trailingZeros, ones, ones-step}
 use Rattle.rules.specs.Runs.{bit, runWord, runBit}
 use Rattle.rules.specs.Counts.{onesBelow}
-use Rattle.laws.proofs.BitLaws.{bit-zero, bit-suc, bit-shr, one-zero, tz-below, clear-low, digit}
+use Rattle.laws.proofs.BitLaws.{bit-zero, bit-suc, bit-shr, one-zero, tz-below, digit}
 use Rattle.laws.proofs.RunLaws.{run-bit}
 use Rattle.laws.proofs.CountLaws.{word-ones}
 use Rattle.bits.specs.Words.{placeOfOne, placeOfZero, nextOne}
@@ -53,15 +53,14 @@ place-shl (suc f) k y j =
     let d : suc f + placeOfOne k y j ≡ suc (f + placeOfOne k y j) = omega arith in
     rw (e, d, place-past (f + k) (y * 2 ^ suc f) j (shifted-even y f), shifted-half) (ap suc (place-shl f k y j))
 
--- `trailing_zeros(x & !((1 << i) - 1))`
-pub next-masked : (x i : ℕ) → x < 2 ^ 64 → i < 64
-    → trailingZeros 64 (bitAnd x ((2 ^ 64 - 1) - ((1 * 2 ^ i) % 2 ^ 64 - 1))) ≡ nextOne 64 x i
+-- that of what is left once the low bits are 0
+pub next-from : (x i : ℕ) → i < 64 → trailingZeros 64 (x / 2 ^ i * 2 ^ i) ≡ nextOne 64 x i
 unfolding nextOne
-next-masked x i l h =
+next-from x i h =
     let s : i + (64 - i) ≡ 64 = omega arith in
-    rw (clear-low x i l h) (place-trailing 64 (x / 2 ^ i * 2 ^ i)
+    place-trailing 64 (x / 2 ^ i * 2 ^ i)
     ∙ subst (λ (k : ℕ). placeOfOne k (x / 2 ^ i * 2 ^ i) 0 ≡ i + placeOfOne (64 - i) (x / 2 ^ i) 0) s
-    (place-shl i (64 - i) (x / 2 ^ i) 0))
+    (place-shl i (64 - i) (x / 2 ^ i) 0)
 
 -- ---- where it is
 
@@ -119,10 +118,6 @@ place-none (suc k) x =
     (λ e h. absurd (omega (arith, ones-low x k)))
     (λ j e h. ap suc (place-none k (x / 2) j (omega (arith, ones-low x k))))
 
-pub place-empty : (k j : ℕ) → placeOfOne k 0 j ≡ k
-unfolding ones
-place-empty k j = place-none k 0 j (rw zero-mod (omega arith))
-
 pub place-some : (k x j : ℕ) → j < ones (x % 2 ^ k) → placeOfOne k x j < k
 unfolding placeOfOne ones
 place-some zero x = λ j h. absurd (omega (arith, ap ones (mod-one x)))
@@ -171,6 +166,13 @@ place-high (suc a) b x j =
           let o : 1 + ones (x / 2 % 2 ^ a) + j ≡ suc (ones (x / 2 % 2 ^ a) + j) = omega arith in
           rw (e, o) (place-next (a + b) x (ones (x / 2 % 2 ^ a) + j) e ∙ ap suc ih)
     ])
+
+-- the ones that are left once the low bits are 0
+pub place-from : (x d j : ℕ) → d ≤ 64 → placeOfOne 64 (x / 2 ^ d * 2 ^ d) j ≡ placeOfOne 64 x (ones (x % 2 ^ d) + j)
+place-from x d j h =
+    let s : d + (64 - d) ≡ 64 = omega arith in
+    subst (λ (n : ℕ). placeOfOne n (x / 2 ^ d * 2 ^ d) j ≡ placeOfOne n x (ones (x % 2 ^ d) + j)) s
+    (place-shl d (64 - d) (x / 2 ^ d) j ∙ sym (place-high d (64 - d) x j))
 
 -- a one with j ones below it is the one number j
 pub place-unique : (k x p : ℕ) → p < k → bit x p ≡ 1 → p ≡ placeOfOne k x (ones (x % 2 ^ p))

@@ -3,8 +3,9 @@
 --   each m b           b in each of m bytes
 --   byteOnes m x       byte i holds how many ones byte i of x has, for the m low bytes of x
 --   runningOnes m a x  byte i holds a and how many ones bytes 0 to i of x have, for the m low bytes of x
+--   highestByte s      the highest byte of a word s; how many ones the word has whose eight running counts are s
 --   marked m s j       the highest bit of each of the m low bytes of s that is above j; j and these bytes below 128
-use Prim.Native.Nat.{ℕ, zero, suc, _+_, _-_, _*_, _/_, _%_}
+use Prim.Native.Nat.{ℕ, zero, suc, _+_, _-_, _*_, _/_, _%_, _^_}
 use lib.Bits.{bitAnd, bitOr}
 use lib.Count.{ones}
 
@@ -19,6 +20,9 @@ byteOnes (suc m) x = byteOnes m (x / 256) * 256 + ones (x % 256)
 unfoldable pub runningOnes : ℕ → ℕ → ℕ → ℕ
 runningOnes zero a x = 0
 runningOnes (suc m) a x = runningOnes m (a + ones (x % 256)) (x / 256) * 256 + (a + ones (x % 256))
+
+abbrev pub highestByte : ℕ → ℕ
+highestByte s = s / 2 ^ 56
 
 -- `((s | 0x80..) - (j + 1) * 0x01..) & 0x80..`
 abbrev pub marked : ℕ → ℕ → ℕ → ℕ

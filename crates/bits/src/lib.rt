@@ -10,7 +10,7 @@ ghost use Rattle.rules.specs.Runs.{runWord, field, wordsFor};
 ghost use Rattle.rules.specs.Counts.{onesBelow};
 ghost use Rattle.rules.specs.List.{width};
 ghost use Rattle.bits.specs.Words.{nextOne, placeOfOne, placeOfZero};
-ghost use Rattle.bits.specs.ByteCounts.{each, byteOnes, runningOnes, marked};
+ghost use Rattle.bits.specs.ByteCounts.{each, byteOnes, runningOnes, highestByte, marked};
 use std::num::wrapping_add_u64;
 
 // ---- big-endian numbers
@@ -119,13 +119,20 @@ pub fn place(acc: u64, b: usize, w: usize, v: u64) -> Pair
     }
 }
 
+// The word with 0 for its j low bits.
+pub fn from_bit(x: u64, j: usize) -> u64
+    requires { ⌜ j < 64 ⌝ }
+    ensures { λ r. ⌜ r ≡ x / 2 ^ j * 2 ^ j ⌝ }
+{
+    (x >> j) << j
+}
+
 // The place of the first one at or after `from`, or 64.
 pub fn next_one(x: u64, from: usize) -> usize
     requires { ⌜ from < 64 ⌝ }
     ensures { λ r. ⌜ (r ≡ nextOne 64 x from) × (r ≤ 64) ⌝ }
 {
-    let m = x & !((1u64 << from) - 1);
-    u64::trailing_zeros(m) as usize
+    u64::trailing_zeros(from_bit(x, from)) as usize
 }
 
 // How many of the j low bits are ones.
@@ -160,10 +167,17 @@ fn summed(counts: u64) -> u64
 }
 
 // How many ones each byte has with the bytes below it.
-fn running_counts(x: u64) -> u64
+pub fn running_counts(x: u64) -> u64
     ensures { λ r. ⌜ r ≡ runningOnes 8 0 x ⌝ }
 {
     summed(byte_counts(x))
+}
+
+// How many ones a word has: the highest of its running counts.
+pub fn total(counts: u64) -> u64
+    ensures { λ r. ⌜ r ≡ highestByte counts ⌝ }
+{
+    counts >> 56
 }
 
 // The highest bit of each byte that is above j.
@@ -184,21 +198,25 @@ fn one_of_byte(b: u8, j: u32) -> u32
     u64::trailing_zeros(above(summed(ones), j)) / 8
 }
 
+// The place of the one number j, counted from 0, of a word that has more ones, by its running counts.
+pub fn select_by(x: u64, counts: u64, j: u32) -> u32
+    requires { ⌜ (counts ≡ runningOnes 8 0 x) × (j < ones x) ⌝ }
+    ensures { λ r. ⌜ (r ≡ placeOfOne 64 x j) × (r < 64) ⌝ }
+{
+    let p = u64::trailing_zeros(above(counts, j)) - 7;
+    let before = (((counts << 8) >> p) & 255) as u32;
+    p + one_of_byte(((x >> p) & 255) as u8, j - before)
+}
+
 // The place of the one number j, counted from 0, or 64.
 pub fn select_one(x: u64, j: u32) -> u32
     ensures { λ r. ⌜ (r ≡ placeOfOne 64 x j) × (r ≤ 64) ⌝ }
 {
-    if 64 <= j {
-        return 64;
-    }
     let counts = running_counts(x);
-    let passed = above(counts, j);
-    if passed == 0 {
+    if total(counts) <= j as u64 {
         return 64;
     }
-    let p = u64::trailing_zeros(passed) - 7;
-    let before = (((counts << 8) >> p) & 255) as u32;
-    p + one_of_byte(((x >> p) & 255) as u8, j - before)
+    select_by(x, counts, j)
 }
 
 // The place of the zero number j, counted from 0, or 64.

@@ -1,6 +1,6 @@
 -- Laws of finding: the blocks of what is accepted can be walked, and a term
 -- found is the block of its word, whatever the terms before it hold.
-use mathlib.Core.Path.{_≡_, _∙_}
+use mathlib.Core.Path.{_≡_, refl, _∙_}
 use mathlib.Core.List.{List}
 use Prim.Native.Nat.{ℕ, zero, suc, _+_, _≤_, _<_}
 use native.Mathlib.Omega.{arith}
@@ -15,8 +15,9 @@ use Rattle.laws.proofs.ByteLaws.{Alike}
 use Rattle.termlaws.proofs.Theorems.{accepted-lists}
 use Rattle.cardlaws.specs.Cards.{termAt}
 use Rattle.cardlaws.proofs.Theorems.{accepted-term, accepted-part}
-use Rattle.parts.specs.Places.{Walkable}
+use Rattle.parts.specs.Places.{Held, Walkable, Placed}
 use Rattle.parts.proofs.PlaceLaws.{part-depends}
+use Rattle.findterm.specs.Starts.{Starts}
 
 -- a block that lies in bytes states four bytes or more, and ends within them
 lies-walks : (h p : ℕ) (s b : List ℕ) → 4 ≤ h → Lies h p s b → (4 ≤ beAt 4 s p) × (p + beAt 4 s p ≤ length s)
@@ -33,6 +34,18 @@ term-walks s a k h (suc zero) l =
 term-walks s a k h (suc (suc zero)) l =
     lies-walks 13 (blockAt 5 2 s) s (positionsOf s) (omega arith) (accepted-lists s a .positions-at)
 term-walks s a k h (suc (suc (suc i))) l = absurd (omega arith)
+
+-- a term that starts at byte `at` lies within the index, and has its place from there on
+pub start-held : (s : List ℕ) (t at : ℕ) → indexRefusal s ≡ Accepted → Starts s t at → Held at s
+start-held s t at a o = rw (o .start) (index-walks s a t (o .below) t (omega arith))
+
+pub start-placed : (s : List ℕ) (t at : ℕ) → indexRefusal s ≡ Accepted → Starts s t at
+    → Placed 11 t s (record { from = at; to = at + beAt 4 s at })
+start-placed s t at a o = record {
+  starts = o .start;
+  ends = refl;
+  within = start-held s t at a o .1;
+}
 
 -- A term found is the block of its word.
 pub found-block : (s : List ℕ) → Bytes s → indexRefusal s ≡ Accepted → (t : ℕ) → t < indexT s → (r : List ℕ)

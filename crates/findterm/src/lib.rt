@@ -1,23 +1,17 @@
-// Finding a term of an accepted index, and the lists of an accepted term, by the lengths that the blocks before them state.
+// Finding terms of an accepted index, and the lists of an accepted term, by the lengths that the blocks before them state.
 
 ghost use mathlib.Core.Path.{_≡_};
-ghost use Prim.Native.Nat.{_<_};
+ghost use Prim.Native.Nat.{_^_, _≤_, _<_};
+ghost use lib.ListN.{length};
 ghost use Rattle.rules.specs.declared.Refusal.the-variants.{Accepted};
 ghost use Rattle.rules.specs.Parts.{part};
 ghost use Rattle.rules.specs.ReadTerm.{listsOf, pagesOf, countsOf, positionsOf, termRefusal};
 ghost use Rattle.rules.specs.Index.{indexT, termPart, indexRefusal};
 ghost use Rattle.parts.specs.Places.{Placed};
+ghost use Rattle.findterm.specs.Starts.{Below, Found, LeastFrom, Put};
 use parts::Place;
 
 // ---- terms of an index
-
-// The place of term number t.
-pub fn term_place(card: &[u8], t: usize) -> Place
-    requires { ⌜ (indexRefusal (now card) ≡ Accepted) × (t < indexT (now card)) ⌝ }
-    ensures { λ r. ⌜ Placed 11 t (now (card .entry)) r ⌝ }
-{
-    parts::block_place(card, 11, t)
-}
 
 // Term number t.
 pub fn find_term(card: &[u8], t: usize) -> &[u8]
@@ -25,6 +19,59 @@ pub fn find_term(card: &[u8], t: usize) -> &[u8]
     ensures { λ r. ⌜ now r ≡ termPart t (now (card .entry)) ⌝ }
 {
     parts::block_of(card, 11, t)
+}
+
+// ---- all terms of a question, by one walk
+
+// More than any number of a term.
+const NONE: usize = 4294967296;
+
+// The least of the terms at or above t, or NONE.
+fn least_from(terms: &[u32], t: usize) -> usize
+    requires { ⌜ t ≤ 2 ^ 32 ⌝ }
+    ensures { λ r. ⌜ LeastFrom (now (terms .entry)) t r ⌝ }
+{
+    let mut least = NONE;
+    let mut i = 0;
+    while i < terms.len() {
+        let term = terms[i] as usize;
+        if t <= term && term < least {
+            least = term;
+        }
+        i += 1;
+    }
+    least
+}
+
+// Puts the byte at which term number t starts, for each of the terms that it is.
+fn put_start(terms: &[u32], t: usize, at: usize, starts: &mut [usize])
+    requires { ⌜ length (now terms) ≤ length (now starts) ⌝ }
+    ensures { λ _. ⌜ Put (now (terms .entry)) t at (now (starts .entry)) (now (starts .exit)) ⌝ }
+{
+    let mut i = 0;
+    while i < terms.len() {
+        if terms[i] as usize == t {
+            starts[i] = at;
+        }
+        i += 1;
+    }
+}
+
+// Puts the bytes at which the terms start, found in rising order on one way over the lengths.
+pub fn find_terms(card: &[u8], terms: &[u32], starts: &mut [usize])
+    requires { ⌜ (indexRefusal (now card) ≡ Accepted) × Below (now card) (now terms)
+        × (length (now terms) ≤ length (now starts)) ⌝ }
+    ensures { λ _. ⌜ Found (now (card .entry)) (now (terms .entry)) (now (starts .exit)) ⌝ }
+{
+    let mut t = 0;
+    let mut at = 11;
+    let mut next = least_from(terms, 0);
+    while next < NONE {
+        at = parts::block_start(card, at, next - t);
+        t = next;
+        put_start(terms, t, at, starts);
+        next = least_from(terms, t + 1);
+    }
 }
 
 // ---- lists of a term

@@ -1,3 +1,4 @@
 pub mod KindLaws
 pub mod RankLaws
 pub mod BoundLaws
+pub mod AloneLaws

@@ -75,7 +75,7 @@ pub fn put_list(shapes: &mut [u32], slot: usize, numbers: [u32; 8])
 }
 
 // The place whose list stands in slot t: the lead's first, the others behind it in their order.
-fn source_of(lead: usize, t: usize) -> usize
+pub fn source_of(lead: usize, t: usize) -> usize
     ensures { λ r. ⌜ r ≡ sourceOf lead t ⌝ }
 {
     if t == 0 {

@@ -71,18 +71,20 @@ pub fn part_at(s: &[u8], at: usize) -> &[u8]
     &s[at..to]
 }
 
-// Where block number k starts, found by the lengths that those before it state; the first starts at byte `from`.
+// Where block number k starts, found by the lengths that those before it state; the first starts at byte `from`. What is
+// left is walked as a part of its own, so that each length is read at its front.
 pub fn block_start(s: &[u8], from: usize, k: usize) -> usize
     requires { ⌜ Walkable from k (now s) ⌝ }
     ensures { λ r. ⌜ r ≡ blockAt from k (now (s .entry)) ⌝ }
 {
-    let mut at = from;
+    let mut rest = &s[from..];
     let mut i = 0;
     while i < k {
-        at += bits::read_u32(s, at) as usize;
+        let size = bits::read_u32(rest, 0) as usize;
+        rest = &rest[size..];
         i += 1;
     }
-    at
+    s.len() - rest.len()
 }
 
 // The place of block number k.

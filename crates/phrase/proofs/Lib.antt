@@ -2,5 +2,4 @@ pub mod StartLaws
 pub mod PageLaws
 pub mod WordLaws
 pub mod StandLaws
-pub mod CountLaws
 pub mod Theorems

@@ -13,7 +13,7 @@ use Rattle.rules.specs.ReadTerm.{less}
 use Rattle.rules.specs.Questions.{member}
 use Rattle.shape.specs.declared.Shape.{Shape}
 use Rattle.seeklaws.specs.Cursors.{firstAt}
-use Rattle.seeklaws.proofs.FirstLaws.{rising-lt, firstAt-before, firstAt-at}
+use Rattle.seeklaws.proofs.FirstLaws.{rising-lt, rising-below, firstAt-before, firstAt-at}
 use Rattle.commonlaws.proofs.SharedLaws.{member-at, member-none}
 use Rattle.termlaws.proofs.PlaceLaws.{length-less}
 use Rattle.seek.proofs.OpenLaws.{open-length, open-rising}
@@ -21,6 +21,7 @@ use Rattle.span.specs.declared.Walk.{Walk}
 use Rattle.span.specs.Walks.{past, Passing}
 use Rattle.span.specs.Spans.{onPage}
 use Rattle.span.proofs.WalkLaws.{past-none, past-some, past-mono}
+use Rattle.phrase.proofs.StartLaws.{Rises}
 
 pub getD-less : (b : ℕ) (xs : List ℕ) (j : ℕ) → getD (less b xs) j 0 ≡ getD xs j 0 - b
 unfolding less
@@ -53,6 +54,23 @@ module _ (U : ℕ) (es : List ℕ) (rises : rising 0 U es ≡ true) (base to : �
             let e : f ≡ j = omega arith in
             rw e at (firstAt-at base es (omega arith))
       ]
+
+  -- its positions rise
+  pub page-rises : Rises 0 U (onPage es base to)
+  page-rises = record {
+    below = λ j h.
+        let l : f + j < to = omega (arith, page-length) in
+        (omega arith, omega (arith, page-at j l, rising-below 0 U es rises (f + j) (omega arith)));
+    up = λ i j l h.
+        let m : f + j < to = omega (arith, page-length) in
+        omega (
+          arith,
+          page-at i (omega arith),
+          page-at j m,
+          page-from (f + i) (omega arith) (omega arith),
+          rising-lt 0 U es rises (f + i) (f + j) (omega arith) (omega arith),
+        );
+  }
 
   pub page-lacks : (x : ℕ) → ((j : ℕ) → j < to → getD es j 0 ≡ base + x → ⊥) → member x (onPage es base to) ≡ false
   page-lacks x g =
@@ -104,17 +122,18 @@ module _ (s : List ℕ) (g : Shape) (to b : ℕ) (w : Walk) (p : Passing s g to 
     last-is : getD es (w .next - 1) 0 + 1 ≡ w .past
     last-is = omega (arith, p .on .past-is, past-some es (w .next) some (omega (arith, size, p .on .within)))
 
-    pub stands-here : w .past ≡ b + 1 → (w .next - 1 < to) × (getD es (w .next - 1) 0 ≡ b)
-    stands-here e = (omega (arith, some, p .inside), omega (arith, last-is))
+    pub stands-last : (w .next - 1 < to) × (getD es (w .next - 1) 0 + 1 ≡ w .past)
+    stands-last = (omega (arith, some, p .inside), last-is)
 
-    pub stands-not : (w .past ≡ b + 1 → ⊥) → (j : ℕ) → j < to → getD es j 0 ≡ b → ⊥
-    stands-not d j h e =
+    -- no element lies between b and that
+    pub stands-between : (d : ℕ) → b ≤ d → d + 1 < w .past → (j : ℕ) → j < to → getD es j 0 ≡ d → ⊥
+    stands-between d l m j h e =
         elim (decLt j (w .next - 1)) [
-          | yes l ↦ omega (arith, below-past (w .next - 1) j l (omega (arith, p .inside)), p .below)
-          | no l ↦ elim (decLt (w .next - 1) j) [
-            | yes m ↦ omega (arith, last-is, rising-lt 0 (listU s) es rises (w .next - 1) j m (omega (arith, size)))
-            | no m ↦
+          | yes g ↦ omega (arith, below-past (w .next - 1) j g (omega (arith, p .inside)), p .below)
+          | no g ↦ elim (decLt (w .next - 1) j) [
+            | yes n ↦ omega (arith, last-is, rising-lt 0 (listU s) es rises (w .next - 1) j n (omega (arith, size)))
+            | no n ↦
                 let q : w .next - 1 ≡ j = omega arith in
-                d (omega (arith, rw q at last-is))
+                omega (arith, rw q at last-is)
           ]
         ]

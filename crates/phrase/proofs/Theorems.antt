@@ -1,8 +1,8 @@
--- What a page's count is: the starts that a question's words have on it, by plain reading.
+-- A question's words on a page: their positions there as a walk finds them, and the starts of a word alone.
 use mathlib.Core.Path.{_≡_, refl, sym, ap, ap₂, _∙_}
 use mathlib.Core.List.{List, [], _∷_, map}
 use Prim.Native.Nat.{ℕ, suc, _+_, _-_, _≤_, _<_}
-use native.Mathlib.Nat.{add-zero, zero-add}
+use native.Mathlib.Nat.{add-zero}
 use native.Mathlib.Omega.{arith}
 use lib.ListN.{length, getD}
 use Rattle.rules.specs.declared.Refusal.the-variants.{Accepted}
@@ -12,21 +12,19 @@ use Rattle.rules.specs.ReadTerm.{pagesOf, positionsOf, readWord, termRefusal}
 use Rattle.rules.specs.Index.{termPart, wordOf}
 use Rattle.rules.specs.Questions.{positionsOn, starts, wordsIn}
 use Rattle.termlaws.proofs.ReadLaws.{positions-listed}
-use Rattle.seek.proofs.OpenLaws.{open-within, open-length}
-use Rattle.query.specs.Lists.{span, partAt, shapeIn}
+use Rattle.query.specs.Lists.{span, partAt}
 use Rattle.span.specs.Walks.{past}
-use Rattle.span.specs.Spans.{positionsBefore, PageIn}
+use Rattle.span.specs.Spans.{positionsBefore, onPage, PageIn}
 use Rattle.span.proofs.WalkLaws.{past-le, first-past}
 use Rattle.span.proofs.SpanLaws.{page-in}
-use Rattle.phrase.specs.Starts.{startsIn}
-use Rattle.phrase.specs.Words.{elementsAt, baseIn, endIn, pageAt, pageIn, BlockAt, Words, TermAt}
-use Rattle.phrase.proofs.StartLaws.{starts-in, starts-alone}
-use Rattle.phrase.proofs.PageLaws.{page-length}
+use Rattle.phrase.specs.Words.{elementsAt, baseIn, endIn, pageAt, TermAt}
+use Rattle.phrase.proofs.StartLaws.{Rises, starts-in, starts-alone}
+use Rattle.phrase.proofs.PageLaws.{page-length, page-rises}
 
 -- ---- the words of a question
 
 -- what each word of a question gives, one after the other
-words-map : {A : Type 0} (s : List ℕ) (g : Word → A) (f : ℕ → A) (args : List ℕ) (i : ℕ)
+pub words-map : {A : Type 0} (s : List ℕ) (g : Word → A) (f : ℕ → A) (args : List ℕ) (i : ℕ)
     → ((j : ℕ) → j < length args → f (i + j) ≡ g (readWord (termPart (getD args j 0) s))) → span f i (length args)
     ≡ map g (wordsIn s args)
 unfolding span wordsIn wordOf
@@ -42,14 +40,14 @@ module _ (s sh xs : List ℕ) (p i : ℕ) (t : List ℕ) (at : TermAt s sh xs p 
   on-page = page-in t (at .accepts) (at .rank) (at .ranked)
 
   -- the positions of word i on the page are the term's
-  page-positions : pageAt s sh xs i ≡ positionsOn p (readWord t)
+  pub page-positions : pageAt s sh xs i ≡ positionsOn p (readWord t)
   unfolding pageAt
   page-positions =
       rw (at .part-is, at .base-is, at .end-is)
       (sym (on-page .positions-are) ∙ ap (λ (q : ℕ). positionsOn q (readWord t)) (at .page-is))
 
   -- its span lies among its elements
-  page-bounds : (endIn xs i ≤ length (elementsAt s sh i)) × (baseIn xs i ≤ listU (partAt s sh i))
+  pub page-bounds : (endIn xs i ≤ length (elementsAt s sh i)) × (baseIn xs i ≤ listU (partAt s sh i))
   page-bounds = (
     rw (at .part-is, at .end-is) (on-page .within),
     rw (at .part-is, at .base-is)
@@ -58,41 +56,25 @@ module _ (s sh xs : List ℕ) (p i : ℕ) (t : List ℕ) (at : TermAt s sh xs p 
         (omega (arith, on-page .some, on-page .within))),
   )
 
-module _ (s sh xs : List ℕ) (p : ℕ) (args : List ℕ)
-    (at : (i : ℕ) → i < length args → TermAt s sh xs p i (termPart (getD args i 0) s)) where
-  -- the count of a page is the number of starts that the question's words have on it
-  pub page-starts : startsIn (pageIn s sh xs (length args)) ≡ starts (wordsIn s args) p
-  unfolding pageIn
-  page-starts =
-      let e : (j : ℕ) → j < length args → pageAt s sh xs (0 + j)
-      ≡ positionsOn p (readWord (termPart (getD args j 0) s)) =
-      λ j l. rw (zero-add j) (page-positions s sh xs p j (termPart (getD args j 0) s) (at j l)) in
-      ap startsIn (words-map s (positionsOn p) (pageAt s sh xs) args 0 e) ∙ sym (starts-in p (wordsIn s args))
+-- ---- the positions of a word on a page
 
-  -- so their lists and spans may be walked
-  pub page-words : 0 < length args → length args ≤ 8 → length xs ≡ 16 → ((i : ℕ) → i < length args → BlockAt s sh i)
-      → Words s sh xs (length args)
-  unfolding shapeIn
-  page-words n m r b = record {
-    some = n;
-    few = m;
-    room = r;
-    lists = b;
-    within =
-        λ i h. omega (
-          arith,
-          page-bounds s sh xs p i (termPart (getD args i 0) s) (at i h) .0,
-          open-length
-              (partAt s sh i) (shapeIn sh i) (b i h .opened),
-        );
-    bases =
-        λ i h. omega (
-          arith,
-          page-bounds s sh xs p i (termPart (getD args i 0) s) (at i h) .1,
-          open-within
-              (partAt s sh i) (shapeIn sh i) (b i h .opened),
-        );
-  }
+module _ (t : List ℕ) (a : termRefusal t ≡ Accepted) (rank : ℕ) (h : rank < length (decode (pagesOf t))) (p : ℕ)
+    (e : getD (decode (pagesOf t)) rank 0 ≡ p) where
+  abbrev positions : List ℕ
+  positions = decode (positionsOf t)
+
+  there : PageIn t rank
+  there = page-in t a rank h
+
+  positions-are : positionsOn p (readWord t)
+      ≡ onPage positions (past positions (positionsBefore t rank)) (positionsBefore t (rank + 1))
+  positions-are = sym (ap (λ (q : ℕ). positionsOn q (readWord t)) e) ∙ there .positions-are
+
+  -- they rise
+  pub positions-rise : Rises 0 (listU (positionsOf t)) (positionsOn p (readWord t))
+  positions-rise =
+      rw positions-are (page-rises (listU (positionsOf t)) positions (positions-listed t a .rises)
+      (past positions (positionsBefore t rank)) (positionsBefore t (rank + 1)) (there .within))
 
 -- a word alone starts at each of its positions
 pub lone-starts : (s args : List ℕ) (p rank : ℕ) → length args ≡ 1 → termRefusal (termPart (getD args 0 0) s) ≡ Accepted

@@ -1,4 +1,4 @@
--- The words of a phrase side by side on one page: their lists, where reading of them stands, and their spans there.
+-- The words of a phrase on one page: their lists, where reading of them stands, and their spans there.
 --
 --   elementsAt s sh i   the elements of list number i, which the numbers sh place in the card s
 --   walkIn ws i         where reading of list i stands: its numbers from 3 i on in ws
@@ -8,35 +8,31 @@
 --   endIn xs i          its end there, number 2 i + 1 of xs: the elements up to the page's last
 --   withSpan xs i b e   xs with b and e as base and end of word i
 --   pageAt s sh xs i    the positions of word i on the page
---   pageIn s sh xs k    those of the first k words
 --   BlockAt s sh i      list i is an accepted block, and its numbers are its own
 --   Readable s sh ws i  so it is, and reading of it stands where ws says
 --   Walked s sh ws i n after  n elements of list i are passed, and reading of the others stands where it did
---   Words s sh xs k     the lists and spans of k words; k from 1 to 8
 --   Ready s sh xs ws i b    no element of word i at least b is passed but for the last, and none behind the page
 --   PassedOn s sh xs ws i b r after  what passing word i's elements up to b leaves; r: whether the page has one from b on
---   Beside s sh xs k ws a   the words behind the first are ready for a start at a
---   Stood s sh xs k ws a r after  what trying a start at a leaves: 1 if all words behind the first stand there, else 0
---   Begun s sh xs k ws      reading of each word stands before its positions on the page
---   Counted s sh xs k r after  what a page leaves: its starts, and words that stand on it or at its end
+--   Sought s sh xs ws i a r after  what seeking a start for word i leaves: r is the first from a on at which the page has it, or
+--                       2 ^ 32 where there is none
 --   TermAt s sh xs p i t    list i has the positions of the accepted term t, which has page p, and span i is that page's
-use mathlib.Core.Bool.{Bool, true, false, cond}
+use mathlib.Core.Bool.{Bool, true, false}
 use mathlib.Core.Path.{_≡_}
 use mathlib.Core.List.{List}
-use Prim.Native.Nat.{ℕ, _+_, _-_, _*_, _^_, _≤_, _<_}
+use Prim.Native.Nat.{ℕ, _+_, _*_, _^_, _≤_, _<_}
 use lib.Dec.{ltb}
 use lib.ListN.{length, getD, set}
 use Rattle.rules.specs.declared.Refusal.the-variants.{Accepted}
+use Rattle.rules.specs.Limits.{limit}
 use Rattle.rules.specs.ReadList.{decode}
 use Rattle.rules.specs.ReadTerm.{pagesOf, positionsOf, termRefusal}
+use Rattle.rules.specs.Questions.{member}
 use Rattle.readlist.specs.Open.{Open}
-use Rattle.query.specs.Lists.{span, numberOf, partAt, shapeIn}
+use Rattle.query.specs.Lists.{numberOf, partAt, shapeIn}
 use Rattle.span.specs.declared.Walk.{Walk}
 use Rattle.span.specs.Walks.{past, WalkOn, Passing}
 use Rattle.span.specs.Spans.{positionsBefore, onPage}
 use Rattle.phrase.specs.declared.Ranks.{Ranks}
-use Rattle.phrase.specs.declared.Tried.{Tried}
-use Rattle.phrase.specs.Starts.{standsIn, startsIn}
 
 -- ---- numbers
 
@@ -63,9 +59,6 @@ withSpan xs i b e = set (set xs (2 * i) b) (2 * i + 1) e
 
 unfoldable pub pageAt : List ℕ → List ℕ → List ℕ → ℕ → List ℕ
 pageAt s sh xs i = onPage (elementsAt s sh i) (baseIn xs i) (endIn xs i)
-
-unfoldable pub pageIn : List ℕ → List ℕ → List ℕ → ℕ → List (List ℕ)
-pageIn s sh xs k = span (pageAt s sh xs) 0 k
 
 -- ---- one word
 
@@ -97,37 +90,12 @@ pub record PassedOn (s sh xs ws : List ℕ) (i b : ℕ) (r : Bool) (after : List
   pub all : walkIn after i .past ≤ b → walkIn after i .next ≡ endIn xs i
   pub others : (j : ℕ) → (j ≡ i → ⊥) → walkIn after j ≡ walkIn ws j
 
--- ---- all words
-
-pub record Words (s sh xs : List ℕ) (k : ℕ) : Type 0 where
-  pub some : 0 < k
-  pub few : k ≤ 8
-  pub room : length xs ≡ 16
-  pub lists : (i : ℕ) → i < k → BlockAt s sh i
-  pub within : (i : ℕ) → i < k → endIn xs i ≤ numberOf sh i 7
-  pub bases : (i : ℕ) → i < k → baseIn xs i < 2 ^ 32
-
-pub record Beside (s sh xs : List ℕ) (k : ℕ) (ws : List ℕ) (a : ℕ) : Type 0 where
-  pub room : length ws ≡ 24
-  pub others : (i : ℕ) → 0 < i → i < k → Ready s sh xs ws i (baseIn xs i + a + i)
-
-pub record Stood (s sh xs : List ℕ) (k : ℕ) (ws : List ℕ) (a : ℕ) (r : Tried) (after : List ℕ) : Type 0 where
-  pub counted : r .count ≡ cond (standsIn (span (pageAt s sh xs) 1 (k - 1)) (a + 1)) 1 0
-  pub last : r .last ≡ true → (d : ℕ) → a ≤ d → standsIn (span (pageAt s sh xs) 1 (k - 1)) (d + 1) ≡ false
-  pub beside : Beside s sh xs k after a
-  pub first : walkIn after 0 ≡ walkIn ws 0
-
-pub record Begun (s sh xs : List ℕ) (k : ℕ) (ws : List ℕ) : Type 0 where
-  pub room : length ws ≡ 24
-  pub on : (i : ℕ) → i < k → WalkOn (partAt s sh i) (shapeIn sh i) (walkIn ws i)
-  pub before : (i : ℕ) → i < k → walkIn ws i .past ≡ baseIn xs i
-  pub inside : (i : ℕ) → i < k → walkIn ws i .next ≤ endIn xs i
-
-pub record Counted (s sh xs : List ℕ) (k r : ℕ) (after : List ℕ) : Type 0 where
-  pub counted : r ≡ startsIn (pageIn s sh xs k)
-  pub room : length after ≡ 24
-  pub on : (i : ℕ) → i < k → WalkOn (partAt s sh i) (shapeIn sh i) (walkIn after i)
-  pub inside : (i : ℕ) → i < k → walkIn after i .next ≤ endIn xs i
+pub record Sought (s sh xs ws : List ℕ) (i a r : ℕ) (after : List ℕ) : Type 0 where
+  pub ready : Ready s sh xs after i (baseIn xs i + a + i)
+  pub others : (j : ℕ) → (j ≡ i → ⊥) → walkIn after j ≡ walkIn ws j
+  pub none : r ≡ 2 ^ 32 → (d : ℕ) → a ≤ d → member (d + i) (pageAt s sh xs i) ≡ false
+  pub found : (r ≡ 2 ^ 32 → ⊥) → (a ≤ r) × (r < limit) × (member (r + i) (pageAt s sh xs i) ≡ true)
+  pub first : (r ≡ 2 ^ 32 → ⊥) → (d : ℕ) → a ≤ d → d < r → member (d + i) (pageAt s sh xs i) ≡ false
 
 pub record TermAt (s sh xs : List ℕ) (p i : ℕ) (t : List ℕ) : Type 0 where
   pub accepts : termRefusal t ≡ Accepted

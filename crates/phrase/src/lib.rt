@@ -1,11 +1,11 @@
-// The starts of a phrase on one page: the words' positions there are gone through side by side, and never back.
+// A word of a phrase on one page: its positions there, gone through from start to start and never back.
 
 ghost use mathlib.Core.Path.{_≡_};
 ghost use Prim.Native.Nat.{_+_, _*_, _^_, _≤_, _<_};
 ghost use lib.ListN.{length};
 ghost use Rattle.query.specs.Lists.{numberOf, partAt};
 ghost use Rattle.span.specs.Walks.{past};
-ghost use Rattle.phrase.specs.Words.{elementsAt, walkIn, withWalk, ranksOf, withSpan, BlockAt, Readable, Walked, Words, Ready, PassedOn, Beside, Stood, Begun, Counted};
+ghost use Rattle.phrase.specs.Words.{elementsAt, walkIn, withWalk, ranksOf, baseIn, withSpan, BlockAt, Readable, Walked, Ready, PassedOn, Sought};
 use span::Walk;
 
 // ---- a word's list
@@ -127,71 +127,26 @@ fn pass_on(
     b < v.past
 }
 
-// One start or none, and whether there is none behind it.
-pub struct Tried {
-    pub count: usize,
-    pub last: bool,
-}
+// More than any start.
+pub const NONE: usize = 4294967296;
 
-// Whether each word i behind the first stands at a + i.
-fn stand(
+// The first start at or above a at which word i stands on the page, or NONE.
+pub fn seek_start(
     card: &[u8],
     shapes: &[u32],
     spans: &[usize],
-    k: usize,
+    i: usize,
     a: usize,
     walks: &mut [usize],
-) -> Tried
-    requires { ⌜ Words (now card) (now shapes) (now spans) k
-        × Beside (now card) (now shapes) (now spans) k (now walks) a × (a < 2 ^ 32) ⌝ }
-    ensures { λ r. ⌜ Stood (now (card .entry)) (now (shapes .entry)) (now (spans .entry)) k (now (walks .entry)) a r
+) -> usize
+    requires { ⌜ BlockAt (now card) (now shapes) i × (length (now spans) ≡ 16) × (baseIn (now spans) i < 2 ^ 32)
+        × (a < 2 ^ 32) × Ready (now card) (now shapes) (now spans) (now walks) i (baseIn (now spans) i + a + i) ⌝ }
+    ensures { λ r. ⌜ Sought (now (card .entry)) (now (shapes .entry)) (now (spans .entry)) (now (walks .entry)) i a r
         (now (walks .exit)) ⌝ }
 {
-    let mut i = 1;
-    while i < k {
-        let b = spans[2 * i] + a + i;
-        if !pass_on(card, shapes, spans, i, b, walks) {
-            return Tried {
-                count: 0,
-                last: true,
-            };
-        }
-        if walks[3 * i + 1] != b + 1 {
-            return Tried {
-                count: 0,
-                last: false,
-            };
-        }
-        i += 1;
+    let b = spans[2 * i] + a + i;
+    if !pass_on(card, shapes, spans, i, b, walks) {
+        return NONE;
     }
-    Tried {
-        count: 1,
-        last: false,
-    }
-}
-
-// The number of starts on the page that the words are turned to.
-pub fn count_starts(
-    card: &[u8],
-    shapes: &[u32],
-    spans: &[usize],
-    k: usize,
-    walks: &mut [usize],
-) -> usize
-    requires { ⌜ Words (now card) (now shapes) (now spans) k
-        × Begun (now card) (now shapes) (now spans) k (now walks) ⌝ }
-    ensures { λ r. ⌜ Counted (now (card .entry)) (now (shapes .entry)) (now (spans .entry)) k r (now (walks .exit)) ⌝ }
-{
-    let mut count = 0;
-    loop {
-        let b = walks[1];
-        if !pass_on(card, shapes, spans, 0, b, walks) {
-            return count;
-        }
-        let t = stand(card, shapes, spans, k, walks[1] - 1 - spans[0], walks);
-        count += t.count;
-        if t.last {
-            return count;
-        }
-    }
+    walks[3 * i + 1] - 1 - spans[2 * i] - i
 }

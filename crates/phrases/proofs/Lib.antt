@@ -1,4 +1,5 @@
 pub mod RankLaws
 pub mod PageLaws
+pub mod TrialLaws
 pub mod PairLaws
 pub mod AnswerLaws

@@ -1,6 +1,6 @@
--- What a page gives: its starts, and words that have the pages behind it ahead.
-use mathlib.Core.Path.{_≡_, sym, ap, ap₂, _∙_}
-use mathlib.Core.List.{List, _∷_}
+-- From page to page: the cursors after a turn, words that have the pages ahead, and what a page gives for a word alone.
+use mathlib.Core.Path.{_≡_, ap, ap₂, _∙_}
+use mathlib.Core.List.{List}
 use Prim.Native.Nat.{ℕ, _+_, _-_, _*_, _^_, _≤_, _<_}
 use native.Mathlib.Decide.{decLt, ℕ-discrete}
 use native.Mathlib.Omega.{arith}
@@ -12,31 +12,24 @@ use Rattle.rules.specs.Questions.{starts, wordsIn}
 use Rattle.termlaws.proofs.ReadLaws.{pages-listed}
 use Rattle.seeklaws.proofs.FirstLaws.{rising-lt}
 use Rattle.commonlaws.specs.Readers.{OnPage, AllOnPage}
-use Rattle.readlist.proofs.ReadLaws.{open-reads}
 use Rattle.seek.specs.Cursors.{spentMark}
-use Rattle.seek.proofs.OpenLaws.{open-length, open-rising}
 use Rattle.query.specs.declared.Query.{Query}
 use Rattle.query.specs.declared.Turn.{Turn}
-use Rattle.query.specs.Lists.{span, partAt, shapeIn}
+use Rattle.query.specs.Lists.{partAt, shapeIn}
 use Rattle.query.specs.Queries.{readerAt, leadIn, othersIn, Apt, Turned}
-use Rattle.query.proofs.SpanLaws.{span-cons}
 use Rattle.query.proofs.RunLaws.{came}
 use Rattle.query.proofs.TurnLaws.{turned-page}
 use Rattle.span.specs.declared.Walk.{Walk}
 use Rattle.span.specs.Walks.{past}
 use Rattle.span.proofs.WalkLaws.{walk-new}
-use Rattle.span.proofs.SpanLaws.{page-in, before-mono}
+use Rattle.span.proofs.SpanLaws.{page-in}
 use Rattle.phrase.specs.declared.Ranks.{Ranks}
-use Rattle.phrase.specs.Starts.{startsIn}
-use Rattle.phrase.specs.Words.{elementsAt, walkIn, ranksOf, baseIn, endIn, pageAt, pageIn, Walked, Words, Begun}
-use Rattle.phrase.specs.Words.{Counted}
-use Rattle.phrase.proofs.StartLaws.{over-few}
-use Rattle.phrase.proofs.PageLaws.{page-length}
-use Rattle.phrase.proofs.Theorems.{page-starts, page-words, lone-starts}
+use Rattle.phrase.specs.Words.{elementsAt, walkIn, ranksOf, Walked}
+use Rattle.phrase.proofs.Theorems.{lone-starts}
 use Rattle.openlists.specs.Places.{slotOf}
 use Rattle.kinds.specs.Ranks.{rankBy}
 use Rattle.kinds.proofs.RankLaws.{all-on}
-use Rattle.phrases.specs.Asked.{termAt, newWalks, Asked, OnAll, Ahead, TurnedWords}
+use Rattle.phrases.specs.Asked.{termAt, newWalks, Asked, OnAll, Ahead}
 use Rattle.phrases.proofs.RankLaws.{is-ranked, page-there, from-is, to-is, positions-small}
 
 -- ---- the cursors after a turn
@@ -104,7 +97,7 @@ ahead-more s ts ct ps cw pw b d l f = record {
 }
 
 -- a page behind that of a rank has a larger one
-rank-later : (t : List ℕ) → termRefusal t ≡ Accepted → (r q p : ℕ) → r < length (decode (pagesOf t))
+pub rank-later : (t : List ℕ) → termRefusal t ≡ Accepted → (r q p : ℕ) → r < length (decode (pagesOf t))
     → getD (decode (pagesOf t)) r 0 ≡ p → p + 1 ≤ getD (decode (pagesOf t)) q 0 → r < q
 rank-later t a r q p h e l =
     elim (decLt r q) [
@@ -120,79 +113,6 @@ rank-later t a r q p h e l =
     ]
 
 module _ (s ts : List ℕ) (lead : ℕ) (pg ct ps : List ℕ) (a : Asked s ts lead pg ct ps) (p : ℕ) where
-  -- ---- all words turned to the page
-
-  module _ (cw pw xs : List ℕ) (f : TurnedWords s ts ct ps p (length ts) cw pw xs) where
-    pub turned-words : Words s ps xs (length ts)
-    turned-words =
-        page-words s ps xs p ts (λ i h. f .turned i h .term) (a .pages .lists .some) (a .pages .lists .few)
-        (f .spans-room) (λ i h. a .positions .slot i h .block)
-
-    pub turned-begun : Begun s ps xs (length ts) pw
-    turned-begun = record {
-      room = f .walked-room;
-      on = λ i h. f .turned i h .walked .on;
-      before = λ i h.
-          let d = f .turned i h in
-          d .walked .on .past-is ∙ ap (past (elementsAt s ps i)) (d .walked .at)
-          ∙ rw (d .term .part-is) (sym (d .term .base-is));
-      inside = λ i h.
-          let d = f .turned i h in
-          let g = page-in (termAt s ts i) (d .term .accepts) (d .term .rank) (d .term .ranked) in
-          omega (arith, d .walked .at, d .term .end-is, g .some);
-    }
-
-    -- there are no more starts than the first word has elements
-    starts-few : startsIn (pageIn s ps xs (length ts)) ≤ 16777216
-    unfolding pageIn pageAt startsIn shapeIn
-    starts-few =
-        let z : length ts - 0 ≡ length ts = omega arith in
-        let e = rw z at (span-cons (pageAt s ps xs) 0 (length ts) (a .pages .lists .some)) in
-        let o = a .positions .slot 0 (a .pages .lists .some) .block .opened in
-        let r = open-reads (partAt s ps 0) (shapeIn ps 0) o in
-        let w = turned-words .within 0 (a .pages .lists .some) in
-        let n =
-        page-length (listU (partAt s ps 0)) (elementsAt s ps 0) (open-rising (partAt s ps 0) (shapeIn ps 0) o)
-        (baseIn xs 0) (endIn xs 0) (omega (arith, open-length (partAt s ps 0) (shapeIn ps 0) o)) in
-        rw e (omega (
-          arith,
-          n,
-          w,
-          r .within,
-          r .below,
-          over-few
-              (pageAt s ps xs 0 ∷ span (pageAt s ps xs) (0 + 1) (length ts - (0 + 1))) (pageAt s ps xs 0),
-        ))
-
-    pub page-counted : (r : ℕ) (after : List ℕ) → Counted s ps xs (length ts) r after → (r ≡ starts (wordsIn s ts) p)
-        × (r < 2 ^ 32) × Ahead s ts ct ps cw after (p + 1)
-    page-counted r after c = (
-      c .counted ∙ page-starts s ps xs p ts (λ i h. f .turned i h .term),
-      omega (arith, c .counted, starts-few),
-      record {
-        counted-room = f .counted-room;
-        walked-room = c .room;
-        each = λ i h.
-            let d = f .turned i h in
-            let y = d .term in
-            record {
-              counted = d .counted .on;
-              walked = c .on i h;
-              ahead = λ q l b.
-                  let g = rank-later (termAt s ts i) (y .accepts) (y .rank) q p (y .ranked) (y .page-is) b in (
-                    omega (arith, d .counted .at, g),
-                    omega (
-                      arith,
-                      c .inside i h,
-                      y .end-is,
-                      before-mono (termAt s ts i) (y .accepts) (y .rank + 1) q
-                          (omega (arith, g)) (omega arith),
-                    ),
-                  );
-            };
-      },
-    )
-
   -- ---- a word alone
 
   pub lone-counted : (q : Query) → OnAll s ts pg q p → length ts ≡ 1 → (cw pw : List ℕ) → Ahead s ts ct ps cw pw p

@@ -21,15 +21,18 @@ use Rattle.span.specs.Walks.{past}
 use Rattle.span.specs.Spans.{positionsBefore, PageIn}
 use Rattle.span.proofs.SpanLaws.{page-in}
 use Rattle.phrase.specs.declared.Ranks.{Ranks}
-use Rattle.phrase.specs.Words.{elementsAt, walkIn, ranksOf, withSpan, Readable, Walked}
+use Rattle.phrase.specs.Words.{elementsAt, walkIn, ranksOf, baseIn, endIn, withSpan, Readable, Walked, TermAt}
 use Rattle.phrase.proofs.WordLaws.{spans-long, span-there, span-here}
-use Rattle.openlists.specs.Places.{slotOf}
-use Rattle.openlists.proofs.SourceLaws.{slot-lt}
+use Rattle.phrase.proofs.StandLaws.{ready-more, ready-begun}
+use Rattle.phrase.proofs.Theorems.{page-bounds}
+use Rattle.openlists.specs.Places.{sourceOf, slotOf}
+use Rattle.openlists.proofs.SourceLaws.{slot-lt, source-slot}
 use Rattle.wordlists.specs.Lying.{listOf}
 use Rattle.wordlists.proofs.OpenLaws.{lead-within, slot-pages}
 use Rattle.kinds.specs.Ranks.{rankBy}
 use Rattle.kinds.proofs.RankLaws.{Ranked, ranked}
-use Rattle.phrases.specs.Asked.{termAt, Asked, OnAll, AheadOf, TurnedTo, TurnedWords}
+use Rattle.phrases.specs.declared.Trial.{Trial}
+use Rattle.phrases.specs.Asked.{termAt, Asked, OnAll, AheadOf, TurnedTo, Trying}
 
 -- ---- the words' lists
 
@@ -152,66 +155,106 @@ module _ (s ts : List ℕ) (lead : ℕ) (pg ct ps : List ℕ) (a : Asked s ts le
             ),
           )
 
-      module _ (cw pw xs cw′ pw′ xs′ : List ℕ) (f : TurnedWords s ts ct ps p i cw pw xs)
-          (c : Walked s ct cw i (rank + 1) cw′) (w : Walked s ps pw i (x .from) pw′)
+      module _ (at : Trial) (cw pw xs cw′ pw′ xs′ : List ℕ) (y : Trying s ts lead ct ps p at cw pw xs)
+          (next : slotOf lead i ≡ at .turned) (c : Walked s ct cw i (rank + 1) cw′) (w : Walked s ps pw i (x .from) pw′)
           (m : xs′ ≡ withSpan xs i (past (elementsAt s ps i) (x .from)) (x .to)) where
         few : i < 8
         few = omega (arith, a .pages .lists .few)
 
-        turned-here : TurnedTo s ts ct ps p cw′ pw′ xs′ i
+        abbrev term-here : TermAt s ps xs′ p i t
+        term-here =
+            let e = span-here xs i (past (elementsAt s ps i) (x .from)) (x .to) (y .spans-room) few in
+            record {
+              accepts = a .accepts i h;
+              rank = rank;
+              ranked = is-ranked;
+              page-is = page-there;
+              part-is = positions-part;
+              base-is = rw m (e .0 ∙ ap₂ past (ap decode positions-part) from-is);
+              end-is = rw m (e .1 ∙ to-is);
+            }
+
+        turned-here : TurnedTo s ts ct ps p (at .start) cw′ pw′ xs′ i
         turned-here =
-            let e = span-here xs i (past (elementsAt s ps i) (x .from)) (x .to) (f .spans-room) few in
+            let on = w .readable .on in
+            let before : walkIn pw′ i .past ≡ baseIn xs′ i =
+            on .past-is ∙ ap (past (elementsAt s ps i)) (w .at ∙ from-is)
+            ∙ rw positions-part (sym (term-here .base-is)) in
             record {
-              term = record {
-                accepts = a .accepts i h;
-                rank = rank;
-                ranked = is-ranked;
-                page-is = page-there;
-                part-is = positions-part;
-                base-is = rw m (e .0 ∙ ap₂ past (ap decode positions-part) from-is);
-                end-is = rw m (e .1 ∙ to-is);
-              };
+              term = term-here;
               counted = record { on = c .readable .on; at = c .at };
-              walked = record { on = w .readable .on; at = w .at ∙ from-is };
+              ready =
+                  ready-more s ps xs′ pw′ i (baseIn xs′ i) (baseIn xs′ i + at .start + i) (omega arith)
+                  (ready-begun s ps xs′ pw′ i (w .readable .room) on before
+                  (omega (arith, w .at, from-is, term-here .end-is, on-page .some))
+                  (page-bounds s ps xs′ p i t term-here .0));
             }
 
-        turned-there : (j : ℕ) → j < i → TurnedTo s ts ct ps p cw′ pw′ xs′ j
-        turned-there j l =
-            let d = f .turned j l in
-            let e = span-there xs i (past (elementsAt s ps i) (x .from)) (x .to) j (λ z. omega arith) in
-            let y = d .term in
-            record {
-              term = record {
-                accepts = y .accepts;
-                rank = y .rank;
-                ranked = y .ranked;
-                page-is = y .page-is;
-                part-is = y .part-is;
-                base-is = rw m (e .0 ∙ y .base-is);
-                end-is = rw m (e .1 ∙ y .end-is);
-              };
-              counted = rw (c .others j (λ z. omega arith)) (d .counted);
-              walked = rw (w .others j (λ z. omega arith)) (d .walked);
-            }
+        -- the other words are as they were
+        module _ (j : ℕ) (d : j ≡ i → ⊥) where
+          turned-there : TurnedTo s ts ct ps p (at .start) cw pw xs j → TurnedTo s ts ct ps p (at .start) cw′ pw′ xs′ j
+          turned-there u =
+              let e = span-there xs i (past (elementsAt s ps i) (x .from)) (x .to) j d in
+              let base : baseIn xs′ j ≡ baseIn xs j = rw m (e .0) in
+              let end : endIn xs′ j ≡ endIn xs j = rw m (e .1) in
+              let v = u .term in
+              record {
+                term = record {
+                  accepts = v .accepts;
+                  rank = v .rank;
+                  ranked = v .ranked;
+                  page-is = v .page-is;
+                  part-is = v .part-is;
+                  base-is = base ∙ v .base-is;
+                  end-is = end ∙ v .end-is;
+                };
+                counted = rw (c .others j d) (u .counted);
+                ready = record {
+                  room = w .readable .room;
+                  short = omega (arith, end, u .ready .short);
+                  passing = rw (end, base, w .others j d) (u .ready .passing);
+                };
+              }
 
-        pub turned-more : TurnedWords s ts ct ps p (i + 1) cw′ pw′ xs′
-        turned-more = record {
+          ahead-there : AheadOf s ts ct ps cw pw p j → AheadOf s ts ct ps cw′ pw′ p j
+          ahead-there f =
+              let u = c .others j d in
+              let v = w .others j d in
+              record {
+                counted = rw u (f .counted);
+                walked = rw v (f .walked);
+                ahead = λ r l b.
+                    let e = f .ahead r l b in (
+                      omega (arith, e .0, ap (λ (z : Walk). z .next) u),
+                      omega (arith, e .1, ap (λ (z : Walk). z .next) v),
+                    );
+              }
+
+        pub trying-turned : Trying s ts lead ct ps p (record {
+          turned = at .turned + 1;
+          start = at .start;
+          standing = at .standing;
+          count = at .count;
+        }) cw′ pw′ xs′
+        trying-turned = record {
           counted-room = c .readable .room;
           walked-room = w .readable .room;
-          spans-room = rw m (spans-long xs i (past (elementsAt s ps i) (x .from)) (x .to) ∙ f .spans-room);
-          turned = λ j l. elim (ℕ-discrete j i) [ yes e ↦ rw e turned-here | no e ↦ turned-there j (omega arith) ];
-          others = λ j l g.
-              let d = f .others j (omega arith) g in
-              let y = c .others j (λ z. omega arith) in
-              let z = w .others j (λ v. omega arith) in
-              record {
-                counted = rw y (d .counted);
-                walked = rw z (d .walked);
-                ahead = λ r m b.
-                    let e = d .ahead r m b in (
-                      omega (arith, e .0, ap (λ (v : Walk). v .next) y),
-                      omega
-                          (arith, e .1, ap (λ (v : Walk). v .next) z),
-                    );
-              };
+          spans-room = rw m (spans-long xs i (past (elementsAt s ps i) (x .from)) (x .to) ∙ y .spans-room);
+          some = y .some;
+          order = omega (arith, y .order);
+          within = omega (arith, next, slot-within i h);
+          small = y .small;
+          words = λ j l g. elim (ℕ-discrete j i) [
+            | yes e ↦ rw e turned-here
+            | no e ↦ turned-there j e (y .words j l (omega (arith, apart j e)))
+          ];
+          others = λ j l g. elim (ℕ-discrete j i) [
+            | yes e ↦ absurd (omega (arith, next, ap (slotOf lead) e))
+            | no e ↦ ahead-there j e (y .others j l (omega arith))
+          ];
+          stand = y .stand;
+          counted = y .counted;
         }
+          where
+            apart : (j : ℕ) → (j ≡ i → ⊥) → slotOf lead j ≡ at .turned → ⊥
+            apart j e z = e (sym (source-slot lead j) ∙ ap (sourceOf lead) (z ∙ sym next) ∙ source-slot lead i)

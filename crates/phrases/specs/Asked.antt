@@ -9,34 +9,42 @@
 --   AheadOf s ts ct ps cw pw b i  of word i's counts and positions nothing of a page from b on is passed; reading stands
 --                       where cw and pw say
 --   Ahead s ts ct ps cw pw b  so it is of all words
---   TurnedTo s ts ct ps p cw pw xs i  word i is turned to page p: reading stands before its positions there, and xs has
---                       its span
---   TurnedWords s ts ct ps p n cw pw xs  so are the first n words, and the others have that page ahead
+--   positionsHere s ts p i  the positions of word i on page p
+--   pageHere s ts p     those of each word
+--   TurnedTo s ts ct ps p a cw pw xs i  word i is turned to page p, xs has its span there, and reading stands ready for a start
+--                       at a or behind it
+--   Trying s ts lead ct ps p at cw pw xs  counting the starts on page p stands at `at`: the words of the first slots are turned
+--                       to the page and the others have it ahead, some stand, and the starts before are counted
+--   triedAt at next k   where counting goes on from `at` when the next of k words allows a start at `next`, and none before
 --   Paired a room p n r after  the pair of p and n was put behind the pairs a, if there was room; r numbers are found
 --   PairedBehind m room p n r after  so it is behind any pairs of m numbers
-use mathlib.Core.Bool.{cond}
+use mathlib.Core.Bool.{true, cond, not}
 use mathlib.Core.Path.{_≡_}
 use mathlib.Core.List.{List, [], _∷_, _++_}
 use Prim.Native.Nat.{ℕ, _+_, _≤_, _<_}
-use lib.Dec.{ltb}
+use lib.Dec.{eqb, ltb}
 use lib.ListN.{length, getD, replicate}
 use Rattle.rules.specs.declared.Refusal.the-variants.{Accepted}
+use Rattle.rules.specs.Limits.{limit}
 use Rattle.rules.specs.ReadList.{decode}
-use Rattle.rules.specs.ReadTerm.{pagesOf, termRefusal}
+use Rattle.rules.specs.ReadTerm.{pagesOf, readWord, termRefusal}
 use Rattle.rules.specs.Index.{termPart}
 use Rattle.rules.specs.Common.{leadOf}
-use Rattle.rules.specs.Questions.{withStarts, commonPages, listsIn, wordsIn}
+use Rattle.rules.specs.Questions.{member, positionsOn, withStarts, commonPages, listsIn, wordsIn}
 use Rattle.rules.specs.Write.{laid}
 use Rattle.commonlaws.specs.Readers.{OnPage}
 use Rattle.query.specs.declared.Query.{Query}
-use Rattle.query.specs.Lists.{partAt, shapeIn, pagesAt, boundIn}
+use Rattle.query.specs.Lists.{span, partAt, shapeIn, pagesAt, boundIn}
 use Rattle.query.specs.Queries.{cursorIn, readerAt}
 use Rattle.seek.specs.Cursors.{Held}
 use Rattle.span.specs.Walks.{WalkOn, PassedTo}
 use Rattle.span.specs.Spans.{positionsBefore}
-use Rattle.phrase.specs.Words.{walkIn, TermAt}
+use Rattle.phrase.specs.Starts.{startsBelow}
+use Rattle.phrase.specs.Words.{walkIn, baseIn, Ready, TermAt}
+use Rattle.openlists.specs.Places.{slotOf}
 use Rattle.wordlists.specs.Opened.{OpenedPages}
 use Rattle.openwords.specs.Slots.{Filled}
+use Rattle.phrases.specs.declared.Trial.{Trial}
 
 unfoldable pub pairOf : ℕ → ℕ → List ℕ
 pairOf p n = cond (ltb 0 n) (p ∷ (n ∷ [])) []
@@ -73,17 +81,38 @@ pub record Ahead (s ts ct ps cw pw : List ℕ) (b : ℕ) : Type 0 where
   pub walked-room : length pw ≡ 24
   pub each : (i : ℕ) → i < length ts → AheadOf s ts ct ps cw pw b i
 
-pub record TurnedTo (s ts ct ps : List ℕ) (p : ℕ) (cw pw xs : List ℕ) (i : ℕ) : Type 0 where
+abbrev pub positionsHere : List ℕ → List ℕ → ℕ → ℕ → List ℕ
+positionsHere s ts p i = positionsOn p (readWord (termAt s ts i))
+
+unfoldable pub pageHere : List ℕ → List ℕ → ℕ → List (List ℕ)
+pageHere s ts p = span (positionsHere s ts p) 0 (length ts)
+
+pub record TurnedTo (s ts ct ps : List ℕ) (p a : ℕ) (cw pw xs : List ℕ) (i : ℕ) : Type 0 where
   pub term : TermAt s ps xs p i (termAt s ts i)
   pub counted : PassedTo (partAt s ct i) (shapeIn ct i) (term .rank + 1) (walkIn cw i)
-  pub walked : PassedTo (partAt s ps i) (shapeIn ps i) (positionsBefore (termAt s ts i) (term .rank)) (walkIn pw i)
+  pub ready : Ready s ps xs pw i (baseIn xs i + a + i)
 
-pub record TurnedWords (s ts ct ps : List ℕ) (p n : ℕ) (cw pw xs : List ℕ) : Type 0 where
+pub record Trying (s ts : List ℕ) (lead : ℕ) (ct ps : List ℕ) (p : ℕ) (at : Trial) (cw pw xs : List ℕ) : Type 0 where
   pub counted-room : length cw ≡ 24
   pub walked-room : length pw ≡ 24
   pub spans-room : length xs ≡ 16
-  pub turned : (i : ℕ) → i < n → TurnedTo s ts ct ps p cw pw xs i
-  pub others : (i : ℕ) → n ≤ i → i < length ts → AheadOf s ts ct ps cw pw p i
+  pub some : at .standing < length ts
+  pub order : at .standing ≤ at .turned
+  pub within : at .turned ≤ length ts
+  pub small : at .start ≤ limit
+  pub words : (i : ℕ) → i < length ts → slotOf lead i < at .turned → TurnedTo s ts ct ps p (at .start) cw pw xs i
+  pub others : (i : ℕ) → i < length ts → at .turned ≤ slotOf lead i → AheadOf s ts ct ps cw pw p i
+  pub stand : (i : ℕ) → i < length ts → slotOf lead i < at .standing
+      → member (at .start + i) (positionsHere s ts p i) ≡ true
+  pub counted : at .count ≡ startsBelow (pageHere s ts p) (at .start)
+
+unfoldable pub triedAt : Trial → ℕ → ℕ → Trial
+triedAt at next k =
+    cond (not (eqb next (at .start)))
+    (record { turned = at .turned; start = next; standing = 0; count = at .count })
+    (cond (ltb (at .standing + 1) k)
+    (record { turned = at .turned; start = at .start; standing = at .standing + 1; count = at .count })
+    (record { turned = at .turned; start = at .start + 1; standing = 0; count = at .count + 1 }))
 
 pub record Paired (a room : List ℕ) (p n r : ℕ) (after : List ℕ) : Type 0 where
   pub found : r ≡ length (a ++ pairOf p n)

@@ -12,12 +12,89 @@ ghost use Rattle.rules.specs.Questions.{starts, wordsIn, byPhrase};
 ghost use Rattle.rules.specs.Write.{laid};
 ghost use Rattle.questions.specs.Formed.{wordsGood};
 ghost use Rattle.questions.specs.Wrote.{Wrote};
-ghost use Rattle.phrases.specs.Asked.{foundIn, Asked, OnAll, Ahead, TurnedWords, PairedBehind};
+ghost use Rattle.phrases.specs.Asked.{foundIn, triedAt, Asked, OnAll, Ahead, Trying, PairedBehind};
 use query::Query;
 use seek::SPENT;
 
-// Turns each word to the page that all cursors are on, and puts its span; the pages of word `lead` come first.
-fn turn_words(
+// Where counting the starts on a page stands: how many words are turned to it, the start that is tried, how many words
+// stand there, and how many starts lie before it.
+pub struct Trial {
+    pub turned: usize,
+    pub start: usize,
+    pub standing: usize,
+    pub count: usize,
+}
+
+// Turns the next word to be tried to the page that all cursors are on, where it is not turned yet; words are tried in
+// the order of their slots, of which word `lead` has the first.
+fn turn_next(
+    card: &[u8],
+    terms: &[u32],
+    lead: usize,
+    pages: &[u32],
+    counts: &[u32],
+    positions: &[u32],
+    q: Query,
+    page: usize,
+    at: Trial,
+    counted: &mut [usize],
+    walked: &mut [usize],
+    spans: &mut [usize],
+) -> Trial
+    requires { ⌜ Asked (now card) (now terms) lead (now pages) (now counts) (now positions)
+        × OnAll (now card) (now terms) (now pages) q page
+        × Trying (now card) (now terms) lead (now counts) (now positions) page at (now counted) (now walked)
+        (now spans) ⌝ }
+    ensures { λ r. ⌜ Trying (now (card .entry)) (now (terms .entry)) lead (now (counts .entry))
+        (now (positions .entry)) page r (now (counted .exit)) (now (walked .exit)) (now (spans .exit))
+        × (r .standing < r .turned) × (r .start ≡ at .start) × (r .standing ≡ at .standing) ⌝ }
+{
+    if at.standing < at.turned {
+        return at;
+    }
+    let i = openlists::source_of(lead, at.standing);
+    let rank = kinds::rank_in(pages, q, openlists::slot_of(lead, i));
+    let x = phrase::ranks_at(card, counts, i, rank, counted);
+    phrase::turn_to(card, positions, i, x, spans, walked);
+    Trial {
+        turned: at.turned + 1,
+        start: at.start,
+        standing: at.standing,
+        count: at.count,
+    }
+}
+
+// Where counting stands when the next of k words is found to allow a start at `next`, and none before.
+fn tried(at: Trial, next: usize, k: usize) -> Trial
+    requires { ⌜ (at .standing < 8) × (at .start < 2 ^ 32) × (at .count < 2 ^ 32) ⌝ }
+    ensures { λ r. ⌜ r ≡ triedAt at next k ⌝ }
+{
+    if next != at.start {
+        return Trial {
+            turned: at.turned,
+            start: next,
+            standing: 0,
+            count: at.count,
+        };
+    }
+    if at.standing + 1 < k {
+        return Trial {
+            turned: at.turned,
+            start: at.start,
+            standing: at.standing + 1,
+            count: at.count,
+        };
+    }
+    Trial {
+        turned: at.turned,
+        start: at.start + 1,
+        standing: 0,
+        count: at.count + 1,
+    }
+}
+
+// The starts of several words on a page that all cursors are on: the words are turned to it only as they are needed.
+fn count_starts(
     card: &[u8],
     terms: &[u32],
     lead: usize,
@@ -28,22 +105,42 @@ fn turn_words(
     page: usize,
     counted: &mut [usize],
     walked: &mut [usize],
-    spans: &mut [usize],
-)
+) -> usize
     requires { ⌜ Asked (now card) (now terms) lead (now pages) (now counts) (now positions)
         × OnAll (now card) (now terms) (now pages) q page
-        × Ahead (now card) (now terms) (now counts) (now positions) (now counted) (now walked) page
-        × (length (now spans) ≡ 16) ⌝ }
-    ensures { λ _. ⌜ TurnedWords (now (card .entry)) (now (terms .entry)) (now (counts .entry))
-        (now (positions .entry)) page (length (now (terms .entry))) (now (counted .exit)) (now (walked .exit))
-        (now (spans .exit)) ⌝ }
+        × Ahead (now card) (now terms) (now counts) (now positions) (now counted) (now walked) page ⌝ }
+    ensures { λ r. ⌜ (r ≡ starts (wordsIn (now (card .entry)) (now (terms .entry))) page) × (r < 2 ^ 32)
+        × Ahead (now (card .entry)) (now (terms .entry)) (now (counts .entry)) (now (positions .entry))
+        (now (counted .exit)) (now (walked .exit)) (page + 1) ⌝ }
 {
-    let mut i = 0;
-    while i < terms.len() {
-        let rank = kinds::rank_in(pages, q, openlists::slot_of(lead, i));
-        let x = phrase::ranks_at(card, counts, i, rank, counted);
-        phrase::turn_to(card, positions, i, x, spans, walked);
-        i += 1;
+    let mut spans = [0usize; 16];
+    let mut at = Trial {
+        turned: 0,
+        start: 0,
+        standing: 0,
+        count: 0,
+    };
+    loop {
+        let turned = turn_next(
+            card,
+            terms,
+            lead,
+            pages,
+            counts,
+            positions,
+            q,
+            page,
+            at,
+            counted,
+            walked,
+            &mut spans,
+        );
+        let i = openlists::source_of(lead, turned.standing);
+        let next = phrase::seek_start(card, positions, &spans, i, turned.start, walked);
+        if next == phrase::NONE {
+            return turned.count;
+        }
+        at = tried(turned, next, terms.len());
     }
 }
 
@@ -72,8 +169,7 @@ fn page_starts(
         let x = phrase::ranks_at(card, counts, 0, rank, counted);
         return x.to - x.from;
     }
-    let mut spans = [0usize; 16];
-    turn_words(
+    count_starts(
         card,
         terms,
         lead,
@@ -84,9 +180,7 @@ fn page_starts(
         page,
         counted,
         walked,
-        &mut spans,
-    );
-    phrase::count_starts(card, positions, &spans, terms.len(), walked)
+    )
 }
 
 // Puts a page and its starts behind what was found, if there are any and there is room; how many numbers are found then.
@@ -170,6 +264,26 @@ fn fits(
     list_starts(card, terms, lead, pages, counts, positions, &mut none) < size
 }
 
+// Finds the words' terms on one way, and opens their lists; returns the number of the word whose pages lead.
+fn open_phrase(
+    card: &[u8],
+    terms: &[u32],
+    pages: &mut [u32],
+    counts: &mut [u32],
+    positions: &mut [u32],
+) -> usize
+    requires { ⌜ (indexRefusal (now card) ≡ Accepted) × (wordsGood (indexT (now card)) (now terms) ≡ true)
+        × (length (now pages) ≡ 64) × (length (now counts) ≡ 64) × (length (now positions) ≡ 64) ⌝ }
+    ensures { λ r. ⌜ Asked (now (card .entry)) (now (terms .entry)) r (now (pages .exit)) (now (counts .exit))
+        (now (positions .exit)) ⌝ }
+{
+    let mut starts = [0usize; 8];
+    findterm::find_terms(card, terms, &mut starts);
+    openwords::open_words(card, terms, &starts, 1, counts);
+    openwords::open_words(card, terms, &starts, 2, positions);
+    wordlists::open_found(card, terms, &starts, pages)
+}
+
 // Kind 4: the pages with a start of the phrase, each with the number of its starts.
 pub fn by_phrase(card: &[u8], terms: &[u32], room: &mut [u32]) -> usize
     requires { ⌜ (indexRefusal (now card) ≡ Accepted) × (wordsGood (indexT (now card)) (now terms) ≡ true) ⌝ }
@@ -179,9 +293,7 @@ pub fn by_phrase(card: &[u8], terms: &[u32], room: &mut [u32]) -> usize
     let mut pages = [0u32; 64];
     let mut counts = [0u32; 64];
     let mut positions = [0u32; 64];
-    let lead = wordlists::open_pages(card, terms, &mut pages);
-    openwords::open_words(card, terms, 1, &mut counts);
-    openwords::open_words(card, terms, 2, &mut positions);
+    let lead = open_phrase(card, terms, &mut pages, &mut counts, &mut positions);
     if !fits(card, terms, lead, &pages, &counts, &positions, room.len()) {
         return 0;
     }

@@ -1,11 +1,11 @@
 -- Laws of the pointers near a rank's share of them.
-use mathlib.Core.Path.{_≡_, refl}
+use mathlib.Core.Path.{_≡_, refl, ap, _∙_}
 use mathlib.Core.List.{List}
-use Prim.Native.Nat.{ℕ, _+_, _-_, _*_, _/_, _^_, _≤_, _<_}
+use Prim.Native.Nat.{ℕ, zero, suc, _+_, _-_, _*_, _/_, _^_, _≤_, _<_}
 use native.Mathlib.Nat.{mul-comm, mul-le-mul, mul-le-mul-right, div-lt-iff-lt-mul}
 use native.Mathlib.Omega.{arith}
 use Rattle.shape.specs.declared.Shape.{Shape}
-use Rattle.readlist.specs.Open.{Open, pointersIn, pointerOf, HighEnd}
+use Rattle.readlist.specs.Open.{Open, shapeIn, pointersIn, pointerOf, HighEnd, Sought}
 use Rattle.readlist.proofs.ReadLaws.{open-reads, pointer-reads}
 
 -- ---- the share
@@ -27,12 +27,34 @@ share-fits s g o rank last h l =
     mul-le-mul {n₁ = rank} {m₁ = last} {n₂ = 2 ^ 25} {m₂ = 2 ^ 25} (omega arith) (omega arith) in
     omega arith
 
+-- ---- what is sought, by the shape
+
+pub own-shape : (s : List ℕ) (g : Shape) → Open s g → Open s (shapeIn s)
+own-shape s g o = record { accepted = o .accepted; shape = refl }
+
+pub sought : (s : List ℕ) (g : Shape) → Open s g → (last rank : ℕ) → last ≡ pointersIn g → rank < g .n
+    → Sought s last (g .n) rank × (g .upper ≡ shapeIn s .upper)
+sought s g o last rank e h = (
+  record {
+    opened = own-shape s g o;
+    pointers = e ∙ ap pointersIn (o .shape);
+    elements = ap (λ (k : Shape). k .n) (o .shape);
+    below = h;
+  },
+  ap (λ (k : Shape). k .upper) (o .shape),
+)
+
 -- ---- the ends of a search
 
 module _ (s : List ℕ) (g : Shape) (o : Open s g) (rank : ℕ) where
   -- pointer number 0 is before every one
   pub first-before : pointerOf s g 0 ≤ 256 * 0 + rank
   first-before = omega (arith, pointer-reads s g o 0 0 (omega arith) (λ e. refl) (λ h. absurd (omega arith)) .defined)
+
+  -- so one with more ones before it has a lower one
+  pub more-some : (i : ℕ) → 256 * i + rank < pointerOf s g i → 0 < i
+  more-some zero h = absurd (omega (arith, first-before, h))
+  more-some (suc i) h = omega arith
 
   -- behind the last there is none
   pub last-ends : (i : ℕ) → i ≡ pointersIn g → HighEnd s g rank i

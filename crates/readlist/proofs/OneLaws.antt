@@ -1,19 +1,32 @@
 -- Laws of the ones of any run by their numbers: counts against places, the ones of a word, and a start in its middle.
-use mathlib.Core.Path.{_≡_, _∙_}
+use mathlib.Core.Path.{_≡_, refl, sym, ap, _∙_}
 use mathlib.Core.List.{List}
 use Prim.Native.Nat.{ℕ, _+_, _-_, _*_, _/_, _%_, _^_, _≤_, _<_}
-use native.Mathlib.Nat.{mod-eq-of-lt}
+use native.Mathlib.Nat.{mod-eq-of-lt, mod-lt, add-zero}
 use native.Mathlib.Decide.{decLt}
 use native.Mathlib.Omega.{arith}
-use lib.Count.{ones}
+use lib.Count.{ones, ones-cat}
+use lib.Pow.{split, pow-pos}
 use lib.ListN.{length}
 use Rattle.rules.specs.Runs.{bit, runWord, runBit}
 use Rattle.rules.specs.Counts.{onesBelow}
-use Rattle.laws.proofs.CountLaws.{word-ones}
+use Rattle.laws.proofs.CountLaws.{word-ones, next-word}
 use Rattle.laws.proofs.RunLaws.{run-bit, ones-mono, ones-flat}
 use Rattle.bits.specs.Words.{placeOfOne, nextOne}
-use Rattle.bits.proofs.WordLaws.{place-bit, place-ones, place-some, next-after, next-le, next-bit, next-zeros}
+use Rattle.bits.proofs.WordLaws.{place-bit, place-ones, place-some, place-from, next-after, next-le, next-bit, next-zeros}
 use Rattle.readlist.specs.Open.{OneAt, OneAhead}
+
+-- the ones of a word: those left once its low bits are 0, and those of the low bits
+ones-zero : ones 0 ≡ 0
+unfolding ones
+ones-zero = refl
+
+split-ones : (x d : ℕ) → ones x ≡ ones (x / 2 ^ d * 2 ^ d) + ones (x % 2 ^ d)
+split-ones x d =
+    let q : ℕ = x / 2 ^ d in
+    let a : ones (q * 2 ^ d) ≡ ones q + ones 0 = rw add-zero at (ones-cat d q 0 (pow-pos d)) in
+    let b : ones (q * 2 ^ d + x % 2 ^ d) ≡ ones q + ones (x % 2 ^ d) = ones-cat d q (x % 2 ^ d) (mod-lt x (pow-pos d)) in
+    ap ones (sym (split x d)) ∙ omega (arith, a, b, ones-zero)
 
 -- no one of the run where the word has none
 run-zeros : (s : List ℕ) (at k from j : ℕ) → j ≤ 64 → ((q : ℕ) → from ≤ q → q < j → bit (runWord s at k) q ≡ 0)
@@ -58,24 +71,52 @@ module _ (s : List ℕ) (at : ℕ) where
     pub next-set : nextOne 64 x from < 64 → runBit s at (64 * k + nextOne 64 x from) ≡ 1
     next-set h = run-bit s at k (nextOne 64 x from) h ∙ rw (← word) (next-bit 64 x from h)
 
--- ---- a start in the middle of a word
+-- ---- the ones of a run from a place on
+
+-- the ones of x are those of word k of the run from number `passed` on, up to the word's end
+pub record Onward (run : List ℕ) (k x passed : ℕ) : Type 0 where
+  pub inside : k < length run / 8
+  pub fits : x < 2 ^ 64
+  pub places : (j : ℕ) → j < ones x → OneAt run 0 (passed + j) (64 * k + placeOfOne 64 x j)
+  pub next : onesBelow run 0 (64 * (k + 1)) ≡ passed + ones x
+
+-- a whole word
+pub onward-word : (run : List ℕ) (k x passed : ℕ) → k < length run / 8 → x ≡ runWord run 0 k → x < 2 ^ 64
+    → passed ≡ onesBelow run 0 (64 * k) → Onward run k x passed
+onward-word run k x passed h e l p = rw p (record {
+  inside = h;
+  fits = l;
+  places = λ j s. place-one run 0 k x j e l s;
+  next = next-word run 0 k x e l;
+})
 
 module _ (run : List ℕ) (start before rank : ℕ) (a : OneAhead run start before rank) where
-  -- its word is one of the run's
+  -- the start's word is one of the run's
   pub start-word : start / 64 < length run / 8
   start-word = omega (arith, count-lt run 0 start (64 * (length run / 8)) (omega (arith, a .passed, a .ahead, a .some)))
 
-  -- of the ones below the start, `inner` lie in its word x
-  pub start-splits : (x inner : ℕ) → x ≡ runWord run 0 (start / 64) → inner ≡ ones (x % 2 ^ (start % 64))
-      → (inner ≤ before) × OneAhead run (64 * (start / 64)) (before - inner) rank
-  start-splits x inner e f =
-      let d : 64 * (start / 64) + start % 64 ≡ start = omega arith in
-      let c = rw (← e, ← f, d) at (word-ones run 0 (start / 64) (start % 64) (omega arith)) in (
-        omega (arith, c, a .passed),
-        record {
-          passed = omega (arith, c, a .passed);
-          ahead = omega (arith, a .ahead);
-          some = a .some;
-          short = a .short;
-        },
-      )
+  -- that word from the start on
+  pub onward-start : (x y : ℕ) → x ≡ runWord run 0 (start / 64) → x < 2 ^ 64
+      → y ≡ x / 2 ^ (start % 64) * 2 ^ (start % 64) → y < 2 ^ 64 → Onward run (start / 64) y before
+  onward-start x y e l f m =
+      let k : ℕ = start / 64 in
+      let d : ℕ = start % 64 in
+      let inner : ℕ = ones (x % 2 ^ d) in
+      let at : 64 * k + d ≡ start = omega arith in
+      let c : onesBelow run 0 start ≡ onesBelow run 0 (64 * k) + inner =
+      rw (← e, at) at (word-ones run 0 k d (omega arith)) in
+      let o : ones x ≡ ones y + inner = rw f (split-ones x d) in
+      record {
+        inside = start-word;
+        fits = m;
+        places = λ j s.
+            let r : onesBelow run 0 (64 * k) + (inner + j) ≡ before + j = omega (arith, c, a .passed) in
+            rw (f, place-from x d j (omega arith), ← r) (place-one run 0 k x (inner + j) e l (omega (arith, o)));
+        next = omega (arith, next-word run 0 k x e l, c, a .passed, o);
+      }
+
+-- the next word is one of the run's, where the one wanted is not in this
+pub onward-next : (run : List ℕ) (k x passed rank : ℕ) → Onward run k x passed → passed + ones x ≤ rank
+    → rank < onesBelow run 0 (64 * (length run / 8)) → k + 1 < length run / 8
+onward-next run k x passed rank o l some =
+    omega (arith, count-lt run 0 (64 * (k + 1)) (64 * (length run / 8)) (omega (arith, o .next)))

@@ -158,6 +158,9 @@ module _ (s : List ℕ) (g : Shape) (o : Open s g) where
 
   -- ---- pointers
 
+  pub pointers-few : pointersIn g ≤ 2 ^ 16
+  pointers-few = omega (arith, read .low, read .many, read .within)
+
   after-first : (r : ℕ) → r ≡ 0 → After (onesBelow s (g .upper)) 0 r
   after-first r e = rw e (record {
     counted = ap (λ (k : ℕ). 0 + k) (below-none s (g .upper));

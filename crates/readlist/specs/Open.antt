@@ -1,12 +1,14 @@
 -- What is read of a list block once it is accepted.
 --
 --   Open s g           s is an accepted block and g its shape
+--   shapeIn s          the shape of an accepted block s
 --   pointersIn g       how many pointers a block of shape g has
 --   pointerOf s g i    pointer number i of the upper run of s, whose shape is g; 0 for i = 0
 --   PointerAt s g i r  r is that pointer, as stored and as a place of the run; i from 0 to pointersIn g
 --   HighEnd s g rank i     pointer number i is the last, or the next has more than `rank` ones before it
 --   Among s g rank low high  the last pointer with at most `rank` ones before it is one from number low to number high
 --   LastBefore s g rank i  pointer number i is the last with at most `rank` ones before it
+--   Sought s last n rank   s is accepted and has n elements and `last` pointers; `rank` is below n
 --   OneAt s at rank p  the one number `rank`, from 0, of the run at byte `at` stands at place p
 --   OneAhead run p before rank  the one number `rank` lies at place p of the run or after it; `before` ones lie below p
 --   onesIn run         how many ones the words of the run have
@@ -29,6 +31,9 @@ use Rattle.shape.specs.Shape.{shapeOf}
 pub record Open (s : List ℕ) (g : Shape) : Type 0 where
   pub accepted : listRefusal s ≡ Accepted
   pub shape : g ≡ shapeOf (listU s) (listN s)
+
+abbrev pub shapeIn : List ℕ → Shape
+shapeIn s = shapeOf (listU s) (listN s)
 
 abbrev pub pointersIn : Shape → ℕ
 pointersIn g = (g .lower - 13) / 4
@@ -56,6 +61,12 @@ pub record LastBefore (s : List ℕ) (g : Shape) (rank i : ℕ) : Type 0 where
   pub within : i ≤ pointersIn g
   pub before : pointerOf s g i ≤ 256 * i + rank
   pub last : i < pointersIn g → 256 * (i + 1) + rank < pointerOf s g (i + 1)
+
+pub record Sought (s : List ℕ) (last n rank : ℕ) : Type 0 where
+  pub opened : Open s (shapeIn s)
+  pub pointers : last ≡ pointersIn (shapeIn s)
+  pub elements : n ≡ shapeIn s .n
+  pub below : rank < n
 
 pub record OneAt (s : List ℕ) (at rank p : ℕ) : Type 0 where
   pub set : runBit s at p ≡ 1

@@ -9,7 +9,8 @@ ghost use Rattle.rules.specs.Runs.{field};
 ghost use Rattle.rules.specs.Counts.{onesBelow};
 ghost use Rattle.rules.specs.ReadList.{listU, listN, decode, listRefusal};
 ghost use Rattle.shape.specs.Shape.{shapeOf};
-ghost use Rattle.readlist.specs.Open.{Open, pointersIn, pointerOf, PointerAt, HighEnd, Among, LastBefore, OneAt, OneAhead, SomeOne, LastOne};
+ghost use Rattle.readlist.specs.Open.{Open, shapeIn, pointersIn, pointerOf, PointerAt, HighEnd, Among, LastBefore};
+ghost use Rattle.readlist.specs.Open.{Sought, OneAt, OneAhead, SomeOne, LastOne};
 use shape::Shape;
 
 // ---- the shape and the parts
@@ -36,15 +37,23 @@ pub fn upper_of(block: &[u8], g: Shape) -> &[u8]
 
 // ---- pointers and elements
 
-// Pointer number i, the place just after 256 * i zeros of the upper run; 0 for i = 0.
-pub fn pointer_at(block: &[u8], g: Shape, i: usize) -> usize
-    requires { ⌜ Open (now block) g × (i ≤ pointersIn g) ⌝ }
-    ensures { λ r. ⌜ PointerAt (now (block .entry)) g i r ⌝ }
+// Pointer number i of an accepted block, the place just after 256 * i zeros of the upper run; 0 for i = 0.
+fn pointer_in(block: &[u8], i: usize) -> usize
+    requires { ⌜ Open (now block) (shapeIn (now block)) × (i ≤ pointersIn (shapeIn (now block))) ⌝ }
+    ensures { λ r. ⌜ PointerAt (now (block .entry)) (shapeIn (now (block .entry))) i r ⌝ }
 {
     if i == 0 {
         return 0;
     }
     bits::read_u32(block, 9 + 4 * i) as usize
+}
+
+// The same of a block whose shape is g.
+pub fn pointer_at(block: &[u8], g: Shape, i: usize) -> usize
+    requires { ⌜ Open (now block) g × (i ≤ pointersIn g) ⌝ }
+    ensures { λ r. ⌜ PointerAt (now (block .entry)) g i r ⌝ }
+{
+    pointer_in(block, i)
 }
 
 // The low part of element number i.
@@ -75,42 +84,49 @@ fn last_pointer(g: Shape) -> usize
 }
 
 // Whether pointer number i has at most `rank` ones before it.
-fn precedes(block: &[u8], g: Shape, i: usize, rank: usize) -> bool
-    requires { ⌜ Open (now block) g × (i ≤ pointersIn g) × (rank < g .n) ⌝ }
-    ensures { λ r. ⌜ r ≡ leb (pointerOf (now (block .entry)) g i) (256 * i + rank) ⌝ }
+fn precedes(block: &[u8], i: usize, rank: usize) -> bool
+    requires { ⌜ Open (now block) (shapeIn (now block)) × (i ≤ pointersIn (shapeIn (now block)))
+        × (rank < shapeIn (now block) .n) ⌝ }
+    ensures { λ r. ⌜ r ≡ leb (pointerOf (now (block .entry)) (shapeIn (now (block .entry))) i) (256 * i + rank) ⌝ }
 {
-    pointer_at(block, g, i) <= 256 * i + rank
+    pointer_in(block, i) <= 256 * i + rank
 }
 
-// A pointer with at most `rank` ones before it: the one 8 below the guess where it is such, else number 0.
-fn low_near(block: &[u8], g: Shape, guess: usize, rank: usize) -> usize
-    requires { ⌜ Open (now block) g × (guess ≤ pointersIn g) × (rank < g .n) ⌝ }
-    ensures { λ r. ⌜ (r ≤ guess) × (pointerOf (now (block .entry)) g r ≤ 256 * r + rank) ⌝ }
+// A pointer with at most `rank` ones before it, at the guess or below it, found in steps that double.
+fn low_near(block: &[u8], guess: usize, rank: usize) -> usize
+    requires { ⌜ Open (now block) (shapeIn (now block)) × (guess ≤ pointersIn (shapeIn (now block)))
+        × (rank < shapeIn (now block) .n) ⌝ }
+    ensures { λ r. ⌜ (r ≤ guess)
+        × (pointerOf (now (block .entry)) (shapeIn (now (block .entry))) r ≤ 256 * r + rank) ⌝ }
 {
-    if guess <= 8 {
-        return 0;
+    let mut i = guess;
+    let mut step = 1;
+    while !precedes(block, i, rank) {
+        if i <= step {
+            return 0;
+        }
+        i -= step;
+        step *= 2;
     }
-    let i = guess - 8;
-    if precedes(block, g, i, rank) {
-        return i;
-    }
-    0
+    i
 }
 
-// A pointer such that the next has more ones before it: the one 7 above the guess where it is such, else the last.
-fn high_near(block: &[u8], g: Shape, guess: usize, rank: usize) -> usize
-    requires { ⌜ Open (now block) g × (guess ≤ pointersIn g) × (rank < g .n) ⌝ }
-    ensures { λ r. ⌜ (guess ≤ r) × HighEnd (now (block .entry)) g rank r ⌝ }
+// A pointer such that the next has more ones before it, or the last: at the guess or above it, found in the same way.
+fn high_near(block: &[u8], last: usize, guess: usize, rank: usize) -> usize
+    requires { ⌜ Open (now block) (shapeIn (now block)) × (last ≡ pointersIn (shapeIn (now block)))
+        × (guess ≤ last) × (rank < shapeIn (now block) .n) ⌝ }
+    ensures { λ r. ⌜ (guess ≤ r) × HighEnd (now (block .entry)) (shapeIn (now (block .entry))) rank r ⌝ }
 {
-    let last = last_pointer(g);
-    let i = guess + 8;
-    if last <= i {
-        return last;
+    let mut i = guess + 1;
+    let mut step = 1;
+    while i <= last {
+        if !precedes(block, i, rank) {
+            return i - 1;
+        }
+        i += step;
+        step *= 2;
     }
-    if precedes(block, g, i, rank) {
-        return last;
-    }
-    i - 1
+    last
 }
 
 // Pointers from number `low` to number `high`.
@@ -119,32 +135,35 @@ struct Range {
     high: usize,
 }
 
-// Pointers among which the last with at most `rank` ones before it is: of many, those near that rank's share.
-fn narrowed(block: &[u8], g: Shape, rank: usize) -> Range
-    requires { ⌜ Open (now block) g × (rank < g .n) ⌝ }
-    ensures { λ r. ⌜ Among (now (block .entry)) g rank (r .low) (r .high) ⌝ }
+// Pointers among which the last with at most `rank` ones before it is: some from that rank's share up, or some below it.
+fn narrowed(block: &[u8], last: usize, n: usize, rank: usize) -> Range
+    requires { ⌜ Sought (now block) last n rank ⌝ }
+    ensures { λ r. ⌜ Among (now (block .entry)) (shapeIn (now (block .entry))) rank (r .low) (r .high) ⌝ }
 {
-    let last = last_pointer(g);
-    if last <= 16 {
-        return Range { low: 0, high: last };
+    let guess = rank * last / n;
+    if precedes(block, guess, rank) {
+        let high = high_near(block, last, guess, rank);
+        return Range { low: guess, high };
     }
-    let guess = rank * last / g.n;
-    let low = low_near(block, g, guess, rank);
-    let high = high_near(block, g, guess, rank);
+    let high = guess - 1;
+    let low = low_near(block, high, rank);
     Range { low, high }
 }
 
 // The last pointer with at most `rank` ones before it, found by halving.
-pub fn pointer_before(block: &[u8], g: Shape, rank: usize) -> usize
-    requires { ⌜ Open (now block) g × (rank < g .n) ⌝ }
-    ensures { λ r. ⌜ LastBefore (now (block .entry)) g rank r ⌝ }
+fn pointer_before(block: &[u8], last: usize, n: usize, rank: usize) -> usize
+    requires { ⌜ Sought (now block) last n rank ⌝ }
+    ensures { λ r. ⌜ LastBefore (now (block .entry)) (shapeIn (now (block .entry))) rank r ⌝ }
 {
-    let near = narrowed(block, g, rank);
+    if last == 0 {
+        return 0;
+    }
+    let near = narrowed(block, last, n, rank);
     let mut low = near.low;
     let mut high = near.high;
     while low < high {
         let mid = high - (high - low) / 2;
-        if precedes(block, g, mid, rank) {
+        if precedes(block, mid, rank) {
             low = mid;
         } else {
             high = mid - 1;
@@ -153,42 +172,34 @@ pub fn pointer_before(block: &[u8], g: Shape, rank: usize) -> usize
     low
 }
 
-// The place of the one number `rank` of a run, of whose ones `before` lie below word `from`.
-pub fn one_from(run: &[u8], from: usize, before: usize, rank: usize) -> usize
-    requires { ⌜ OneAhead (now run) (64 * from) before rank ⌝ }
-    ensures { λ r. ⌜ OneAt (now (run .entry)) 0 rank r × (r < 64 * (length (now (run .entry)) / 8)) ⌝ }
-{
-    let mut k = from;
-    let mut passed = before;
-    let mut x = bits::run_word(run, 0, k);
-    let mut next = passed + u64::count_ones(x) as usize;
-    while next <= rank {
-        k += 1;
-        passed = next;
-        x = bits::run_word(run, 0, k);
-        next = passed + u64::count_ones(x) as usize;
-    }
-    64 * k + bits::select_one(x, (rank - passed) as u32) as usize
-}
-
-// The same, where `before` ones lie below place `start`.
+// The place of the one number `rank` of a run, of whose ones `before` lie below place `start`.
 fn one_past(run: &[u8], start: usize, before: usize, rank: usize) -> usize
     requires { ⌜ OneAhead (now run) start before rank ⌝ }
     ensures { λ r. ⌜ OneAt (now (run .entry)) 0 rank r × (r < 64 * (length (now (run .entry)) / 8)) ⌝ }
 {
-    let k = start / 64;
-    let inner = bits::ones_below(bits::run_word(run, 0, k), start % 64) as usize;
-    one_from(run, k, before - inner, rank)
+    let mut k = start / 64;
+    let mut left = (rank - before) as u64;
+    let mut x = bits::from_bit(bits::run_word(run, 0, k), start % 64);
+    let mut counts = bits::running_counts(x);
+    while bits::total(counts) <= left {
+        left -= bits::total(counts);
+        k += 1;
+        x = bits::run_word(run, 0, k);
+        counts = bits::running_counts(x);
+    }
+    64 * k + bits::select_by(x, counts, left as u32) as usize
 }
 
-// The place in the upper run of the one number `rank`: from the last pointer before it.
-pub fn place_of(block: &[u8], g: Shape, rank: usize) -> usize
-    requires { ⌜ Open (now block) g × (rank < g .n) ⌝ }
-    ensures { λ r. ⌜ OneAt (now (block .entry)) (g .upper) rank r ⌝ }
+// The place in the upper run of the one number `rank`, from the last pointer before it. It takes the three numbers of
+// the shape that it needs, and not the shape, so that a call has all in registers.
+fn place_of(block: &[u8], last: usize, n: usize, upper: usize, rank: usize) -> usize
+    requires { ⌜ Sought (now block) last n rank × (upper ≡ shapeIn (now block) .upper) ⌝ }
+    ensures { λ r. ⌜ OneAt (now (block .entry)) upper rank r ⌝ }
 {
-    let i = pointer_before(block, g, rank);
-    let start = pointer_at(block, g, i);
-    one_past(upper_of(block, g), start, start - 256 * i, rank)
+    let i = pointer_before(block, last, n, rank);
+    let start = pointer_in(block, i);
+    let end = block.len();
+    one_past(&block[upper..end], start, start - 256 * i, rank)
 }
 
 // Element number `rank`, found without reading the elements before it.
@@ -196,7 +207,8 @@ pub fn element_at(block: &[u8], g: Shape, rank: usize) -> usize
     requires { ⌜ Open (now block) g × (rank < g .n) ⌝ }
     ensures { λ r. ⌜ r ≡ getD (decode (now (block .entry))) rank 0 ⌝ }
 {
-    value_at(block, g, place_of(block, g, rank), rank)
+    let found = place_of(block, last_pointer(g), g.n, g.upper, rank);
+    value_at(block, g, found, rank)
 }
 
 // ---- the last element
@@ -234,7 +246,7 @@ pub fn place_near(block: &[u8], g: Shape, start: usize, before: usize, rank: usi
     ensures { λ r. ⌜ OneAt (now (block .entry)) (g .upper) rank r ⌝ }
 {
     if before + 256 < rank {
-        return place_of(block, g, rank);
+        return place_of(block, last_pointer(g), g.n, g.upper, rank);
     }
     one_past(upper_of(block, g), start, before, rank)
 }

@@ -1,54 +1,36 @@
 -- Laws of cursors as structs of numbers: their marks, the rule's cursor that one holds, and what a seek makes of it.
-use mathlib.Core.Bool.{true}
-use mathlib.Core.Path.{_≡_, _∙_}
+use mathlib.Core.Bool.{true, not}
+use mathlib.Core.Path.{_≡_}
 use mathlib.Core.List.{List}
-use Prim.Native.Nat.{ℕ, _+_, _-_, _/_, _^_, _≤_, _<_}
-use native.Mathlib.Decide.{decLt}
+use Prim.Native.Nat.{ℕ, zero, suc, _+_, _-_, _/_, _^_, _≤_, _<_}
 use native.Mathlib.Omega.{arith}
-use borrow.Author.Tests.{le-leb, lt-leb, eq-eqb, ne-eqb}
+use borrow.Author.Tests.{eq-eqb, ne-eqb}
+use lib.Dec.{eqb}
+use mir.Val.{boolByte}
 use lib.ListN.{length, getD}
-use lib.Pow.{shr-mono}
 use Rattle.rules.specs.Limits.{limit}
 use Rattle.rules.specs.List.{rising}
 use Rattle.rules.specs.Seek.{Cursor as Placing, fresh, on, spent, widthOf, placeOf, cursorBit}
 use Rattle.seeklaws.specs.Cursors.{Placed, floor}
 use Rattle.seeklaws.proofs.FirstLaws.{rising-below}
 use Rattle.seek.specs.declared.Cursor.{Cursor}
-use Rattle.seek.specs.Cursors.{spentMark, markOf, rankIn, ruleCursor, Held, markFrom}
+use Rattle.seek.specs.Cursors.{spentMark, markOf, rankIn, ruleCursor, Held}
 
 -- ---- marks
 
-pub mark-below : (xs : List ℕ) (b i : ℕ) → getD xs i 0 < b → markFrom xs b i ≡ 0
-unfolding markFrom
-mark-below xs b i h = rw (lt-leb b (getD xs i 0) h)
+-- `(mark != 0) as u32`: one where there is a page
+pub record Own (mark own : ℕ) : Type 0 where
+  pub few : own ≤ 1
+  pub marked : own ≤ mark
+  pub page : mark - own ≡ mark - 1
 
-pub mark-from : (xs : List ℕ) (b i : ℕ) → b ≤ getD xs i 0 → markFrom xs b i ≡ getD xs i 0 + 1
-unfolding markFrom
-mark-from xs b i h = rw (le-leb b (getD xs i 0) h)
-
--- what a mark tells of its element
-pub mark-none : (xs : List ℕ) (b i m : ℕ) → m ≡ markFrom xs b i → m ≡ 0 → getD xs i 0 < b
-mark-none xs b i m e z = elim (decLt (getD xs i 0) b) [
-  | yes l ↦ l
-  | no l ↦ absurd (omega (arith, e, mark-from xs b i (omega arith)))
-]
-
-pub mark-some : (xs : List ℕ) (b i m : ℕ) → m ≡ markFrom xs b i → (m ≡ 0 → ⊥)
-    → (b ≤ getD xs i 0) × (m ≡ getD xs i 0 + 1)
-mark-some xs b i m e z =
-    elim (decLt (getD xs i 0) b) [
-      | yes l ↦ absurd (z (e ∙ mark-below xs b i l))
-      | no l ↦
-          let h : b ≤ getD xs i 0 = omega arith in
-          (h, e ∙ mark-from xs b i h)
-    ]
-
--- an element of a lower bucket is lower
-pub lower-high : (x b w : ℕ) → x / 2 ^ w < b / 2 ^ w → x < b
-lower-high x b w h = elim (decLt x b) [
-  | yes l ↦ l
-  | no l ↦ absurd (omega (arith, shr-mono {a = b} {b = x} w (omega arith)))
-]
+pub own-of : (mark : ℕ) → Own mark (boolByte (not (eqb mark 0)))
+own-of zero = record { few = omega arith; marked = omega arith; page = omega arith }
+own-of (suc m) = rw (ne-eqb (suc m) 0 (λ e. omega arith)) (record {
+  few = omega arith;
+  marked = omega arith;
+  page = omega arith;
+})
 
 -- ---- the rule's cursor that a struct holds
 

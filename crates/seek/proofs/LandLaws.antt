@@ -20,7 +20,7 @@ use Rattle.seek.specs.declared.Landing.{Landing}
 use Rattle.seek.specs.Cursors.{spentMark, markOf}
 use Rattle.seek.specs.Walks.{Before, lastWord, Walking, Landed}
 use Rattle.seek.proofs.OpenLaws.{open-some, open-length, open-ruled, placed-at}
-use Rattle.seek.proofs.WalkLaws.{walking-end, one-lt, one-bit, one-rank}
+use Rattle.seek.proofs.WalkLaws.{walking-few, one-lt, one-bit, one-rank}
 
 pub last-on : (U : ℕ) (xs : List ℕ) (i : ℕ) → i < length xs → lastWord U xs i ≡ placeOf U xs i / 64
 unfolding lastWord
@@ -31,15 +31,14 @@ unfolding lastWord
 last-none U xs i e = rw (eq-eqb i (length xs) e)
 
 module _ (s : List ℕ) (g : Shape) (o : Open s g) (b : ℕ) (from x : Walk) (a : Walking s g x)
-    (passed : Before s b (x .rank)) (paid : x .looks + from .k ≡ from .looks + x .k) (r : Landing)
-    (looks : r .looks ≡ x .looks) where
+    (passed : Before s b (x .rank)) (paid : x .looks + from .k ≡ from .looks + x .k) (r : Landing) where
   abbrev xs : List ℕ
   xs = decode s
 
-  pub landed-on : 0 < x .left → b ≤ getD (decode s) (x .rank) 0 → r .mark ≡ getD (decode s) (x .rank) 0 + 1
-      → r .bit ≡ 64 * x .k + trailingZeros 64 (x .left) → Landed s b from r
+  pub landed-on : r .looks ≡ x .looks → 0 < x .left → b ≤ getD (decode s) (x .rank) 0
+      → r .mark ≡ getD (decode s) (x .rank) 0 + 1 → r .bit ≡ 64 * x .k + trailingZeros 64 (x .left) → Landed s b from r
   unfolding markOf cursorBit
-  landed-on some h m p =
+  landed-on looks some h m p =
       let bit : ℕ = 64 * x .k + trailingZeros 64 (x .left) in
       let one = one-bit s g o x a some in
       let count = one-rank s g o x a some in
@@ -55,10 +54,11 @@ module _ (s : List ℕ) (g : Shape) (o : Open s g) (b : ℕ) (from x : Walk) (a 
             rw (first, last-on (listU s) xs (x .rank) n, place) (omega (arith, paid, looks, one-lt s g o x a some));
       }
 
-  pub landed-none : x .left ≡ 0 → x .k + 1 ≡ wordsFor (g .bits) → r .mark ≡ spentMark → r .bit ≡ 0 → Landed s b from r
+  pub landed-none : r .looks + x .k + 1 ≡ x .looks + wordsFor (g .bits) → g .n ≤ x .rank → r .mark ≡ spentMark
+      → r .bit ≡ 0 → Landed s b from r
   unfolding markOf cursorBit
-  landed-none e k m p =
-      let n : x .rank ≡ length xs = walking-end s g o x a e k ∙ sym (open-length s g o) in
+  landed-none looks e m p =
+      let n : x .rank ≡ length xs = omega (arith, walking-few s g o x a, open-length s g o) in
       let first : firstAt b xs ≡ length xs = firstAt-none b xs (λ j h. passed j (omega arith)) in
       let some = open-ruled s g o (open-some s g o (unfold wordsFor in omega (arith, a .within))) in
       record {

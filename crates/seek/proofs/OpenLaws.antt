@@ -121,7 +121,7 @@ module _ (s : List ℕ) (g : Shape) (o : Open s g) where
 
   -- the element of a one is placed there
   module _ (place rank : ℕ) (one : runBit s (g .upper) place ≡ 1) (count : onesBelow s (g .upper) place ≡ rank) where
-    pub high-is : getD (decode s) rank 0 / 2 ^ g .w ≡ place - rank
+    high-is : getD (decode s) rank 0 / 2 ^ g .w ≡ place - rank
     high-is =
         ap (λ (x : ℕ). x / 2 ^ g .w) (one-ranks s g o place rank (record { set = one; below = count }) .value)
         ∙ high (place - rank) (g .w) (field-lt s (g .lower) (rank * g .w) (g .w))

@@ -32,6 +32,15 @@ use Rattle.seek.proofs.OpenLaws.{open-ruled, before-place, before-zeros
 use Rattle.seek.proofs.WalkLaws.{skipping-from, walking-from}
 use Rattle.seek.proofs.CursorLaws.{held-rule, held-floor}
 
+-- a place with an element is within the run
+pub own-inside : (s : List ℕ) (g : Shape) → Open s g → (b : ℕ) (p : Place) → Started s g b p → (p .own ≡ 0 → ⊥)
+    → p .bit < g .bits
+own-inside s g o b p t h =
+    elim (decLt (p .bit) (g .bits)) [
+      | yes l ↦ l
+      | no l ↦ absurd (h (omega (arith, t .own-set, open-reads s g o .spare (p .bit) (omega arith))))
+    ]
+
 module _ (s : List ℕ) (g : Shape) (o : Open s g) (b : ℕ) (p : Place) (t : Started s g b p)
     (inside : p .bit < g .bits) where
   abbrev k : ℕ
@@ -40,8 +49,8 @@ module _ (s : List ℕ) (g : Shape) (o : Open s g) (b : ℕ) (p : Place) (t : St
   abbrev f : ℕ
   f = p .bit % 64
 
-  place-split : 64 * k + f ≡ p .bit
-  place-split = omega arith
+  behind-start : 64 * k + (f + p .own) ≡ p .bit + p .own
+  behind-start = omega arith
 
   pub start-word : p .bit / 64 < wordsFor (g .bits)
   unfolding wordsFor
@@ -70,22 +79,21 @@ module _ (s : List ℕ) (g : Shape) (o : Open s g) (b : ℕ) (p : Place) (t : St
       → r .rank ≡ p .bit - p .zeros + p .own → r .looks ≡ looks + 1 → Passed s g b (p .bit / 64) (looks + 1) r
   passed-start looks r l e i n c =
       let before : r .rank ≡ onesBelow s (g .upper) (p .bit) + p .own = omega (arith, t .counted) in
-      let behind : 64 * k + (f + p .own) ≡ p .bit + p .own = omega arith in
       record {
         at =
             walking-from s g o (f + p .own) r (omega (arith, own-le)) (rw i start-word) (rw i e)
-            (rw (i, behind, own-counted) before) (omega arith);
+            (rw (i, behind-start, own-counted) before) (omega arith);
         passed = rw before (t .passed);
         counted = omega arith;
       }
 
-  -- the zeros from the start on
+  -- the zeros from the start on, or from behind the cursor's own element
   pub skipping-start : (h looks : ℕ) (x : Zeros) → looks < 2 ^ 31 → x .word ≡ runWord s (g .upper) (p .bit / 64)
-      → x .left ≡ (2 ^ 64 - 1 - x .word) / 2 ^ (p .bit % 64) * 2 ^ (p .bit % 64)
+      → x .left ≡ (2 ^ 64 - 1 - x .word) / 2 ^ (p .bit % 64 + p .own) * 2 ^ (p .bit % 64 + p .own)
       → x .k ≡ p .bit / 64 → x .before ≡ p .zeros → x .looks ≡ looks + 1 → p .zeros < h → Skipping s g h x
   skipping-start h looks x l w e i z c n =
-      skipping-from s g o h f x (omega arith) (rw i start-word) (rw i w) e
-      (rw (i, place-split) (omega (arith, t .counted))) (omega arith) (omega arith)
+      skipping-from s g o h (f + p .own) x (omega (arith, own-le)) (rw i start-word) (rw i w) e
+      (rw (i, behind-start, own-counted) (omega (arith, t .counted))) (omega arith) (omega arith)
 
   -- the walk from the zeros of b's high part on
   pub passed-skip : (looks : ℕ) (x : Zeros) (r : Walk) → Skipped s g (b / 2 ^ g .w) x r → x .k ≡ p .bit / 64

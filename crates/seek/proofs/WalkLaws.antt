@@ -3,6 +3,7 @@ use mathlib.Core.Path.{_≡_, refl, sym, ap, _∙_}
 use mathlib.Core.List.{List}
 use Prim.Native.Nat.{ℕ, suc, _+_, _-_, _*_, _/_, _%_, _^_, _≤_, _<_}
 use native.Mathlib.Nat.{mod-eq-of-lt}
+use native.Mathlib.Decide.{ℕ-discrete}
 use native.Mathlib.Omega.{arith}
 use lib.Bits.{bitAnd}
 use lib.Count.{ones, trailingZeros}
@@ -36,7 +37,7 @@ module _ (s : List ℕ) (g : Shape) (o : Open s g) where
   -- ---- over zeros
 
   -- the zeros of word k from place f on
-  pub skipping-from : (h f : ℕ) (x : Zeros) → f < 64 → x .k < wordsFor (g .bits) → x .word ≡ word (x .k)
+  pub skipping-from : (h f : ℕ) (x : Zeros) → f ≤ 64 → x .k < wordsFor (g .bits) → x .word ≡ word (x .k)
       → x .left ≡ (2 ^ 64 - 1 - x .word) / 2 ^ f * 2 ^ f
       → below (64 * x .k + f) + x .before ≡ 64 * x .k + f → x .before < h → x .looks ≤ 2 ^ 31 + x .k → Skipping s g h x
   skipping-from h f x l i w e c b r =
@@ -154,10 +155,28 @@ module _ (s : List ℕ) (g : Shape) (o : Open s g) where
     }
 
     -- the run's last word has no one left when all n are passed
-    pub walking-end : x .left ≡ 0 → x .k + 1 ≡ wordsFor (g .bits) → x .rank ≡ g .n
+    walking-end : x .left ≡ 0 → x .k + 1 ≡ wordsFor (g .bits) → x .rank ≡ g .n
     walking-end e k =
         let r = open-reads s g o in
         none-left e ∙ rw k (ones-whole s (g .upper) (g .bits) (λ i l _. r .spare i l) ∙ r .counted)
+
+    -- no more than n are passed
+    pub walking-few : x .rank ≤ g .n
+    walking-few = omega (
+      arith,
+      a .counted,
+      word-below (x .k),
+      a .left-are .within,
+      ones-few s g o (64 * (x .k + 1)),
+    )
+
+    -- and while there are fewer, an empty word is not the last
+    pub walking-more : x .left ≡ 0 → x .rank < g .n → x .k + 1 < wordsFor (g .bits)
+    walking-more e l =
+        elim (ℕ-discrete (x .k + 1) (wordsFor (g .bits))) [
+          | yes d ↦ absurd (omega (arith, walking-end e d))
+          | no d ↦ omega (arith, a .within)
+        ]
 
     -- ---- from one to one
 

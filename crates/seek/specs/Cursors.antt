@@ -11,7 +11,6 @@
 --   startIn s c b     the bit at which the rule's seek for b starts on that list
 --   landing U xs c b  where a seek for b ends: the rule's next cursor, and the rule's looks more
 --   movedTo U xs c b  the cursor after a seek for b: so, and one seek more
---   markFrom xs b i   the mark on element number i; 0 where it is below b
 --   foundBy U xs c    the answer that a cursor after a seek stands for: its page and rank, or none
 --   after U xs c bs   the cursor after seeks for the bounds bs in turn
 --   founds U xs c bs  the answers of these seeks
@@ -19,7 +18,7 @@ use mathlib.Core.Bool.{cond}
 use mathlib.Core.Path.{_≡_}
 use mathlib.Core.List.{List, [], _∷_}
 use Prim.Native.Nat.{ℕ, _+_, _-_, _/_, _^_, _≤_, _<_}
-use lib.Dec.{leb, eqb}
+use lib.Dec.{eqb}
 use lib.ListN.{getD}
 use Rattle.rules.specs.ReadList.{listU, listN, decode}
 use Rattle.rules.specs.Seek.{Cursor as Placing, fresh, on, spent, Found, none}
@@ -72,9 +71,6 @@ unfoldable pub movedTo : ℕ → List ℕ → Cursor → ℕ → Cursor
 movedTo U xs c b =
     let a : Sought = seek U xs (ruleCursor U xs c) b in
     held U xs (a .cursor) (c .seeks + 1) (c .looks + a .looks)
-
-unfoldable pub markFrom : List ℕ → ℕ → ℕ → ℕ
-markFrom xs b i = cond (leb b (getD xs i 0)) (getD xs i 0 + 1) 0
 
 unfoldable pub foundBy : ℕ → List ℕ → Cursor → Found
 foundBy U xs c = cond (eqb (c .mark) spentMark) none (page (c .mark - 1) (rankIn U xs c))

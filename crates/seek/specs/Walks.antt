@@ -8,7 +8,7 @@
 --   Walking s g x     what is left of word k, and the ones of the run before it
 --   Skipped s g h x r a walk that stands just after zero number h; one look for each word passed
 --   Passed s g b k looks r  a walk that has passed no element at least b; one look for each word from k on
---   AtOne s g x r     a walk that has a one left in its word, or has none in the run; one look for each word passed
+--   AtOne s g x r     a walk of the same rank that has a one left in its word; one look for each word passed
 --   Landed s b x r    the cursor at the first element at least b; one look for each word passed
 use mathlib.Core.Bool.{cond}
 use mathlib.Core.Path.{_≡_}
@@ -77,7 +77,7 @@ pub record Passed (s : List ℕ) (g : Shape) (b k looks : ℕ) (r : Walk) : Type
 
 pub record AtOne (s : List ℕ) (g : Shape) (x r : Walk) : Type 0 where
   pub at : Walking s g r
-  pub some : r .left ≡ 0 → r .k + 1 ≡ wordsFor (g .bits)
+  pub some : 0 < r .left
   pub rank-kept : r .rank ≡ x .rank
   pub counted : r .looks + x .k ≡ x .looks + r .k
 

@@ -3,11 +3,11 @@
 ghost use mathlib.Core.Path.{_≡_};
 ghost use Prim.Native.Nat.{_+_, _-_, _*_, _/_, _^_, _≤_, _<_};
 ghost use lib.Count.{ones};
-ghost use lib.ListN.{length};
-ghost use Rattle.rules.specs.Runs.{runWord};
+ghost use lib.ListN.{length, getD};
+ghost use Rattle.rules.specs.Runs.{runWord, field, wordsFor};
 ghost use Rattle.rules.specs.ReadList.{listU, decode};
 ghost use Rattle.readlist.specs.Open.{Open, OneAt};
-ghost use Rattle.seek.specs.Cursors.{spentMark, unused, rankIn, markFrom, Held, Moving, startIn, landing, movedTo};
+ghost use Rattle.seek.specs.Cursors.{spentMark, unused, rankIn, Held, Moving, startIn, landing, movedTo};
 ghost use Rattle.seek.specs.Walks.{Before, Started, Skipping, Skipped, Passed, Walking, AtOne, Landed};
 use shape::Shape;
 
@@ -68,7 +68,7 @@ fn behind(x: u64, place: usize, own: u32) -> u64
     requires { ⌜ (place < 64) × (own ≤ 1) ⌝ }
     ensures { λ r. ⌜ r ≡ x / 2 ^ (place + own) * 2 ^ (place + own) ⌝ }
 {
-    ((x >> place) & !(own as u64)) << place
+    x & ((18446744073709551615 - own as u64) << place)
 }
 
 // ---- where a seek starts
@@ -85,10 +85,8 @@ fn high_of(g: Shape, c: Cursor) -> usize
     requires { ⌜ g .w < 64 ⌝ }
     ensures { λ r. ⌜ r ≡ (c .mark - 1) / 2 ^ g .w ⌝ }
 {
-    if c.mark == 0 {
-        return 0;
-    }
-    (c.mark as usize - 1) >> g.w
+    let page = c.mark - (c.mark != 0) as u32;
+    page as usize >> g.w
 }
 
 // The larger of the cursor's bit and pointer h / 256: the pointer lies ahead just where the cursor's high part is of an
@@ -98,8 +96,9 @@ fn start(s: &[u8], g: Shape, c: Cursor, b: usize) -> Place
     ensures { λ r. ⌜ Started (now (s .entry)) g b r × (r .bit ≡ startIn (now (s .entry)) c b) ⌝ }
 {
     let high = high_of(g, c);
-    let i = (b >> g.w) / 256;
-    if high / 256 < i {
+    let h = b >> g.w;
+    if high / 256 * 256 + 255 < h {
+        let i = h / 256;
         return Place {
             bit: readlist::pointer_at(s, g, i),
             zeros: 256 * i,
@@ -177,7 +176,7 @@ fn pass(s: &[u8], g: Shape, b: usize, from: Place, looks: u32) -> Walk
     let k = from.bit / 64;
     let place = from.bit % 64;
     let seen = look(s, g.upper, k, looks);
-    if h <= from.zeros + 4 {
+    if h <= from.zeros + 3 {
         return Walk {
             left: behind(seen.word, place, from.own),
             k,
@@ -187,7 +186,7 @@ fn pass(s: &[u8], g: Shape, b: usize, from: Place, looks: u32) -> Walk
     }
     let zeros = Zeros {
         word: seen.word,
-        left: from_place(!seen.word, place),
+        left: behind(!seen.word, place, from.own),
         k,
         before: from.zeros,
         looks: seen.looks,
@@ -215,42 +214,72 @@ fn none(looks: u32) -> Landing
     }
 }
 
-// Passes words with no one left, up to the run's last.
+// Goes on to the next word.
+fn next_word(s: &[u8], g: Shape, at: Walk) -> Walk
+    requires { ⌜ Open (now s) g × (at .k + 1 < wordsFor (g .bits)) × (at .looks ≤ 2 ^ 31 + at .k) ⌝ }
+    ensures { λ r. ⌜ (r .left ≡ runWord (now (s .entry)) (g .upper) (at .k + 1)) × (r .k ≡ at .k + 1)
+        × (r .rank ≡ at .rank) × (r .looks ≡ at .looks + 1) ⌝ }
+{
+    let k = at.k + 1;
+    let seen = look(s, g.upper, k, at.looks);
+    Walk {
+        left: seen.word,
+        k,
+        rank: at.rank,
+        looks: seen.looks,
+    }
+}
+
+// Passes words with no one left; there is one ahead.
 fn to_one(s: &[u8], g: Shape, from: Walk) -> Walk
-    requires { ⌜ Open (now s) g × Walking (now s) g from ⌝ }
+    requires { ⌜ Open (now s) g × Walking (now s) g from × (from .rank < g .n) ⌝ }
     ensures { λ r. ⌜ AtOne (now (s .entry)) g from r ⌝ }
 {
-    let last = (g.bits + 63) / 64 - 1;
     let mut at = from;
-    while at.left == 0 && at.k < last {
-        let k = at.k + 1;
-        let seen = look(s, g.upper, k, at.looks);
-        let next = Walk {
-            left: seen.word,
-            k,
-            rank: at.rank,
-            looks: seen.looks,
-        };
-        at = next;
+    while at.left == 0 {
+        at = next_word(s, g, at);
     }
     at
 }
 
-// The mark of the element at a one, or 0 where it is below b; only in b's bucket or above is its low part read.
-// The element is put together here, and not by a call, for which the shape would go to memory.
-fn mark_from(s: &[u8], g: Shape, b: usize, bit: usize, rank: usize) -> u32
-    requires { ⌜ Open (now s) g × OneAt (now s) (g .upper) rank bit ⌝ }
-    ensures { λ r. ⌜ r ≡ markFrom (decode (now (s .entry))) b rank ⌝ }
+// The low part of the element of that rank. It is read here, and not by `bits::low_field`: that has more callers, and
+// stays a call of its own.
+fn low_part(s: &[u8], g: Shape, rank: usize) -> usize
+    requires { ⌜ Open (now s) g × (rank < g .n) ⌝ }
+    ensures { λ r. ⌜ (r ≡ field (now (s .entry)) (g .lower) (rank * g .w) (g .w)) × (r < 2 ^ 24) ⌝ }
 {
-    let high = bit - rank;
-    if high < b >> g.w {
+    if g.w == 0 {
         return 0;
     }
-    let page = (high << g.w) + bits::low_field(s, g.lower, rank * g.w, g.w) as usize;
-    if page < b {
-        return 0;
+    let o = rank * g.w;
+    let k = o / 64;
+    let place = o % 64;
+    let word = bits::run_word(s, g.lower, k);
+    if place + g.w <= 64 {
+        return bits::field_of(word, 0, place, g.w) as usize;
     }
-    (page + 1) as u32
+    bits::field_of(word, bits::run_word(s, g.lower, k + 1), place, g.w) as usize
+}
+
+// The element whose one stands at that bit with `rank` ones below it.
+fn page_at(s: &[u8], g: Shape, bit: usize, rank: usize) -> usize
+    requires { ⌜ Open (now s) g × OneAt (now s) (g .upper) rank bit ⌝ }
+    ensures { λ r. ⌜ r ≡ getD (decode (now (s .entry))) rank 0 ⌝ }
+{
+    ((bit - rank) << g.w) + low_part(s, g, rank)
+}
+
+// Passes all words up to the run's last.
+fn to_end(s: &[u8], g: Shape, from: Walk) -> Walk
+    requires { ⌜ Open (now s) g × (from .k < wordsFor (g .bits)) × (from .looks ≤ 2 ^ 31 + from .k) ⌝ }
+    ensures { λ r. ⌜ r .looks + from .k + 1 ≡ from .looks + wordsFor (g .bits) ⌝ }
+{
+    let last = (g.bits + 63) / 64 - 1;
+    let mut at = from;
+    while at.k < last {
+        at = next_word(s, g, at);
+    }
+    at
 }
 
 // Walks from one to one to the first element at or above b.
@@ -258,26 +287,28 @@ fn land(s: &[u8], g: Shape, b: usize, from: Walk) -> Landing
     requires { ⌜ Open (now s) g × Walking (now s) g from × Before (now s) b (from .rank) ⌝ }
     ensures { λ r. ⌜ Landed (now (s .entry)) b from r ⌝ }
 {
-    let mut at = to_one(s, g, from);
-    while at.left != 0 {
-        let bit = 64 * at.k + u64::trailing_zeros(at.left) as usize;
-        let mark = mark_from(s, g, b, bit, at.rank);
-        if mark != 0 {
+    let mut at = from;
+    while at.rank < g.n {
+        let one = to_one(s, g, at);
+        let bit = 64 * one.k + u64::trailing_zeros(one.left) as usize;
+        let page = page_at(s, g, bit, one.rank);
+        if b <= page {
             return Landing {
-                mark,
+                mark: (page + 1) as u32,
                 bit: bit as u32,
-                looks: at.looks,
+                looks: one.looks,
             };
         }
         let next = Walk {
-            left: at.left & (at.left - 1),
-            k: at.k,
-            rank: at.rank + 1,
-            looks: at.looks,
+            left: one.left & (one.left - 1),
+            k: one.k,
+            rank: one.rank + 1,
+            looks: one.looks,
         };
-        at = to_one(s, g, next);
+        at = next;
     }
-    none(at.looks)
+    let end = to_end(s, g, at);
+    none(end.looks)
 }
 
 // ---- the seek
@@ -298,7 +329,7 @@ fn find(s: &[u8], g: Shape, c: Cursor, b: usize) -> Landing
         return none(c.looks);
     }
     let from = start(s, g, c, b);
-    if from.bit == g.bits {
+    if from.own == 0 && from.bit == g.bits {
         return none(c.looks);
     }
     land(s, g, b, pass(s, g, b, from, c.looks))

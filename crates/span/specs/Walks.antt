@@ -4,6 +4,7 @@
 --   WalkOn s g w      s is an accepted block of shape g, and reading stands where w says
 --   PassedTo s g n w  so it does, with n elements passed
 --   Passing s g to b w  so it does, with no element at least b passed but for the last; up to `to` of them
+--   OnesLeft s g n x  x is what is left of a word of the upper run where n elements are passed
 --   PassedBelow s g to b w r  r has passed what w has and those after, up to the first at least b, or `to` of them
 use mathlib.Core.Path.{_≡_}
 use mathlib.Core.List.{List}
@@ -14,7 +15,9 @@ use Rattle.rules.specs.Term.{next}
 use Rattle.rules.specs.ReadList.{decode}
 use Rattle.shape.specs.declared.Shape.{Shape}
 use Rattle.readlist.specs.Open.{Open}
+use Rattle.seek.specs.Walks.{Walking}
 use Rattle.span.specs.declared.Walk.{Walk}
+use Rattle.span.specs.declared.Ones.{Ones}
 
 unfoldable pub past : List ℕ → ℕ → ℕ
 past xs i = next 0 (take i xs)
@@ -33,6 +36,10 @@ pub record Passing (s : List ℕ) (g : Shape) (to b : ℕ) (w : Walk) : Type 0 w
   pub on : WalkOn s g w
   pub inside : w .next ≤ to
   pub below : past (decode s) (w .next - 1) ≤ b
+
+pub record OnesLeft (s : List ℕ) (g : Shape) (n : ℕ) (x : Ones) : Type 0 where
+  pub walking : Walking s g (record { left = x .left; k = x .k; rank = x .rank; looks = 0 })
+  pub passed : x .rank ≡ n
 
 pub record PassedBelow (s : List ℕ) (g : Shape) (to b : ℕ) (w r : Walk) : Type 0 where
   pub passing : Passing s g to b r

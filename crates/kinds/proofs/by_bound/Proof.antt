@@ -1,54 +1,48 @@
 -- `by_bound` finds the next page of the word's list alone.
-use mathlib.Core.Path.{_≡_, refl}
+use mathlib.Core.Path.{_≡_}
 use Prim.Native.Nat.{_-_}
 use native.Mathlib.Omega.{arith}
-use Rattle.rules.specs.Index.{indexT}
 use Rattle.seek.specs.Cursors.{spentMark}
 use Rattle.query.specs.Queries.{newQuery, Turned}
 use Rattle.query.proofs.NewLaws.{new-running}
 use Rattle.kinds.proofs.RankLaws.{Ranked, turned-ranked}
-use Rattle.kinds.proofs.BoundLaws.{word-good, bound-none, bound-marked, bound-some}
+use Rattle.kinds.proofs.BoundLaws.{bound-none, bound-marked, bound-some}
 use borrow.Author.Needs.{needs}
 use Rattle.kinds.proofs.by_bound.Statement.{statement}
 use Rattle.kinds.proofs.by_bound.Tie as tie
 
-open-pages-requires : tie.Need-open-pages-requires
-open-pages-requires c κs =
-    let b = c .before .before .before .before in
-    (b .pre .0, word-good (indexT (b .args .card .now)) (b .args .t) (b .pre .1), refl)
-
 next-common-requires : tie.Need-next-common-requires
 next-common-requires c κs =
     let o = c .before .before .before in
-    let b = o .before .before .before .before .before in
-    rw (c .new .ensures) (new-running (b .args .card .now) (o .open-pages .last .1 .1 .0) 1 (o .open-pages .ensures .1 .lists) (b .args .bound))
+    let b = o .before .before .before .before in
+    rw (c .new .ensures) (new-running (b .args .card .now) (o .open-alone .last .1 .1 .0) 1 (o .open-alone .ensures .lists) (b .args .bound))
 
 -- the next page of the one list
 next : (c : tie.After-next-common)
-    → Turned (c .before .before .before .before .before .before .before .before .before .args .card .now)
-    (c .before .before .before .before .open-pages .last .1 .1 .0) 1 newQuery
-    (c .before .before .before .before .before .before .before .before .before .args .bound) (c .next-common .result)
+    → Turned (c .before .before .before .before .before .before .before .before .args .card .now)
+    (c .before .before .before .before .open-alone .last .1 .1 .0) 1 newQuery
+    (c .before .before .before .before .before .before .before .before .args .bound) (c .next-common .result)
 next c = rw (c .before .new .ensures) at (c .next-common .ensures)
 
 -- where there is one, the cursor tells its rank
 on-page : (c : tie.After-next-common) → (c .next-common .result .mark ≡ spentMark → ⊥)
-    → Ranked (c .before .before .before .before .before .before .before .before .before .args .card .now)
-    (c .before .before .before .before .open-pages .last .1 .1 .0) (c .next-common .result .q) 0
+    → Ranked (c .before .before .before .before .before .before .before .before .args .card .now)
+    (c .before .before .before .before .open-alone .last .1 .1 .0) (c .next-common .result .q) 0
     (c .next-common .result .mark - 1)
 on-page c m =
     let o = c .before .before .before .before in
-    let a = o .before .before .before .before .before .args in
-    let r = o .open-pages .last .1 .1 .0 in
+    let a = o .before .before .before .before .args in
+    let r = o .open-alone .last .1 .1 .0 in
     turned-ranked (a .card .now) r 1 newQuery (a .bound)
-    (new-running (a .card .now) r 1 (o .open-pages .ensures .1 .lists) (a .bound) .apt) (c .next-common .result)
+    (new-running (a .card .now) r 1 (o .open-alone .ensures .lists) (a .bound) .apt) (c .next-common .result)
     (next c) m 0 (omega arith)
 
 returns : tie.Need-returns
 returns c =
     let n = c .before .before .before .before .before .before .before in
     let o = n .before .before .before .before in
-    let a = o .before .before .before .before .before .args in
-    rw (bound-none (a .card .now) (a .t) (o .open-pages .last .1 .1 .0) (o .open-pages .ensures .1) (a .bound)
+    let a = o .before .before .before .before .args in
+    rw (bound-none (a .card .now) (a .t) (o .open-alone .last .1 .1 .0) (o .open-alone .ensures) (a .bound)
     (n .next-common .result) (next n) (c .before .before .before .before .before .if1 .taken))
     (c .before .before .put .ensures)
 
@@ -56,23 +50,23 @@ rank-in-requires : tie.Need-rank-in-requires
 rank-in-requires c κs =
     let n = c .before .before .before in
     let o = n .before .before .before .before in (
-      o .open-pages .ensures .1 .lists .each 0 (omega arith) .room,
+      o .open-alone .ensures .lists .each 0 (omega arith) .room,
       omega arith,
       next n .eight,
       on-page n
           (c .before .if1 .left) .on-element,
     )
 
-sub-t26 : tie.Need-sub-t26
-sub-t26 c =
+sub-t24 : tie.Need-sub-t24
+sub-t24 c =
     let n = c .before .before .before .before .before in
     let o = n .before .before .before .before in
-    let a = o .before .before .before .before .before .args in
-    bound-marked (a .card .now) (a .t) (o .open-pages .last .1 .1 .0) (o .open-pages .ensures .1) (a .bound)
+    let a = o .before .before .before .before .args in
+    bound-marked (a .card .now) (a .t) (o .open-alone .last .1 .1 .0) (o .open-alone .ensures) (a .bound)
     (n .next-common .result) (next n) (c .before .before .before .if1 .left)
 
-cast-t27 : tie.Need-cast-t27
-cast-t27 c =
+cast-t25 : tie.Need-cast-t25
+cast-t25 c =
     omega (
       arith,
       c .before .rank-in .ensures,
@@ -84,9 +78,9 @@ returns-2 : tie.Need-returns-2
 returns-2 c =
     let n = c .before .before .before .before .before .before .before .before .before .before in
     let o = n .before .before .before .before in
-    let a = o .before .before .before .before .before .args in
+    let a = o .before .before .before .before .args in
     rw (
-      bound-some (a .card .now) (a .t) (o .open-pages .last .1 .1 .0) (o .open-pages .ensures .1) (a .bound)
+      bound-some (a .card .now) (a .t) (o .open-alone .last .1 .1 .0) (o .open-alone .ensures) (a .bound)
           (n .next-common .result) (next n)
           (c .before .before .before .before .before .before .before .before .if1 .left),
       ← (c .before .before .before .before .before .before .rank-in .ensures),
@@ -97,8 +91,7 @@ by-bound-spec =
     tie.close
     (tie.spec
     (λ c. search needs)
-    (λ c. search needs)
-    open-pages-requires
+    (λ c κs. search needs)
     (λ c. search needs)
     (λ c κs. search needs)
     next-common-requires
@@ -108,8 +101,8 @@ by-bound-spec =
     returns
     (λ c. search needs)
     rank-in-requires
-    sub-t26
-    cast-t27
+    sub-t24
+    cast-t25
     (λ c. search needs)
     (λ c κs. search needs)
     (λ c. search needs)

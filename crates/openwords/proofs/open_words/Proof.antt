@@ -1,14 +1,14 @@
 -- `open_words` fills one slot after the other. The loop's invariant: the slots filled so far place their words' lists.
 use mathlib.Core.Path.{_≡_, refl, sym, ap, _∙_}
 use mathlib.Core.List.{List}
-use Prim.Native.Nat.{ℕ, _-_, _^_, _≤_, _<_}
+use Prim.Native.Nat.{ℕ, _-_, _≤_}
 use native.Mathlib.Omega.{arith}
 use lib.ListN.{length, getD}
 use Rattle.rules.specs.declared.Refusal.the-variants.{Accepted}
 use Rattle.rules.specs.ReadList.{listRefusal}
 use Rattle.rules.specs.Index.{indexT}
 use Rattle.questions.proofs.GoodLaws.{words-parts}
-use Rattle.wordlists.specs.Lying.{listOf}
+use Rattle.wordlists.specs.Lying.{listOf, Lying}
 use Rattle.wordlists.proofs.LyingLaws.{card-short, word-below}
 use Rattle.openwords.specs.Slots.{Within, Filled}
 use Rattle.openwords.proofs.SlotLaws.{list-accepted, filled-more}
@@ -16,14 +16,14 @@ use Rattle.openwords.proofs.open_words.Statement.{statement}
 use Rattle.openwords.proofs.open_words.Tie as tie
 
 abbrev Inv-loop : tie.InvT-loop
-Inv-loop card terms k shapes₀ i₀ shapes i = (i ≤ length terms) × (length terms ≤ 8) × Filled card terms k i shapes
+Inv-loop card terms starts k shapes₀ i₀ shapes i = (i ≤ length terms) × (length terms ≤ 8) × Filled card terms k i shapes
 
 abbrev μ-loop : tie.MeasureT-loop
-μ-loop card terms k shapes₀ i₀ shapes i = length terms - i
+μ-loop card terms starts k shapes₀ i₀ shapes i = length terms - i
 
 loop-holds : tie.Need-loop-holds Inv-loop μ-loop
 loop-holds c =
-    let b = c .before .before .before in (
+    let b = c .before .before .before .before in (
       omega arith,
       words-parts (indexT (b .args .card .now)) (b .args .terms .now) (b .pre .1) .1,
       record {
@@ -32,49 +32,53 @@ loop-holds c =
       },
     )
 
-mul-list-in : tie.Need-mul-list-in Inv-loop μ-loop
-mul-list-in c = omega arith
-
-shared-slice-read-list-in : tie.Need-shared-slice-read-list-in Inv-loop μ-loop
-shared-slice-read-list-in c = omega arith
-
-cast-list-in : tie.Need-cast-list-in Inv-loop μ-loop
-cast-list-in c = omega (arith, c .shared-slice-known3 .given (c .before .before .loop .i))
-
 list-in-requires : tie.Need-list-in-requires Inv-loop μ-loop
 list-in-requires c κs =
-    let b = c .before .before .before .before .before .before in (
+    let b = c .before .before .before .before .before .before .before in
+    let i = c .before .before .loop .i in (
       b .pre .0,
-      word-below (indexT (b .args .card .now)) (b .args .terms .now) (b .pre .1)
-          (c .before .before .loop .i) (c .before .loop-test .taken),
+      record { number = getD (b .args .terms .now) i 0; starts = b .pre .5 i (c .before .loop-test .taken) },
       b .pre .2,
     )
 
+-- the word's list lies in the card
+lies : (c : tie.After-list-in Inv-loop μ-loop)
+    → Lying (c .before .before .before .before .before .before .before .before .args .card .now)
+    (listOf (c .before .before .before .before .before .before .before .before .args .card .now)
+    (getD (c .before .before .before .before .before .before .before .before .args .terms .now)
+    (c .before .before .before .loop .i) 0)
+    (c .before .before .before .before .before .before .before .before .args .k)) (c .list-in .result .from)
+    (c .list-in .result .to)
+lies c =
+    let b = c .before .before .before .before .before .before .before .before in
+    c .list-in .ensures (getD (b .args .terms .now) (c .before .before .before .loop .i) 0)
+    (b .pre .5 (c .before .before .before .loop .i) (c .before .before .loop-test .taken))
+
 -- the place of a word's list lies in the card, whose bytes are fewer than 2 ^ 32
 within : (c : tie.After-list-in Inv-loop μ-loop)
-    → Within (c .before .before .before .before .before .before .before .args .card .now) (c .list-in .result .from)
+    → Within (c .before .before .before .before .before .before .before .before .args .card .now) (c .list-in .result .from)
     (c .list-in .result .to)
 within c =
-    let b = c .before .before .before .before .before .before in record {
-      starts = c .list-in .ensures .starts;
-      ends = c .list-in .ensures .ends;
+    let b = c .before .before .before .before .before .before .before in record {
+      starts = lies c .starts;
+      ends = lies c .ends;
       short = card-short (b .before .args .card .now) (λ i. b .shared-slice-known .given i .fits) (b .before .pre .0);
     }
 
 -- and the list is accepted
 accepted : (c : tie.After-list-in Inv-loop μ-loop)
-    → listRefusal (listOf (c .before .before .before .before .before .before .before .args .card .now)
-    (getD (c .before .before .before .before .before .before .before .args .terms .now)
-    (c .before .before .before .loop .i) 0) (c .before .before .before .before .before .before .before .args .k))
+    → listRefusal (listOf (c .before .before .before .before .before .before .before .before .args .card .now)
+    (getD (c .before .before .before .before .before .before .before .before .args .terms .now)
+    (c .before .before .before .loop .i) 0) (c .before .before .before .before .before .before .before .before .args .k))
     ≡ Accepted
 accepted c =
-    let b = c .before .before .before .before .before .before .before in
+    let b = c .before .before .before .before .before .before .before .before in
     list-accepted (b .args .card .now) _ (b .args .k) (b .pre .0)
     (word-below (indexT (b .args .card .now)) (b .args .terms .now) (b .pre .1) (c .before .before .before .loop .i)
     (c .before .before .loop-test .taken)) (b .pre .2)
 
 numbers-at-requires : tie.Need-numbers-at-requires Inv-loop μ-loop
-numbers-at-requires c κs = (within c, rw (c .list-in .ensures .bytes) (accepted c))
+numbers-at-requires c κs = (within c, rw (lies c .bytes) (accepted c))
 
 put-list-requires : tie.Need-put-list-requires Inv-loop μ-loop
 put-list-requires c κs =
@@ -91,24 +95,24 @@ loop-again : tie.Need-loop-again Inv-loop μ-loop
 loop-again c =
     let l = c .before .before .before .before .before in
     let at = l .before .before .before .loop in
-    let a = l .before .before .before .before .before .before .before .args in
+    let a = l .before .before .before .before .before .before .before .before .args in
     let b : List ℕ = listOf (a .card .now) (getD (a .terms .now) (at .i) 0) (a .k) in
     let filled =
-    rw (c .before .before .before .before .numbers-at .ensures, l .list-in .ensures .bytes) at
+    rw (c .before .before .before .before .numbers-at .ensures, lies l .bytes) at
     (c .before .before .put-list .ensures) in (
       omega arith,
       at .inv .1,
       rw filled (filled-more (a .card .now) (l .list-in .result .from) (l .list-in .result .to) b (within l)
-          (l .list-in .ensures .bytes) (accepted l)
+          (lies l .bytes) (accepted l)
           (a .terms .now) (a .k) (at .i) (at .shapes) (omega arith) refl (at .inv .2)),
     )
 
 same-length : tie.Need-same-length Inv-loop μ-loop
-same-length c = c .before .loop .inv .2 .room ∙ sym (c .before .before .before .before .before .pre .3)
+same-length c = c .before .loop .inv .2 .room ∙ sym (c .before .before .before .before .before .before .pre .3)
 
 returns : tie.Need-returns Inv-loop μ-loop
 returns c =
-    let b = c .before .before .before .before .before in
+    let b = c .before .before .before .before .before .before in
     let i : c .before .loop .i ≡ length (b .args .terms .now) = omega arith in
     rw i at (c .before .loop .inv .2)
 
@@ -119,9 +123,8 @@ open-words-spec =
     Inv-loop
     μ-loop
     loop-holds
-    mul-list-in
-    shared-slice-read-list-in
-    cast-list-in
+    (λ c. omega arith)
+    (λ c. omega (arith, c .before .before .before .before .before .before .before .pre .4))
     list-in-requires
     numbers-at-requires
     put-list-requires

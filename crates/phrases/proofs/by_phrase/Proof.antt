@@ -4,46 +4,34 @@ use native.Mathlib.Omega.{arith}
 use lib.ListN.{length}
 use Rattle.phrases.specs.Asked.{foundIn}
 use borrow.Author.Tests.{ltb-true, not-true, not-false}
-use Rattle.phrases.proofs.AnswerLaws.{good-asked, answer-none, answer-whole, laid-some}
+use Rattle.phrases.proofs.AnswerLaws.{answer-none, answer-whole, laid-some}
 use borrow.Author.Needs.{needs}
 use Rattle.phrases.proofs.by_phrase.Statement.{statement}
 use Rattle.phrases.proofs.by_phrase.Tie as tie
 
-fits-requires : tie.Need-fits-requires
-fits-requires c κs =
-    let b =
-    c .before .before .before .before .before .before .before .before .before .before .before .before .before .before .before in
-    let p = c .before .before .before .before .before .before .before .before .before .before .open-pages .ensures in
-    good-asked _ _ (b .pre .0) (b .pre .1) _ _ _ _ (p .0) (p .1)
-    (c .before .before .before .before .before .before .before .open-words .ensures)
-    (c .before .before .before .before .open-words2 .ensures)
-
 returns : tie.Need-returns
 returns c =
     let b =
-    c .before .before .before .before .before .before .before .before .before .before .before .before .before .before .before .before .before in
+    c .before .before .before .before .before .before .before .before .before .before .before .before .before .before .before in
     answer-none _ _ (b .pre .0) (b .pre .1) (b .args .room .now)
     (sym (c .before .fits2 .ensures) ∙ not-true _ (c .if1 .taken))
 
 list-starts-requires : tie.Need-list-starts-requires
 list-starts-requires c κs =
     let b =
-    c .before .before .before .before .before .before .before .before .before .before .before .before .before .before .before .before .before .before .before .before .before in
+    c .before .before .before .before .before .before .before .before .before .before .before .before .before .before .before .before .before .before .before in
     let f =
     ltb-true (length (foundIn (b .args .card .now) (b .args .terms .now))) (length (b .args .room .now))
     (sym (c .before .before .before .before .before .fits2 .ensures)
-    ∙ not-false _ (c .before .before .before .before .if1 .left)) in
-    let p =
-    c .before .before .before .before .before .before .before .before .before .before .before .before .before .before .before .before .open-pages .ensures in (
-      good-asked _ _ (b .pre .0) (b .pre .1) _ _ _ _ (p .0) (p .1)
-          (c .before .before .before .before .before .before .before .before .before .before .before .before .before .open-words .ensures) (c .before .before .before .before .before .before .before .before .before .before .open-words2 .ensures),
+    ∙ not-false _ (c .before .before .before .before .if1 .left)) in (
+      c .before .before .before .before .before .before .before .before .before .before .before .before .open-phrase .ensures,
       omega (arith, f),
     )
 
 slice-write-room : tie.Need-slice-write-room
 slice-write-room c =
     let b =
-    c .before .before .before .before .before .before .before .before .before .before .before .before .before .before .before .before .before .before .before .before .before .before .before .before in
+    c .before .before .before .before .before .before .before .before .before .before .before .before .before .before .before .before .before .before .before .before .before .before in
     let f =
     ltb-true (length (foundIn (b .args .card .now) (b .args .terms .now))) (length (b .args .room .now))
     (sym (c .before .before .before .before .before .before .before .before .fits2 .ensures)
@@ -55,7 +43,7 @@ slice-write-room c =
 returns-2 : tie.Need-returns-2
 returns-2 c =
     let b =
-    c .before .before .before .before .before .before .before .before .before .before .before .before .before .before .before .before .before .before .before .before .before .before .before .before in
+    c .before .before .before .before .before .before .before .before .before .before .before .before .before .before .before .before .before .before .before .before .before .before in
     let f =
     ltb-true (length (foundIn (b .args .card .now) (b .args .terms .now))) (length (b .args .room .now))
     (sym (c .before .before .before .before .before .before .before .before .fits2 .ensures)
@@ -69,15 +57,13 @@ by-phrase-spec =
     tie.close
     (tie.spec
     (λ c. search needs)
+    (λ c. search needs)
+    (λ c. search needs)
     (λ c κs. search needs)
     (λ c. search needs)
+    (λ c. search needs)
+    (λ c. search needs)
     (λ c κs. search needs)
-    (λ c. search needs)
-    (λ c κs. search needs)
-    (λ c. search needs)
-    (λ c. search needs)
-    (λ c. search needs)
-    fits-requires
     returns
     (λ c. search needs)
     (λ c. search needs)

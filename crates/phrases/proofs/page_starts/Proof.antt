@@ -1,10 +1,10 @@
--- `page_starts` takes a word's positions where it is alone, else turns the words to the page and counts their starts.
+-- `page_starts` takes a word's positions where it is alone, else counts the starts of the words.
 use mathlib.Core.Path.{_≡_, ap, _∙_}
 use borrow.Author.Needs.{needs}
 use Rattle.openlists.specs.Places.{slotOf}
 use Rattle.kinds.specs.Ranks.{rankBy}
 use Rattle.phrases.proofs.RankLaws.{asked-list, asked-rank, rank-ready}
-use Rattle.phrases.proofs.PageLaws.{turned-words, turned-begun, page-counted, lone-counted}
+use Rattle.phrases.proofs.PageLaws.{lone-counted}
 use Rattle.phrases.proofs.page_starts.Statement.{statement}
 use Rattle.phrases.proofs.page_starts.Tie as tie
 
@@ -56,21 +56,6 @@ returns c =
     (e .1) in
     (r .1, r .2, r .3)
 
-count-starts-requires : tie.Need-count-starts-requires
-count-starts-requires c κs =
-    let b =
-    c .before .before .before .before .before .before .before .before .before .before .before .before .before .before .before .before .before .before .before in
-    let f = c .before .before .before .before .before .before .before .turn-words .ensures in
-    (turned-words _ _ _ _ _ _ (b .pre .0) _ _ _ _ f, turned-begun _ _ _ _ _ _ (b .pre .0) _ _ _ _ f)
-
-returns-2 : tie.Need-returns-2
-returns-2 c =
-    let b =
-    c .before .before .before .before .before .before .before .before .before .before .before .before .before .before .before .before .before .before .before .before .before .before in
-    page-counted _ _ _ _ _ _ (b .pre .0) _ _ _ _
-    (c .before .before .before .before .before .before .before .before .before .before .turn-words .ensures) _ _
-    (c .before .before .count-starts .ensures)
-
 pub page-starts-spec : {M : Type 1} → statement M
 page-starts-spec =
     tie.close
@@ -81,10 +66,7 @@ page-starts-spec =
     sub-result
     (λ c. search needs)
     returns
-    (λ c. search needs)
     (λ c κs. search needs)
     (λ c. search needs)
-    count-starts-requires
     (λ c. search needs)
-    (λ c. search needs)
-    returns-2)
+    (λ c. search needs))

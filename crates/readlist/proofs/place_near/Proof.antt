@@ -2,6 +2,7 @@
 use native.Mathlib.Omega.{arith}
 use borrow.Author.Needs.{needs}
 use Rattle.readlist.proofs.ReadLaws.{open-reads}
+use Rattle.readlist.proofs.NearLaws.{sought}
 use Rattle.readlist.proofs.PartLaws.{run-ahead, run-one}
 use Rattle.readlist.proofs.place_near.Statement.{statement}
 use Rattle.readlist.proofs.place_near.Tie as tie
@@ -10,6 +11,18 @@ add-if1 : tie.Need-add-if1
 add-if1 c =
     let r = open-reads (c .before .args .block .now) (c .before .args .g) (c .before .pre .0) in
     omega (arith, c .before .pre)
+
+last-pointer-requires : tie.Need-last-pointer-requires
+last-pointer-requires c κs =
+    let start = c .before .before in
+    omega (arith, open-reads (start .args .block .now) (start .args .g) (start .pre .0) .low)
+
+place-of-requires : tie.Need-place-of-requires
+place-of-requires c κs =
+    let start = c .before .before .before in
+    let a = start .args in
+    sought (a .block .now) (a .g) (start .pre .0) (c .last-pointer .result) (a .rank) (c .last-pointer .ensures)
+    (start .pre .1)
 
 one-past-requires : tie.Need-one-past-requires
 one-past-requires c κs =
@@ -30,4 +43,11 @@ returns-2 c =
 pub place-near-spec : {M : Type 1} → statement M
 place-near-spec =
     tie.close
-    (tie.spec add-if1 (λ c κs. search needs) (λ c. search needs) (λ c κs. search needs) one-past-requires returns-2)
+    (tie.spec
+    add-if1
+    last-pointer-requires
+    place-of-requires
+    (λ c. search needs)
+    (λ c κs. search needs)
+    one-past-requires
+    returns-2)

@@ -1,13 +1,14 @@
 -- `find` ends where the step rule's seek does, case by case.
-use mathlib.Core.Path.{refl, sym, _∙_}
+use mathlib.Core.Path.{_≡_, refl, sym, _∙_}
 use mathlib.Core.Logic.{inl, inr}
 use Prim.Native.Nat.{_<_}
 use native.Mathlib.Omega.{arith}
 use borrow.Author.Needs.{needs}
-use borrow.Author.Tests.{leb-true, leb-false}
+use borrow.Author.Tests.{leb-true, leb-false, eqb-true, eqb-false}
 use Rattle.rules.specs.ReadList.{listU, decode}
 use Rattle.seek.specs.Cursors.{Moving}
 use Rattle.seek.proofs.OpenLaws.{open-U, open-within, open-n, open-length, open-rising, open-ruled}
+use Rattle.seek.proofs.StartLaws.{own-inside}
 use Rattle.seek.proofs.RuleLaws.{landing-stays, landing-none, landing-end, landing-walked}
 use Rattle.seek.proofs.find.Statement.{statement}
 use Rattle.seek.proofs.find.Tie as tie
@@ -55,32 +56,55 @@ start-requires c κs = (c .before .before .before .before .before .before .befor
 
 returns-3 : tie.Need-returns-3
 returns-3 c =
-    let start = c .before .before .before .before .before .before .before .before .before .before .before .before in
+    let there = c .before .before .before .before .before .before in
+    let start = there .before .before .before .before .before .before .before .before in
     let a = start .args in
     let o = start .pre .0 in
     let n = c .none2 .ensures in
-    let m = moving (c .before .before .before .before .before) in
-    let e = c .before .before .before .before .start .ensures in
+    let m = moving (there .before) in
+    let e = there .start .ensures in
+    let here : there .start .result .bit ≡ a .g .bits = eqb-true _ _ (c .before .if5 .taken) in
     let some : 0 < a .g .n = omega (arith, m .some, open-n (a .s .now) (a .g) o) in
     landing-end (listU (a .s .now)) (decode (a .s .now)) (open-rising (a .s .now) (a .g) o)
     (open-within (a .s .now) (a .g) o) (a .c) (start .pre .1) (a .b)
     (m .ahead) (m .below) (rw (open-length (a .s .now) (a .g) o) some) _
-    (sym (e .1) ∙ c .before .if4 .taken ∙ sym (open-ruled (a .s .now) (a .g) o some .bits-is)) (n .0) (n .1) (n .2)
+    (sym (e .1) ∙ here ∙ sym (open-ruled (a .s .now) (a .g) o some .bits-is)) (n .0) (n .1) (n .2)
+
+-- where the start is not the run's end
+inside : (c : tie.Joined4) →
+    let there = c .before .before in
+    there .start .result .bit < there .before .before .before .before .before .before .before .before .args .g .bits
+inside c =
+    let there = c .before .before in
+    let start = there .before .before .before .before .before .before .before .before in
+    let a = start .args in
+    let t = there .start .ensures .0 in
+    elim (c .if4 .came) [
+      | inl w ↦ omega (arith, t .within, eqb-false (there .start .result .bit) (a .g .bits) (w .3 .left))
+      | inr w ↦ own-inside (a .s .now) (a .g) (start .pre .0) (a .b) (there .start .result) t (w .left)
+    ]
+
+pass-requires : tie.Need-pass-requires
+pass-requires c κs =
+    let there = c .before .before in
+    let start = there .before .before .before .before .before .before .before .before in
+    let u = open-U (start .args .s .now) (start .args .g) (start .pre .0) in
+    (start .pre .0, omega (arith, u, moving (there .before) .below), there .start .ensures .0, inside c, start .pre .2)
 
 returns-4 : tie.Need-returns-4
 returns-4 c =
-    let start =
-    c .before .before .before .before .before .before .before .before .before .before .before .before .before in
+    let there = c .before .before .before .before in
+    let start = there .before .before .before .before .before .before .before .before in
     let a = start .args in
     let o = start .pre .0 in
-    let m = moving (c .before .before .before .before .before .before) in
-    let e = c .before .before .before .before .before .start .ensures in
+    let m = moving (there .before) in
+    let e = there .start .ensures in
     let l = c .land .ensures in
     let some : 0 < a .g .n = omega (arith, m .some, open-n (a .s .now) (a .g) o) in
     landing-walked (listU (a .s .now)) (decode (a .s .now)) (open-rising (a .s .now) (a .g) o)
     (open-within (a .s .now) (a .g) o) (a .c) (start .pre .1) (a .b)
     (m .ahead) (m .below) (rw (open-length (a .s .now) (a .g) o) some) _
-    (omega (arith, e .1, e .0 .within, open-ruled (a .s .now) (a .g) o some .bits-is)) (l .mark-is) (l .bit-is)
+    (omega (arith, e .1, inside (c .before .before), open-ruled (a .s .now) (a .g) o some .bits-is)) (l .mark-is) (l .bit-is)
     (rw (← e .1) (omega (arith, l .counted, c .before .pass .ensures .counted)))
 
 pub find-spec : {M : Type 1} → statement M
@@ -94,6 +118,6 @@ find-spec =
     start-requires
     (λ c κs. tt)
     returns-3
-    (λ c κs. search needs)
+    pass-requires
     (λ c κs. search needs)
     returns-4)

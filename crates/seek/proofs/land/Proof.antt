@@ -1,161 +1,150 @@
 -- `land` passes elements below b one by one, and ends at the first that is not or behind the last.
-use mathlib.Core.Path.{_≡_, refl}
+use mathlib.Core.Path.{_≡_, refl, sym, ap, _∙_}
 use mathlib.Core.List.{List}
 use Prim.Native.Nat.{ℕ, _+_, _-_, _*_, _^_, _<_}
 use native.Mathlib.Omega.{arith}
 use borrow.Author.Count.{below-more}
 use lib.Count.{trailingZeros}
-use Rattle.rules.specs.Runs.{runBit, wordsFor}
+use lib.ListN.{getD}
+use Rattle.rules.specs.Runs.{runBit}
 use Rattle.rules.specs.Counts.{onesBelow}
 use Rattle.rules.specs.ReadList.{decode}
 use Rattle.shape.specs.declared.Shape.{Shape}
-use Rattle.readlist.specs.Open.{Open}
+use Rattle.readlist.specs.Open.{Open, OneAt}
 use Rattle.readlist.proofs.ReadLaws.{open-reads, one-ranks}
+use Rattle.seeklaws.proofs.FirstLaws.{rising-below}
 use Rattle.seek.specs.declared.Walk.{Walk}
 use Rattle.seek.specs.Walks.{Before, Walking}
-use Rattle.seek.proofs.OpenLaws.{words-few}
+use Rattle.seek.proofs.OpenLaws.{open-U, open-length, open-rising, words-few}
 use Rattle.seek.proofs.WalkLaws.{one-lt, one-bit, one-rank, walking-drop}
-use Rattle.seek.proofs.CursorLaws.{mark-none, mark-some}
 use Rattle.seek.proofs.LandLaws.{landed-on, landed-none}
 use Rattle.seek.proofs.land.Statement.{statement}
 use Rattle.seek.proofs.land.Tie as tie
 
 abbrev Inv-loop : tie.InvT-loop
-Inv-loop s g b at₀ at =
-    Walking s g at × (at .left ≡ 0 → at .k + 1 ≡ wordsFor (g .bits)) × Before s b (at .rank)
-    × (at .looks + at₀ .k ≡ at₀ .looks + at .k)
+Inv-loop s g b at₀ at = Walking s g at × Before s b (at .rank) × (at .looks + at₀ .k ≡ at₀ .looks + at .k)
 
 abbrev μ-loop : tie.MeasureT-loop
 μ-loop s g b at₀ at = g .n - at .rank
 
-to-one-requires : tie.Need-to-one-requires Inv-loop μ-loop
-to-one-requires c κs = (c .before .pre .0, c .before .pre .1)
-
 loop-holds : tie.Need-loop-holds Inv-loop μ-loop
-loop-holds c =
-    let start = c .before .before in
-    let t = c .to-one .ensures in
-    (t .at, t .some, λ j h. start .pre .2 j (omega (arith, t .rank-kept)), refl)
+loop-holds c = (c .before .pre .1, c .before .pre .2, refl)
+
+to-one-requires : tie.Need-to-one-requires Inv-loop μ-loop
+to-one-requires c κs =
+    let start = c .before .before .before .before .before in
+    (start .pre .0, c .before .before .before .loop .inv .0, c .if1 .taken)
 
 -- the element at the one that a turn finds
 pub record Turn (s : List ℕ) (g : Shape) (x : Walk) : Type 0 where
   pub inside : 64 * x .k + trailingZeros 64 (x .left) < 2 ^ 27
-  pub one : runBit s (g .upper) (64 * x .k + trailingZeros 64 (x .left)) ≡ 1
-  pub counted : onesBelow s (g .upper) (64 * x .k + trailingZeros 64 (x .left)) ≡ x .rank
+  pub one : OneAt s (g .upper) (x .rank) (64 * x .k + trailingZeros 64 (x .left))
   pub number : x .rank < g .n
   pub few : g .n < 2 ^ 26
+  pub low : getD (decode s) (x .rank) 0 < 2 ^ 32 - 1
 
-turn : (s : List ℕ) (g : Shape) → Open s g → (x : Walk) → Walking s g x → 0 < x .left → Turn s g x
-turn s g o x w some =
-    let bit : ℕ = 64 * x .k + trailingZeros 64 (x .left) in
-    let one = one-bit s g o x w some in
-    let count = one-rank s g o x w some in
+turn : (c : tie.After-to-one Inv-loop μ-loop) →
+    let start = c .before .before .before .before .before .before in
+    Turn (start .args .s .now) (start .args .g) (c .to-one .result)
+turn c =
+    let start = c .before .before .before .before .before .before in
+    let s : List ℕ = start .args .s .now in
+    let g : Shape = start .args .g in
+    let o = start .pre .0 in
+    let x : Walk = c .to-one .result in
+    let w = c .to-one .ensures .at in
+    let some = c .to-one .ensures .some in
     let r = open-reads s g o in
+    let one : OneAt s (g .upper) (x .rank) (64 * x .k + trailingZeros 64 (x .left)) =
+    record { set = one-bit s g o x w some; below = one-rank s g o x w some } in
+    let number = one-ranks s g o _ (x .rank) one .number in
     record {
       inside = omega (arith, words-few s g o (x .k) (w .within), one-lt s g o x w some);
       one = one;
-      counted = count;
-      number = one-ranks s g o bit (x .rank) (record { set = one; below = count }) .number;
+      number = number;
       few = omega arith;
+      low = omega (
+        arith,
+        open-U s g o,
+        rising-below 0 _ _ (open-rising s g o) (x .rank) (omega (arith, open-length s g o)),
+      );
     }
 
 mul-bit : tie.Need-mul-bit Inv-loop μ-loop
-mul-bit c =
-    let start = c .before .before .before .before .before .before in
-    let at = c .before .before .before .loop in
-    let t = turn (start .args .s .now) (start .args .g) (start .pre .0) (at .at) (at .inv .0) (omega arith) in
-    record { fits = omega arith }
+mul-bit c = record { fits = omega (arith, turn (c .before) .inside) }
 
 cast-bit : tie.Need-cast-bit Inv-loop μ-loop
-cast-bit c =
-    let start = c .before .before .before .before .before .before .before in
-    let at = c .before .before .before .before .loop in
-    let t = turn (start .args .s .now) (start .args .g) (start .pre .0) (at .at) (at .inv .0) (omega arith) in
-    record { fits = omega arith }
+cast-bit c = record { fits = omega (arith, turn (c .before .before) .inside) }
 
 add-bit : tie.Need-add-bit Inv-loop μ-loop
-add-bit c =
-    let start = c .before .before .before .before .before .before .before in
-    let at = c .before .before .before .before .loop in
-    let t = turn (start .args .s .now) (start .args .g) (start .pre .0) (at .at) (at .inv .0) (omega arith) in
-    record { fits = omega arith }
+add-bit c = record { fits = omega (arith, turn (c .before .before) .inside) }
 
-mark-from-requires : tie.Need-mark-from-requires Inv-loop μ-loop
-mark-from-requires c κs =
-    let start = c .before .before .before .before .before .before .before in
-    let at = c .before .before .before .before .loop in
-    let t = turn (start .args .s .now) (start .args .g) (start .pre .0) (at .at) (at .inv .0) (omega arith) in
-    (start .pre .0, record { set = t .one; below = t .counted })
+page-at-requires : tie.Need-page-at-requires Inv-loop μ-loop
+page-at-requires c κs =
+    let one = c .before .before in
+    (one .before .before .before .before .before .before .pre .0, turn one .one)
 
-cast-t13 : tie.Need-cast-t13 Inv-loop μ-loop
-cast-t13 c =
-    let start = c .before .before .before .before .before .before .before .before .before in
-    let at = c .before .before .before .before .before .before .loop in
-    let t = turn (start .args .s .now) (start .args .g) (start .pre .0) (at .at) (at .inv .0) (omega arith) in
-    record { fits = omega arith }
+add-t15 : tie.Need-add-t15 Inv-loop μ-loop
+add-t15 c = record { fits = omega (arith, turn (c .before .before .before .before) .low, c .before .page-at .ensures) }
+
+cast-t16 : tie.Need-cast-t16 Inv-loop μ-loop
+cast-t16 c = record { fits = omega (arith, turn (c .before .before .before .before) .low, c .before .page-at .ensures) }
+
+cast-t17 : tie.Need-cast-t17 Inv-loop μ-loop
+cast-t17 c = record { fits = omega (arith, turn (c .before .before .before .before) .inside) }
 
 returns : tie.Need-returns Inv-loop μ-loop
 returns c =
-    let start = c .before .before .before .before .before .before .before .before .before in
-    let first = c .before .before .before .before .before .before .before .to-one in
-    let at = c .before .before .before .before .before .before .loop in
-    let m = mark-some (decode (start .args .s .now)) (start .args .b) (at .at .rank) (c .before .mark-from .result)
-    (c .before .mark-from .ensures) (c .if2 .taken) in
-    landed-on (start .args .s .now) (start .args .g) (start .pre .0) (start .args .b) (start .args .from) (at .at)
-    (at .inv .0) (at .inv .2)
-    (omega (arith, at .inv .3, first .ensures .counted)) _ refl (omega arith) (m .0) (m .1) refl
+    let one = c .before .before .before .before in
+    let at = one .before .before .before .before .loop in
+    let start = one .before .before .before .before .before .before in
+    let t = one .to-one .ensures in
+    let v = c .before .page-at .ensures in
+    landed-on (start .args .s .now) (start .args .g) (start .pre .0) (start .args .b) (start .args .from)
+    (one .to-one .result) (t .at) (λ j h. at .inv .1 j (omega (arith, t .rank-kept)))
+    (omega (arith, at .inv .2, t .counted)) _ refl (t .some) (omega (arith, v, c .if2 .taken))
+    (ap (λ (x : ℕ). x + 1) v) refl
 
-sub-t14 : tie.Need-sub-t14 Inv-loop μ-loop
-sub-t14 c = omega arith
+sub-t18 : tie.Need-sub-t18 Inv-loop μ-loop
+sub-t18 c = omega (arith, c .before .before .before .before .before .to-one .ensures .some)
 
-add-t12 : tie.Need-add-t12 Inv-loop μ-loop
-add-t12 c =
-    let start = c .before .before .before .before .before .before .before .before .before .before .before .before in
-    let at = c .before .before .before .before .before .before .before .before .before .loop in
-    let t = turn (start .args .s .now) (start .args .g) (start .pre .0) (at .at) (at .inv .0) (omega arith) in
-    record { fits = omega arith }
-
-to-one-requires-2 : tie.Need-to-one-requires-2 Inv-loop μ-loop
-to-one-requires-2 c κs =
-    let start = c .before .before .before .before .before .before .before .before .before .before .before .before in
-    let at = c .before .before .before .before .before .before .before .before .before .loop in (
-      start .pre .0,
-      walking-drop (start .args .s .now) (start .args .g) (start .pre .0) (at .at) (at .inv .0)
-          (omega arith) _ refl refl refl refl,
-    )
+add-t14 : tie.Need-add-t14 Inv-loop μ-loop
+add-t14 c =
+    let t = turn (c .before .before .before .before .before .before .before) in
+    record { fits = omega (arith, t .number, t .few) }
 
 loop-less : tie.Need-loop-less Inv-loop μ-loop
 loop-less c =
-    let start =
-    c .before .before .before .before .before .before .before .before .before .before .before .before .before in
-    let at = c .before .before .before .before .before .before .before .before .before .before .loop in
-    let t = turn (start .args .s .now) (start .args .g) (start .pre .0) (at .at) (at .inv .0) (omega arith) in
-    omega (arith, c .to-one2 .ensures .rank-kept, t .number)
+    let one = c .before .before .before .before .before .before .before in
+    omega (arith, turn one .number, one .to-one .ensures .rank-kept)
 
 loop-again : tie.Need-loop-again Inv-loop μ-loop
 loop-again c =
-    let start =
-    c .before .before .before .before .before .before .before .before .before .before .before .before .before in
-    let at = c .before .before .before .before .before .before .before .before .before .before .loop in
-    let t = c .to-one2 .ensures in
-    let m = mark-none (decode (start .args .s .now)) (start .args .b) (at .at .rank) _
-    (c .before .before .before .before .before .mark-from .ensures) (c .before .before .before .before .if2 .left) in (
-      t .at,
-      t .some,
-      λ j h. below-more _ _ (at .inv .2) m j (omega (arith, t .rank-kept)),
-      omega (arith, at .inv .3, t .counted),
+    let one = c .before .before .before .before .before .before .before in
+    let at = one .before .before .before .before .loop in
+    let start = one .before .before .before .before .before .before in
+    let t = one .to-one .ensures in
+    let v = c .before .before .before .before .page-at .ensures in (
+      walking-drop (start .args .s .now) (start .args .g) (start .pre .0) (one .to-one .result) (t .at) (t .some) _ refl
+          refl refl refl,
+      below-more _ _ (λ j h. at .inv .1 j (omega (arith, t .rank-kept)))
+          (omega (arith, v, c .before .before .before .if2 .left)),
+      omega (arith, at .inv .2, t .counted),
     )
+
+to-end-requires : tie.Need-to-end-requires Inv-loop μ-loop
+to-end-requires c κs =
+    let w = c .before .before .before .loop .inv .0 in
+    (c .before .before .before .before .before .pre .0, w .within, w .room)
 
 returns-2 : tie.Need-returns-2 Inv-loop μ-loop
 returns-2 c =
-    let start = c .before .before .before .before .before .before in
-    let first = c .before .before .before .before .to-one in
-    let at = c .before .before .before .loop in
+    let at = c .before .before .before .before .before .loop in
+    let start = c .before .before .before .before .before .before .before in
     let n = c .none .ensures in
-    let e : at .at .left ≡ 0 = omega arith in
     landed-none (start .args .s .now) (start .args .g) (start .pre .0) (start .args .b) (start .args .from) (at .at)
-    (at .inv .0) (at .inv .2)
-    (omega (arith, at .inv .3, first .ensures .counted)) _ (n .2) e (at .inv .1 e) (n .0) (n .1)
+    (at .inv .0) (at .inv .1) (at .inv .2) _ (omega (arith, n .2, c .before .to-end .ensures))
+    (omega (arith, c .before .before .if1 .left)) (n .0) (n .1)
 
 pub land-spec : {M : Type 1} → statement M
 land-spec =
@@ -163,18 +152,20 @@ land-spec =
     (tie.spec
     Inv-loop
     μ-loop
-    to-one-requires
     loop-holds
+    to-one-requires
     mul-bit
     cast-bit
     add-bit
-    mark-from-requires
-    cast-t13
+    page-at-requires
+    add-t15
+    cast-t16
+    cast-t17
     returns
-    sub-t14
-    add-t12
-    to-one-requires-2
+    sub-t18
+    add-t14
     loop-less
     loop-again
+    to-end-requires
     (λ c κs. tt)
     returns-2)

@@ -61,6 +61,13 @@ returns c =
     ∙ ap (λ (x : ℕ). x / 2 ^ (a .from .bit % 64 + a .from .own) * 2 ^ (a .from .bit % 64 + a .from .own)) (e .0))
     refl refl (e .1)
 
+behind-requires-2 : tie.Need-behind-requires-2
+behind-requires-2 c κs =
+    let start = c .before .before .before .before .before .before .before .before in
+    let a = start .args in
+    let p = start .pre in
+    (omega arith, own-le (a .s .now) (a .g) (p .0) (a .b) (a .from) (p .2) (p .3))
+
 skip-requires : tie.Need-skip-requires
 skip-requires c κs =
     let start = c .before .before .before .before .before .before .before .before .before in
@@ -70,7 +77,7 @@ skip-requires c κs =
       p .0,
       open-ruled (a .s .now) (a .g) (p .0) (open-some (a .s .now) (a .g) (p .0) (omega arith)) .zeros-is (a .b) (p .1),
       skipping-start (a .s .now) (a .g) (p .0) (a .b) (a .from) (p .2) (p .3) _ (a .looks) _ (p .4) (e .0)
-          (c .from-place .ensures) refl refl (e .1) (omega arith),
+          (c .behind2 .ensures) refl refl (e .1) (omega arith),
     )
 
 returns-2 : tie.Need-returns-2
@@ -93,6 +100,6 @@ pass-spec =
     (λ c. search needs)
     add-t16
     returns
-    (λ c κs. search needs)
+    behind-requires-2
     skip-requires
     returns-2)

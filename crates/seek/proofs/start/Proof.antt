@@ -1,13 +1,12 @@
 -- `start` gives the larger of the cursor's bit and the pointer: which it is shows in the cursor's high part.
-use mathlib.Core.Bool.{not}
 use mathlib.Core.Path.{refl}
-use Prim.Native.Nat.{ℕ, zero, suc, _≤_}
+use Prim.Native.Nat.{_-_, _^_, _<_}
+use native.Mathlib.Nat.{div-le-self}
 use native.Mathlib.Omega.{arith}
 use borrow.Author.Needs.{needs}
-use borrow.Author.Tests.{ne-eqb}
-use lib.Dec.{eqb}
-use mir.Val.{boolByte}
 use Rattle.readlist.proofs.ReadLaws.{open-reads}
+use Rattle.seek.proofs.OpenLaws.{open-within}
+use Rattle.seek.proofs.CursorLaws.{own-of}
 use Rattle.seek.proofs.StartLaws.{pointer-inside, started-jump, started-here}
 use Rattle.seek.proofs.start.Statement.{statement}
 use Rattle.seek.proofs.start.Tie as tie
@@ -18,11 +17,32 @@ high-of-requires c κs =
     let r = open-reads (start .args .s .now) (start .args .g) (start .pre .0) in
     omega arith
 
-shr-i : tie.Need-shr-i
-shr-i c =
+shr-h : tie.Need-shr-h
+shr-h c =
     let start = c .before .before .before in
     let r = open-reads (start .args .s .now) (start .args .g) (start .pre .0) in
     omega arith
+
+-- the high part is no larger than the mark
+high-small : (c : tie.After-high-of) → c .high-of .result < 2 ^ 32
+high-small c =
+    let start = c .before .before in
+    let a = start .args in
+    let m = start .pre .1 in
+    omega (
+      arith,
+      c .high-of .ensures,
+      div-le-self (a .c .mark - 1) (2 ^ a .g .w),
+      m .ahead,
+      m .below,
+      open-within (a .s .now) (a .g) (start .pre .0),
+    )
+
+mul-if1 : tie.Need-mul-if1
+mul-if1 c = record { fits = omega (arith, high-small (c .before)) }
+
+add-if1 : tie.Need-add-if1
+add-if1 c = record { fits = omega (arith, high-small (c .before)) }
 
 pointer-at-requires : tie.Need-pointer-at-requires
 pointer-at-requires c κs =
@@ -37,25 +57,23 @@ returns c =
     started-jump (a .s .now) (a .g) (start .pre .0) (a .c) (a .b) (start .pre .1) _ (c .pointer-at .ensures) refl refl
     (omega (arith, c .before .before .before .high-of .ensures))
 
--- `(mark != 0) as u32`
-own-few : (mark : ℕ) → (boolByte (not (eqb mark 0)) ≤ 1) × (boolByte (not (eqb mark 0)) ≤ mark)
-own-few zero = (omega arith, omega arith)
-own-few (suc m) = rw (ne-eqb (suc m) 0 (λ e. omega arith)) (omega arith, omega arith)
-
 returns-2 : tie.Need-returns-2
 returns-2 c =
     let start = c .before .before .before .before .before .before in
     let a = start .args in
     let e = c .before .before .before .before .high-of .ensures in
-    started-here (a .s .now) (a .g) (start .pre .0) (a .c) (a .b) (start .pre .1) _ refl e (own-few (a .c .mark) .0)
-    (own-few (a .c .mark) .1) (omega (arith, e))
+    let own = own-of (a .c .mark) in
+    started-here (a .s .now) (a .g) (start .pre .0) (a .c) (a .b) (start .pre .1) _ refl e (own .few) (own .marked)
+    (omega (arith, e))
 
 pub start-spec : {M : Type 1} → statement M
 start-spec =
     tie.close
     (tie.spec
     high-of-requires
-    shr-i
+    shr-h
+    mul-if1
+    add-if1
     pointer-at-requires
     (λ c. search needs)
     returns

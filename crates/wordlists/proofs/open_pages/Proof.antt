@@ -1,42 +1,25 @@
--- `open_pages` places the words' pages, and opens the lists there.
-use mathlib.Core.Path.{ap, _∙_}
-use Rattle.rules.specs.Common.{leadOf}
-use Rattle.wordlists.proofs.OpenLaws.{pages-places, pages-alike, placed-lists, pages-opened}
+-- `open_pages` finds the words' terms, which are all on the card.
+use Rattle.rules.specs.Index.{indexT}
+use Rattle.questions.proofs.GoodLaws.{words-parts}
+use Rattle.wordlists.proofs.LyingLaws.{word-below}
 use borrow.Author.Needs.{needs}
 use Rattle.wordlists.proofs.open_pages.Statement.{statement}
 use Rattle.wordlists.proofs.open_pages.Tie as tie
 
-open-lists-requires : tie.Need-open-lists-requires
-open-lists-requires c κs =
-    let p = c .before .before .before .place-lists in
-    let b = c .before .before .before .before .before .before .before .before in (
-      pages-places (b .args .card .now) (b .args .terms .now) (p .last .1 .1 .1 .0) (b .pre .0) (b .pre .1)
-          (p .kept .1 .1 .1 .0) (p .ensures),
-      pages-alike (b .args .card .now) (b .args .terms .now)
-          (p .last .1 .1 .1 .0) (b .pre .0) (b .pre .1) (p .kept .1 .1 .1 .0) (p .ensures),
-      b .pre .2,
-    )
-
-returns : tie.Need-returns
-returns c =
-    let o = c .before .before in
-    let p = o .before .before .before .before .place-lists in
-    let b = c .before .before .before .before .before .before .before .before .before .before .before in
-    let lists =
-    placed-lists (b .args .card .now) (b .args .terms .now) (p .last .1 .1 .1 .0) (b .pre .0) (b .pre .1)
-    (p .kept .1 .1 .1 .0) (p .ensures) in (
-      o .open-lists .ensures .0 ∙ ap leadOf lists,
-      pages-opened (b .args .card .now) (b .args .terms .now) (p .last .1 .1 .1 .0) (b .pre .0) (b .pre .1)
-          (p .kept .1 .1 .1 .0) (p .ensures) (o .open-lists .last .1 .1 .1 .0) (o .open-lists .ensures .1),
-    )
+find-terms-requires : tie.Need-find-terms-requires
+find-terms-requires c κs =
+    let b = c .before .before .before .before in
+    let T = indexT (b .args .card .now) in
+    let ts = b .args .terms .now in
+    (b .pre .0, word-below T ts (b .pre .1), words-parts T ts (b .pre .1) .1)
 
 pub open-pages-spec : {M : Type 1} → statement M
 open-pages-spec =
     tie.close
     (tie.spec
     (λ c. search needs)
+    find-terms-requires
+    (λ c. search needs)
     (λ c κs. search needs)
     (λ c. search needs)
-    open-lists-requires
-    (λ c. search needs)
-    returns)
+    (λ c. search needs))

@@ -1,0 +1,134 @@
+-- Laws of finding a question's terms: the least term from a number on, the starts put for a term, and the walk that goes on.
+use mathlib.Core.Path.{_≡_, refl, sym, ap, _∙_}
+use mathlib.Core.List.{List}
+use Prim.Native.Nat.{ℕ, zero, suc, _+_, _-_, _^_, _≤_, _<_}
+use native.Mathlib.Nat.{add-zero}
+use native.Mathlib.Decide.{ℕ-discrete, decLt}
+use native.Mathlib.Omega.{arith}
+use lib.ListN.{length, getD, set, length-set}
+use lib.Seq.{getD-set-same, getD-set-other}
+use Rattle.rules.specs.Index.{indexT}
+use Rattle.laws.specs.Blocks.{blockAt}
+use Rattle.parts.specs.Places.{Walkable}
+use Rattle.findterm.specs.Starts.{Starts, Below, LeastFrom, Put}
+
+-- ---- the least term from a number on
+
+-- r is the least at or above t of the first n terms, or 2 ^ 32
+pub record LeastOf (ts : List ℕ) (n t r : ℕ) : Type 0 where
+  pub onward : t ≤ r
+  pub least : (i : ℕ) → i < n → t ≤ getD ts i 0 → r ≤ getD ts i 0
+  pub among : (T : ℕ) → ((i : ℕ) → i < n → getD ts i 0 < T) → r < 2 ^ 32 → r < T
+
+module _ (ts : List ℕ) (n t r : ℕ) (l : LeastOf ts n t r) where
+  pub least-taken : t ≤ getD ts n 0 → getD ts n 0 < r → LeastOf ts (n + 1) t (getD ts n 0)
+  least-taken h g = record {
+    onward = h;
+    least = λ i b o. elim (ℕ-discrete i n) [ yes e ↦ rw e (omega arith) | no e ↦ omega (arith, l .least i (omega arith) o) ];
+    among = λ T b o. b n (omega arith);
+  }
+
+  pub least-kept : (t ≤ getD ts n 0 → r ≤ getD ts n 0) → LeastOf ts (n + 1) t r
+  least-kept h = record {
+    onward = l .onward;
+    least = λ i b o. elim (ℕ-discrete i n) [ yes e ↦ rw e (h (rw e at o)) | no e ↦ l .least i (omega arith) o ];
+    among = λ T b o. l .among T (λ i g. b i (omega arith)) o;
+  }
+
+-- ---- the starts put for a term
+
+-- of the first n terms, those that are t have `at` as their number, and the others the number that they had
+pub record PutOf (ts : List ℕ) (n t at : ℕ) (ps after : List ℕ) : Type 0 where
+  pub same : length after ≡ length ps
+  pub here : (i : ℕ) → i < n → getD ts i 0 ≡ t → getD after i 0 ≡ at
+  pub others : (i : ℕ) → (i < n → getD ts i 0 ≡ t → ⊥) → getD after i 0 ≡ getD ps i 0
+
+module _ (ts : List ℕ) (n t at : ℕ) (ps after : List ℕ) (p : PutOf ts n t at ps after) where
+  pub put-more : n < length ps → getD ts n 0 ≡ t → PutOf ts (n + 1) t at ps (set after n at)
+  put-more h g = record {
+    same = length-set after n at ∙ p .same;
+    here = λ i l e. elim (ℕ-discrete i n) [
+      | yes x ↦ rw x (getD-set-same after n at 0 (omega (arith, p .same)))
+      | no x ↦ getD-set-other after n i at 0 x ∙ p .here i (omega arith) e
+    ];
+    others = λ i o. elim (ℕ-discrete i n) [
+      | yes x ↦ absurd (o (omega arith) (rw x g))
+      | no x ↦ getD-set-other after n i at 0 x ∙ p .others i (λ l e. o (omega arith) e)
+    ];
+  }
+
+  pub put-kept : (getD ts n 0 ≡ t → ⊥) → PutOf ts (n + 1) t at ps after
+  put-kept g = record {
+    same = p .same;
+    here = λ i l e. elim (ℕ-discrete i n) [ yes x ↦ absurd (g (rw (sym x) e)) | no x ↦ p .here i (omega arith) e ];
+    others = λ i o. p .others i (λ l e. o (omega arith) e);
+  }
+
+-- ---- the walk that goes on
+
+pub blockAt-on : (h k n : ℕ) (s : List ℕ) → blockAt (blockAt h k s) n s ≡ blockAt h (k + n) s
+unfolding blockAt
+blockAt-on h k zero s = ap (λ (m : ℕ). blockAt h m s) (sym (add-zero k))
+blockAt-on h k (suc n) s =
+    let e : suc (k + n) ≡ k + suc n = omega arith in
+    rw (blockAt-on h k n s) (ap (λ (m : ℕ). blockAt h m s) e)
+
+module _ (s : List ℕ) (t next : ℕ) (h : t ≤ next) where
+  on-is : t + (next - t) ≡ next
+  on-is = omega arith
+
+  pub walk-on : Walkable 11 next s → Walkable (blockAt 11 t s) (next - t) s
+  walk-on w i l = rw (blockAt-on 11 t i s) (w (t + i) (omega arith))
+
+  pub walked-on : blockAt (blockAt 11 t s) (next - t) s ≡ blockAt 11 next s
+  walked-on = blockAt-on 11 t (next - t) s ∙ ap (λ (m : ℕ). blockAt 11 m s) on-is
+
+-- those of the terms ts that are below n start at their numbers of ps
+abbrev pub AllStart : List ℕ → List ℕ → ℕ → List ℕ → Type 0
+AllStart s ts n ps = (i : ℕ) → i < length ts → getD ts i 0 < n → Starts s (getD ts i 0) (getD ps i 0)
+
+-- the terms below the next one have their starts, and those that are it get theirs
+starts-more : (s ts ps after : List ℕ) (t at next : ℕ) → AllStart s ts t ps → Put ts t at ps after → Starts s t at
+    → LeastFrom ts (t + 1) next → AllStart s ts next after
+starts-more s ts ps after t at next a p o l i h b =
+    elim (ℕ-discrete (getD ts i 0) t) [
+      | yes e ↦ rw (p .here i h e, e) o
+      | no e ↦ rw (p .others i h e) (a i h (before (getD ts i 0) e b (l .least i h)))
+    ]
+  where
+    beyond : (x : ℕ) → (x ≡ t → ⊥) → (x < t → ⊥) → t + 1 ≤ x
+    beyond x e g = omega arith
+
+    before : (x : ℕ) → (x ≡ t → ⊥) → x < next → (t + 1 ≤ x → next ≤ x) → x < t
+    before x e b f = elim (decLt x t) [ yes g ↦ g | no g ↦ absurd (omega (arith, f (beyond x e g))) ]
+
+-- the walk stands at term t, the terms below the next one have their starts, and the next one, if any, is of the card
+pub record Finding (s ts ps : List ℕ) (n t at next : ℕ) : Type 0 where
+  pub room : length ps ≡ n
+  pub start : at ≡ blockAt 11 t s
+  pub onward : t ≤ next
+  pub on-card : next < 2 ^ 32 → next < indexT s
+  pub found : AllStart s ts next ps
+
+module _ (s ts : List ℕ) (b : Below s ts) where
+  pub finding-first : (ps : List ℕ) (next : ℕ) → LeastFrom ts 0 next → Finding s ts ps (length ps) 0 11 next
+  unfolding blockAt
+  finding-first ps next l = record {
+    room = refl;
+    start = refl;
+    onward = omega arith;
+    on-card = l .among (indexT s) b;
+    found = λ i h g. absurd (omega (arith, l .least i h (omega arith)));
+  }
+
+  module _ (ps after : List ℕ) (n t at next : ℕ) (f : Finding s ts ps n t at next) (h : next < 2 ^ 32) where
+    pub finding-more : (to then : ℕ) → to ≡ blockAt at (next - t) s → Put ts next to ps after
+        → LeastFrom ts (next + 1) then → Finding s ts after n next to then
+    finding-more to then e p l =
+        let start : to ≡ blockAt 11 next s = e ∙ rw (f .start) (walked-on s t next (f .onward)) in record {
+          room = p .same ∙ f .room;
+          start = start;
+          onward = omega (arith, l .onward);
+          on-card = l .among (indexT s) b;
+          found = starts-more s ts ps after next to then (f .found) p (record { below = f .on-card h; start = start }) l;
+        }

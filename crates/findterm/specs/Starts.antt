@@ -1,0 +1,33 @@
+-- Where the terms of an index start.
+--
+--   Starts s t at       term number t of the index s starts at byte `at`
+--   Below s ts          each of the terms ts is a term of s
+--   Found s ts ps       each of the terms ts starts at its number of ps
+--   LeastFrom ts t r    r is the least of the terms ts at or above t, or 2 ^ 32
+--   Put ts t at ps after  `after` is ps with `at` as the number of each of the terms ts that is t
+use mathlib.Core.Path.{_≡_}
+use mathlib.Core.List.{List}
+use Prim.Native.Nat.{ℕ, _^_, _≤_, _<_}
+use lib.ListN.{length, getD}
+use Rattle.rules.specs.Index.{indexT}
+use Rattle.laws.specs.Blocks.{blockAt}
+
+pub record Starts (s : List ℕ) (t at : ℕ) : Type 0 where
+  pub below : t < indexT s
+  pub start : at ≡ blockAt 11 t s
+
+abbrev pub Below : List ℕ → List ℕ → Type 0
+Below s ts = (i : ℕ) → i < length ts → getD ts i 0 < indexT s
+
+abbrev pub Found : List ℕ → List ℕ → List ℕ → Type 0
+Found s ts ps = (i : ℕ) → i < length ts → Starts s (getD ts i 0) (getD ps i 0)
+
+pub record LeastFrom (ts : List ℕ) (t r : ℕ) : Type 0 where
+  pub onward : t ≤ r
+  pub least : (i : ℕ) → i < length ts → t ≤ getD ts i 0 → r ≤ getD ts i 0
+  pub among : (T : ℕ) → ((i : ℕ) → i < length ts → getD ts i 0 < T) → r < 2 ^ 32 → r < T
+
+pub record Put (ts : List ℕ) (t at : ℕ) (ps after : List ℕ) : Type 0 where
+  pub same : length after ≡ length ps
+  pub here : (i : ℕ) → i < length ts → getD ts i 0 ≡ t → getD after i 0 ≡ at
+  pub others : (i : ℕ) → i < length ts → (getD ts i 0 ≡ t → ⊥) → getD after i 0 ≡ getD ps i 0

@@ -1,0 +1,89 @@
+-- Laws of going from one to one with the word at hand: where it begins, on to the next word, and past a one.
+use mathlib.Core.Path.{_≡_, refl, sym, ap, _∙_}
+use mathlib.Core.List.{List}
+use Prim.Native.Nat.{ℕ, _+_, _-_, _*_, _/_, _%_, _^_, _≤_, _<_}
+use native.Mathlib.Nat.{div-mul-le-self, mod-eq-of-lt}
+use native.Mathlib.Omega.{arith}
+use lib.Bits.{bitAnd}
+use lib.Count.{trailingZeros}
+use lib.ListN.{length}
+use Rattle.rules.specs.Runs.{runWord, wordsFor}
+use Rattle.rules.specs.Counts.{onesBelow}
+use Rattle.shape.specs.declared.Shape.{Shape}
+use Rattle.readlist.specs.Open.{Open, OneAt}
+use Rattle.readlist.proofs.PartLaws.{flat-inside, word-inside}
+use Rattle.seek.specs.Walks.{Walking}
+use Rattle.seek.proofs.OpenLaws.{open-word, words-few}
+use Rattle.seek.proofs.WalkLaws.{walking-from, walking-next, walking-more, walking-drop, one-lt, one-bit, one-rank}
+use Rattle.span.specs.declared.Walk.{Walk}
+use Rattle.span.specs.declared.Ones.{Ones}
+use Rattle.span.specs.Walks.{WalkOn, OnesLeft}
+
+module _ (s : List ℕ) (g : Shape) (w : Walk) (o : WalkOn s g w) (more : w .next < g .n) where
+  -- the word where reading stands lies in the run
+  pub ahead-inside : (w .place / 64 < wordsFor (g .bits)) × (g .upper + 8 * (w .place / 64) + 8 ≤ length s)
+  ahead-inside =
+      let h : onesBelow s (g .upper) (w .place) < g .n = omega (arith, o .counted) in
+      let i = flat-inside s g (o .opened) (w .place) h (w .place) refl in
+      (i, word-inside s g (o .opened) (w .place) h (w .place / 64) i .0)
+
+  pub ones-begin : (x : ℕ) → x ≡ runWord s (g .upper) (w .place / 64)
+      → OnesLeft s g (w .next) (record {
+        left = x / 2 ^ (w .place % 64) * 2 ^ (w .place % 64) % 2 ^ 64;
+        k = w .place / 64;
+        rank = w .next;
+      })
+  ones-begin x e =
+      let f : ℕ = w .place % 64 in
+      let p : 64 * (w .place / 64) + f ≡ w .place = omega arith in
+      let fits : x < 2 ^ 64 = rw e (open-word s g (o .opened) (w .place / 64)) in
+      let left : x / 2 ^ f * 2 ^ f % 2 ^ 64 ≡ runWord s (g .upper) (w .place / 64) / 2 ^ f * 2 ^ f =
+      mod-eq-of-lt (omega (arith, div-mul-le-self x (2 ^ f))) ∙ ap (λ (y : ℕ). y / 2 ^ f * 2 ^ f) e in
+      record {
+        walking =
+            walking-from s g (o .opened) f _ (omega arith) (ahead-inside .0) left
+            (sym (ap (onesBelow s (g .upper)) p ∙ o .counted)) (omega arith);
+        passed = refl;
+      }
+
+module _ (s : List ℕ) (g : Shape) (o : Open s g) (n : ℕ) (more : n < g .n) (x : Ones) (l : OnesLeft s g n x) where
+  abbrev here : Walking s g (record { left = x .left; k = x .k; rank = x .rank; looks = 0 })
+  here = l .walking
+
+  -- a word without a one left is not the last
+  pub ones-go-on : x .left ≡ 0 → x .k + 1 < wordsFor (g .bits)
+  ones-go-on e = walking-more s g o _ here e (omega (arith, l .passed))
+
+  pub ones-next : x .left ≡ 0 → (y : ℕ) → y ≡ runWord s (g .upper) (x .k + 1)
+      → OnesLeft s g n (record { left = y; k = x .k + 1; rank = x .rank })
+  ones-next e y w =
+      let v =
+      walking-next s g o _ here (record { left = y; k = x .k + 1; rank = x .rank; looks = 1 }) e refl (ones-go-on e) w
+      refl refl in
+      record {
+        walking = record {
+          within = v .within;
+          gone = v .gone;
+          left-are = v .left-are;
+          counted = v .counted;
+          room = omega arith;
+        };
+        passed = l .passed;
+      }
+
+  module _ (some : 0 < x .left) where
+    abbrev place : ℕ
+    place = 64 * x .k + trailingZeros 64 (x .left)
+
+    pub ones-place : OneAt s (g .upper) (x .rank) place × (place < 2 ^ 32)
+    ones-place = (
+      record { set = one-bit s g o _ here some; below = one-rank s g o _ here some },
+      omega (arith, words-few s g o (x .k) (here .within), one-lt s g o _ here some),
+    )
+
+    pub ones-drop : OnesLeft s g (n + 1)
+        (record { left = bitAnd (x .left) (x .left - 1); k = x .k; rank = x .rank + 1 })
+    ones-drop = record {
+      walking = walking-drop s g o _ here some _ refl refl refl refl;
+      passed = ap (λ (m : ℕ). m + 1) (l .passed);
+    }
