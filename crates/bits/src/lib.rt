@@ -1,4 +1,5 @@
-// Leaves over bytes, words and runs of bits: each means one definition of `rules` or of specs/, for every width and place.
+// Leaves over bytes, words and runs of bits: each means one definition of `rules` or of specs/, for every width and
+// place.
 
 ghost use mathlib.Core.Path.{_≡_};
 ghost use Prim.Native.Nat.{_+_, _*_, _/_, _%_, _^_, _<_, _≤_};

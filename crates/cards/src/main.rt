@@ -1,5 +1,6 @@
-// Prints what is told of S9's card, a line each: its refusal whole; cut at its end and at its front; with a byte damaged; with N
-// damaged as well, so that only the order decides; the lengths of its term and of the term's lists; and what closing answers.
+// Prints what is told of S9's card, a line each: its refusal whole; cut at its end and at its front; with a byte
+// damaged; with N damaged as well, so that only the order decides; the lengths of its term and of the term's lists; and
+// what closing answers.
 
 use libc::STDOUT_FILENO;
 ghost use Prim.Native.Nat.{_≤_, _<_};

@@ -12,7 +12,8 @@ ghost use Rattle.checklist.specs.Check.{Judged, Tells, Clear, Laid, Hold
 use rules::Refusal;
 use shape::Shape;
 
-// Where the lower run is read: the word at byte `at`, the bit of it at which the next low part starts, and the part read last.
+// Where the lower run is read: the word at byte `at`, the bit of it at which the next low part starts, and the part
+// read last.
 pub struct Low {
     pub part: u64,
     pub word: u64,
@@ -20,8 +21,8 @@ pub struct Low {
     pub at: usize,
 }
 
-// What is known of the words passed: whether nothing is wrong in them, how many elements they hold, the number of the next
-// pointer, and the least that the next element may be.
+// What is known of the words passed: whether nothing is wrong in them, how many elements they hold, the number of the
+// next pointer, and the least that the next element may be.
 pub struct Mid {
     pub ok: bool,
     pub i: usize,

@@ -1,4 +1,5 @@
-// The check of a term block: the refusal that its bytes get, with each list handed on as the part of the block that it is.
+// The check of a term block: the refusal that its bytes get, with each list handed on as the part of the block that it
+// is.
 
 ghost use mathlib.Core.Path.{_≡_};
 ghost use Prim.Native.Nat.{_≤_};

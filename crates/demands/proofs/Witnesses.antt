@@ -11,22 +11,31 @@ use lib.ListN.{length, replicate}
 use Rattle.rules.specs.Refusal.{number, accepted, andThen}
 use Rattle.rules.specs.Bytes.{Bytes, be, beAt, sized, same}
 use Rattle.rules.specs.Runs.{bit, runWord, runBit, field, wordsFor, words}
-use Rattle.rules.specs.List.{rising, validList, greatest, width, zeros, upper, lower, afterZero, pointer, pointers, lowerAt, upperAt, size, runs, body, block}
+use Rattle.rules.specs.List.{rising, validList, greatest, width, zeros, upper, lower, afterZero, pointer, pointers}
+use Rattle.rules.specs.List.{lowerAt, upperAt, size, runs, body, block}
 use Rattle.rules.specs.ReadList.{stated, listU, listN, elements, readList, decode, isBlock, listRefusal}
 use Rattle.rules.specs.Write.{laid, stored, writeList}
-use Rattle.rules.specs.Term.{Word, total, sums, next, raised, placed, places, positive, inOrder, inOrderByPage, validWord, termBlock, writeTerm}
+use Rattle.rules.specs.Term.{Word, total, sums, next, raised, placed, places, positive, inOrder, inOrderByPage}
+use Rattle.rules.specs.Term.{validWord, termBlock, writeTerm}
 use Rattle.rules.specs.Parts.{after, part, inside}
-use Rattle.rules.specs.ReadTerm.{listsOf, pagesOf, countsOf, positionsOf, gaps, less, lowered, readWord, disagree, termRefusal}
-use Rattle.rules.specs.Index.{indexFront, terms, card, validWords, validCard, indexN, indexT, termPart, wordOf, termsRefusal, indexRefusal, closeRefusal, closeIndex}
-use Rattle.rules.specs.Seek.{placeOf, bitsOf, cursorBit, startOf, looksTo, walk, gone, arrived, walked, walkFrom, move, seek}
+use Rattle.rules.specs.ReadTerm.{listsOf, pagesOf, countsOf, positionsOf, gaps, less, lowered, readWord, disagree}
+use Rattle.rules.specs.ReadTerm.{termRefusal}
+use Rattle.rules.specs.Index.{indexFront, terms, card, validWords, validCard, indexN, indexT, termPart, wordOf}
+use Rattle.rules.specs.Index.{termsRefusal, indexRefusal, closeRefusal, closeIndex}
+use Rattle.rules.specs.Seek.{placeOf, bitsOf, cursorBit, startOf, looksTo, walk, gone, arrived, walked, walkFrom, move}
+use Rattle.rules.specs.Seek.{seek}
 use Rattle.rules.specs.Common.{leadFrom, leadOf, readersOf, before, stopped, agree, counted, nothing, rounds, common}
-use Rattle.rules.specs.Questions.{firstFrom, member, inAll, sharedBy, commonPages, positionsAmong, positionsOn, stands, startsAmong, starts, withStarts, numbered, pagesIn, listsIn, wordsIn, byRank, byBound, byCommon, byPhrase, answer, allBelow, goodQuestion, kindOf, countOf, argsOf, behind, wellFormed, replies}
+use Rattle.rules.specs.Questions.{firstFrom, member, inAll, sharedBy, commonPages, positionsAmong, positionsOn, stands}
+use Rattle.rules.specs.Questions.{startsAmong, starts, withStarts, numbered, pagesIn, listsIn, wordsIn, byRank, byBound}
+use Rattle.rules.specs.Questions.{byCommon, byPhrase, answer, allBelow, goodQuestion, kindOf, countOf, argsOf, behind}
+use Rattle.rules.specs.Questions.{wellFormed, replies}
 use Rattle.rules.specs.Ask.{fitting, fitted, reply, joined, put, ask}
 use Rattle.rules.specs.Table.{s9, s9Word}
 use Rattle.listlaws.proofs.RisingLaws.{and-parts}
 use Rattle.jundefola.specs.declared.HostWritten.{HostWritten}
 use Rattle.jundefola.specs.declared.HostAsked.{HostAsked}
-use Rattle.jundefola.specs.Host.{HostListChecked, HostListWritten, HostTermChecked, HostTermWritten, HostIndexChecked, HostIndexClosed, HostAnswered}
+use Rattle.jundefola.specs.Host.{HostListChecked, HostListWritten, HostTermChecked, HostTermWritten, HostIndexChecked}
+use Rattle.jundefola.specs.Host.{HostIndexClosed, HostAnswered}
 use Rattle.demands.specs.Asking.{ValidWord, Query, Good, named, pagesNamed, plain, plainAll}
 
 -- ---- the promises, for every input

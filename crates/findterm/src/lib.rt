@@ -1,4 +1,5 @@
-// Finding terms of an accepted index, and the lists of an accepted term, by the lengths that the blocks before them state.
+// Finding terms of an accepted index, and the lists of an accepted term, by the lengths that the blocks before them
+// state.
 
 ghost use mathlib.Core.Path.{_≡_};
 ghost use Prim.Native.Nat.{_^_, _≤_, _<_};

@@ -1,6 +1,6 @@
-// Prints what the leaves read of S1's block and what they write, a line each: length, U, n and width; the low fields; the places of the
-// upper run's ones by walking; its ones and zeros by number; counts of ones; a field over two words, written and read; the last field of a
-// run, and the empty one at its end.
+// Prints what the leaves read of S1's block and what they write, a line each: length, U, n and width; the low fields;
+// the places of the upper run's ones by walking; its ones and zeros by number; counts of ones; a field over two words,
+// written and read; the last field of a run, and the empty one at its end.
 
 use libc::STDOUT_FILENO;
 ghost use Prim.Native.Nat.{_+_, _*_, _/_, _^_, _≤_, _<_};

@@ -5,7 +5,8 @@ ghost use Prim.Native.Nat.{_*_, _<_};
 ghost use lib.ListN.{length};
 ghost use lib.Seq.{paste};
 ghost use Rattle.rules.specs.Common.{leadOf};
-ghost use Rattle.openlists.specs.Places.{placePart, placePages, placedIn, numbersAt, sourceOf, slotOf, PlaceOk, Places, Alike, Slots, Opened};
+ghost use Rattle.openlists.specs.Places.{placePart, placePages, placedIn, numbersAt, sourceOf, slotOf, PlaceOk};
+ghost use Rattle.openlists.specs.Places.{Places, Alike, Slots, Opened};
 
 // The bytes at place i.
 fn part_of<'a>(card: &'a [u8], places: &[u32], i: usize) -> &'a [u8]

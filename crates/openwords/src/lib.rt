@@ -32,8 +32,8 @@ pub fn numbers_at(card: &[u8], from: usize, to: usize) -> [u32; 8]
     ]
 }
 
-// Opens the lists number k of words whose terms are found: 0 pages, 1 counts, 2 positions; each in its word's slot of the
-// 64 numbers.
+// Opens the lists number k of words whose terms are found: 0 pages, 1 counts, 2 positions; each in its word's slot of
+// the 64 numbers.
 pub fn open_words(card: &[u8], terms: &[u32], starts: &[usize], k: usize, shapes: &mut [u32])
     requires { ⌜ (indexRefusal (now card) ≡ Accepted) × (wordsGood (indexT (now card)) (now terms) ≡ true) × (k < 3)
         × (length (now shapes) ≡ 64) × (length (now starts) ≡ 8) × Found (now card) (now terms) (now starts) ⌝ }

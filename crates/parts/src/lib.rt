@@ -71,8 +71,8 @@ pub fn part_at(s: &[u8], at: usize) -> &[u8]
     &s[at..to]
 }
 
-// Where block number k starts, found by the lengths that those before it state; the first starts at byte `from`. What is
-// left is walked as a part of its own, so that each length is read at its front.
+// Where block number k starts, found by the lengths that those before it state; the first starts at byte `from`. What
+// is left is walked as a part of its own, so that each length is read at its front.
 pub fn block_start(s: &[u8], from: usize, k: usize) -> usize
     requires { ⌜ Walkable from k (now s) ⌝ }
     ensures { λ r. ⌜ r ≡ blockAt from k (now (s .entry)) ⌝ }

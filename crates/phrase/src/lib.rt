@@ -5,7 +5,8 @@ ghost use Prim.Native.Nat.{_+_, _*_, _^_, _≤_, _<_};
 ghost use lib.ListN.{length};
 ghost use Rattle.query.specs.Lists.{numberOf, partAt};
 ghost use Rattle.span.specs.Walks.{past};
-ghost use Rattle.phrase.specs.Words.{elementsAt, walkIn, withWalk, ranksOf, baseIn, withSpan, BlockAt, Readable, Walked, Ready, PassedOn, Sought};
+ghost use Rattle.phrase.specs.Words.{elementsAt, walkIn, withWalk, ranksOf, baseIn, withSpan, BlockAt, Readable};
+ghost use Rattle.phrase.specs.Words.{Walked, Ready, PassedOn, Sought};
 use span::Walk;
 
 // ---- a word's list

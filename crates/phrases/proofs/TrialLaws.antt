@@ -29,7 +29,8 @@ use Rattle.openlists.proofs.SourceLaws.{slot-lt, source-lt, source-slot, slot-s
 use Rattle.wordlists.proofs.OpenLaws.{lead-within}
 use Rattle.kinds.specs.Ranks.{rankBy}
 use Rattle.phrases.specs.declared.Trial.{Trial}
-use Rattle.phrases.specs.Asked.{termAt, positionsHere, pageHere, triedAt, Asked, OnAll, AheadOf, Ahead, TurnedTo, Trying}
+use Rattle.phrases.specs.Asked.{termAt, positionsHere, pageHere, triedAt, Asked, OnAll, AheadOf, Ahead, TurnedTo}
+use Rattle.phrases.specs.Asked.{Trying}
 use Rattle.phrases.proofs.RankLaws.{is-ranked, page-there}
 use Rattle.phrases.proofs.PageLaws.{rank-later}
 

@@ -183,7 +183,8 @@ fn page_starts(
     )
 }
 
-// Puts a page and its starts behind what was found, if there are any and there is room; how many numbers are found then.
+// Puts a page and its starts behind what was found, if there are any and there is room; how many numbers are found
+// then.
 fn put_pair(room: &mut [u32], found: usize, page: u32, count: u32) -> usize
     requires { ⌜ found < 2 ^ 32 ⌝ }
     ensures { λ r. ⌜ PairedBehind found (now (room .entry)) page count r (now (room .exit)) ⌝ }

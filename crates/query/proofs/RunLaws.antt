@@ -23,7 +23,8 @@ use Rattle.query.proofs.SpanLaws.{length-span, span-cons, span-ready, s
 use Rattle.query.proofs.PendingLaws.{rankOf, listAfter, listAfter-larger, listAfter-same, listAfter-le, pending}
 use Rattle.query.proofs.PendingLaws.{pending-end}
 use Rattle.query.proofs.ListLaws.{list-within, list-length, span-words}
-use Rattle.query.proofs.QueryLaws.{total-at, left, seek-apt, seek-seeks, mark-some, left-none, left-page, page-least}
+use Rattle.query.proofs.QueryLaws.{total-at, left, seek-apt, seek-seeks, mark-some, left-none, left-page}
+use Rattle.query.proofs.QueryLaws.{page-least}
 
 pub apt-more : (s sh : List ℕ) (k : ℕ) (q : Query) (b d : ℕ) → Apt s sh k q b → b ≤ d → Apt s sh k q d
 apt-more s sh k q b d a l = record {

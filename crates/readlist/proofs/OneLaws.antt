@@ -13,7 +13,8 @@ use Rattle.rules.specs.Counts.{onesBelow}
 use Rattle.laws.proofs.CountLaws.{word-ones, next-word}
 use Rattle.laws.proofs.RunLaws.{run-bit, ones-mono, ones-flat}
 use Rattle.bits.specs.Words.{placeOfOne, nextOne}
-use Rattle.bits.proofs.WordLaws.{place-bit, place-ones, place-some, place-from, next-after, next-le, next-bit, next-zeros}
+use Rattle.bits.proofs.WordLaws.{place-bit, place-ones, place-some, place-from, next-after, next-le, next-bit}
+use Rattle.bits.proofs.WordLaws.{next-zeros}
 use Rattle.readlist.specs.Open.{OneAt, OneAhead}
 
 -- the ones of a word: those left once its low bits are 0, and those of the low bits

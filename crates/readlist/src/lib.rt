@@ -135,7 +135,8 @@ struct Range {
     high: usize,
 }
 
-// Pointers among which the last with at most `rank` ones before it is: some from that rank's share up, or some below it.
+// Pointers among which the last with at most `rank` ones before it is: some from that rank's share up, or some below
+// it.
 fn narrowed(block: &[u8], last: usize, n: usize, rank: usize) -> Range
     requires { ⌜ Sought (now block) last n rank ⌝ }
     ensures { λ r. ⌜ Among (now (block .entry)) (shapeIn (now (block .entry))) rank (r .low) (r .high) ⌝ }

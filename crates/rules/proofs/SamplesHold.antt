@@ -3,18 +3,28 @@ use lib.Dec.{T}
 use Rattle.rules.specs.Refusal.{accepted, andThen}
 use Rattle.rules.specs.Bytes.{be, beAt, sized, same}
 use Rattle.rules.specs.Runs.{bit, runWord, runBit, field, wordsFor, words}
-use Rattle.rules.specs.List.{rising, validList, greatest, width, zeros, upper, lower, afterZero, pointer, pointers, lowerAt, upperAt, size, runs, body, block}
+use Rattle.rules.specs.List.{rising, validList, greatest, width, zeros, upper, lower, afterZero, pointer}
+use Rattle.rules.specs.List.{pointers, lowerAt, upperAt, size, runs, body, block}
 use Rattle.rules.specs.ReadList.{stated, listU, listN, elements, readList, decode, isBlock, listRefusal}
 use Rattle.rules.specs.Write.{laid, stored, writeList}
-use Rattle.rules.specs.Term.{total, sums, next, raised, placed, places, positive, inOrder, inOrderByPage, validWord, termBlock}
+use Rattle.rules.specs.Term.{total, sums, next, raised, placed, places, positive, inOrder, inOrderByPage}
+use Rattle.rules.specs.Term.{validWord, termBlock}
 use Rattle.rules.specs.Parts.{after, part, inside}
-use Rattle.rules.specs.ReadTerm.{listsOf, pagesOf, countsOf, positionsOf, gaps, less, lowered, readWord, disagree, termRefusal}
-use Rattle.rules.specs.Index.{indexFront, terms, card, validWords, validCard, indexN, indexT, termPart, wordOf, termsRefusal, indexRefusal}
-use Rattle.rules.specs.Seek.{placeOf, bitsOf, cursorBit, startOf, looksTo, walk, gone, arrived, walked, walkFrom, move, seek}
-use Rattle.rules.specs.Common.{leadFrom, leadOf, readersOf, before, stopped, agree, counted, nothing, rounds, common}
-use Rattle.rules.specs.Questions.{firstFrom, member, inAll, sharedBy, commonPages, positionsAmong, positionsOn, stands, startsAmong, starts, withStarts, numbered, pagesIn, listsIn, wordsIn, byRank, byBound, byCommon, byPhrase, answer, allBelow, goodQuestion, kindOf, countOf, argsOf, behind, wellFormed, replies}
+use Rattle.rules.specs.ReadTerm.{listsOf, pagesOf, countsOf, positionsOf, gaps, less, lowered, readWord, disagree}
+use Rattle.rules.specs.ReadTerm.{termRefusal}
+use Rattle.rules.specs.Index.{indexFront, terms, card, validWords, validCard, indexN, indexT, termPart, wordOf}
+use Rattle.rules.specs.Index.{termsRefusal, indexRefusal}
+use Rattle.rules.specs.Seek.{placeOf, bitsOf, cursorBit, startOf, looksTo, walk, gone, arrived, walked, walkFrom}
+use Rattle.rules.specs.Seek.{move, seek}
+use Rattle.rules.specs.Common.{leadFrom, leadOf, readersOf, before, stopped, agree, counted, nothing, rounds}
+use Rattle.rules.specs.Common.{common}
+use Rattle.rules.specs.Questions.{firstFrom, member, inAll, sharedBy, commonPages, positionsAmong, positionsOn}
+use Rattle.rules.specs.Questions.{stands, startsAmong, starts, withStarts, numbered, pagesIn, listsIn, wordsIn}
+use Rattle.rules.specs.Questions.{byRank, byBound, byCommon, byPhrase, answer, allBelow, goodQuestion, kindOf}
+use Rattle.rules.specs.Questions.{countOf, argsOf, behind, wellFormed, replies}
 use Rattle.rules.specs.Ask.{fitting, fitted, reply, joined, put, ask}
-use Rattle.rules.specs.Program.{decimal, digits, line, lines, refusedWord, refusedLine, numbersOf, printedReply, printed}
+use Rattle.rules.specs.Program.{decimal, digits, line, lines, refusedWord, refusedLine, numbersOf, printedReply}
+use Rattle.rules.specs.Program.{printed}
 use Rattle.rules.specs.Samples.{sameRefusal, sameFound, soughtSo, holds, every}
 use Rattle.rules.specs.Table.{stepped, s1, s1List, s2, s8, s9, s9Word, atFront, s12, samples}
 

@@ -6,12 +6,14 @@
 use mathlib.Core.List.{List, [], _∷_, _++_}
 use Prim.Native.Nat.{ℕ, zero, suc, _+_}
 use lib.ListN.{set, take, replicate}
-use Rattle.rules.specs.declared.Refusal.the-variants.{Accepted, Short, Length, Version, Limit, Layout, Runs, Parts, Question, Room, Lists}
+use Rattle.rules.specs.declared.Refusal.the-variants.{Accepted, Short, Length, Version, Limit, Layout, Runs}
+use Rattle.rules.specs.declared.Refusal.the-variants.{Parts, Question, Room, Lists}
 use Rattle.rules.specs.Bytes.{be}
 use Rattle.rules.specs.Term.{Word}
 use Rattle.rules.specs.Index.{card}
 use Rattle.rules.specs.Seek.{none, page}
-use Rattle.rules.specs.Samples.{Step, Row, listed, notList, notIndex, sought, tallied, indexed, written, asked, shown}
+use Rattle.rules.specs.Samples.{Step, Row, listed, notList, notIndex, sought, tallied, indexed, written, asked}
+use Rattle.rules.specs.Samples.{shown}
 
 -- k numbers from x on, d apart
 unfoldable pub stepped : ℕ → ℕ → ℕ → List ℕ

@@ -58,17 +58,6 @@ module _ (U : ℕ) (xs : List ℕ) (rises : rising 0 U xs ≡ true) (within : U 
     unfolding moved-held held-made
     moved-rule = held-rule U xs rises within (movedTo U xs c b) moved-held
 
-    -- a seek leaves no cursor fresh
-    pub moved-mark : 0 < movedTo U xs c b .mark
-    unfolding movedTo held markOf
-    moved-mark =
-        let d : ℕ = max (floor U xs (ruleCursor U xs c)) b in
-        let a = seek-answered U xs rises (ruleCursor U xs c) b placed in
-        elim (ℕ-discrete (firstAt d xs) (length xs)) [
-          | yes e ↦ rw (a .cursor, cursorAt-spent xs (firstAt d xs) e) (omega arith)
-          | no e ↦ rw (a .cursor, cursorAt-on xs (firstAt d xs) (omega (arith, firstAt-le d xs, e))) (omega arith)
-        ]
-
     pub moved-seeks : movedTo U xs c b .seeks ≡ c .seeks + 1
     unfolding movedTo held
     moved-seeks = refl

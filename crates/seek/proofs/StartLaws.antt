@@ -17,6 +17,7 @@ use Rattle.laws.proofs.CountLaws.{below-none, below-suc, run-steps}
 use Rattle.laws.proofs.RunLaws.{run-cases}
 use Rattle.shape.specs.declared.Shape.{Shape}
 use Rattle.listlaws.proofs.AfterLaws.{after-lt, after-le}
+use Rattle.bits.specs.ByteCounts.{runningOnes}
 use Rattle.readlist.specs.Open.{Open, pointersIn, pointerOf, PointerAt}
 use Rattle.readlist.proofs.ReadLaws.{open-reads, pointer-reads}
 use Rattle.seeklaws.specs.Cursors.{Placed}
@@ -90,9 +91,10 @@ module _ (s : List ℕ) (g : Shape) (o : Open s g) (b : ℕ) (p : Place) (t : St
   -- the zeros from the start on, or from behind the cursor's own element
   pub skipping-start : (h looks : ℕ) (x : Zeros) → looks < 2 ^ 31 → x .word ≡ runWord s (g .upper) (p .bit / 64)
       → x .left ≡ (2 ^ 64 - 1 - x .word) / 2 ^ (p .bit % 64 + p .own) * 2 ^ (p .bit % 64 + p .own)
+      → x .counts ≡ runningOnes 8 0 (x .left)
       → x .k ≡ p .bit / 64 → x .before ≡ p .zeros → x .looks ≡ looks + 1 → p .zeros < h → Skipping s g h x
-  skipping-start h looks x l w e i z c n =
-      skipping-from s g o h (f + p .own) x (omega (arith, own-le)) (rw i start-word) (rw i w) e
+  skipping-start h looks x l w e r i z c n =
+      skipping-from s g o h (f + p .own) x (omega (arith, own-le)) (rw i start-word) (rw i w) e r
       (rw (i, behind-start, own-counted) (omega (arith, t .counted))) (omega arith) (omega arith)
 
   -- the walk from the zeros of b's high part on

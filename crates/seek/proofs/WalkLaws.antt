@@ -12,6 +12,7 @@ use Rattle.rules.specs.Counts.{onesBelow}
 use Rattle.laws.proofs.RunLaws.{words-hold, ones-whole}
 use Rattle.laws.proofs.CountLaws.{word-ones, next-word}
 use Rattle.bits.specs.Words.{placeOfOne, placeOfZero}
+use Rattle.bits.specs.ByteCounts.{runningOnes}
 use Rattle.bits.proofs.WordLaws.{complement-ones, run-one, run-zero}
 use Rattle.shape.specs.declared.Shape.{Shape}
 use Rattle.listlaws.specs.Sound.{After}
@@ -38,9 +39,9 @@ module _ (s : List ℕ) (g : Shape) (o : Open s g) where
 
   -- the zeros of word k from place f on
   pub skipping-from : (h f : ℕ) (x : Zeros) → f ≤ 64 → x .k < wordsFor (g .bits) → x .word ≡ word (x .k)
-      → x .left ≡ (2 ^ 64 - 1 - x .word) / 2 ^ f * 2 ^ f
+      → x .left ≡ (2 ^ 64 - 1 - x .word) / 2 ^ f * 2 ^ f → x .counts ≡ runningOnes 8 0 (x .left)
       → below (64 * x .k + f) + x .before ≡ 64 * x .k + f → x .before < h → x .looks ≤ 2 ^ 31 + x .k → Skipping s g h x
-  skipping-from h f x l i w e c b r =
+  skipping-from h f x l i w e n c b r =
       let fits : x .word < 2 ^ 64 = rw w (open-word s g o (x .k)) in
       let same : ones (x .word % 2 ^ f) ≡ ones (word (x .k) % 2 ^ f) = ap (λ (v : ℕ). ones (v % 2 ^ f)) w in
       record {
@@ -48,6 +49,7 @@ module _ (s : List ℕ) (g : Shape) (o : Open s g) where
         word-is = w;
         gone = ones ((2 ^ 64 - 1 - x .word) % 2 ^ f);
         left-are = rw e (rest-from (2 ^ 64 - 1 - x .word) f (omega arith) (omega arith));
+        counts-are = n;
         counted =
             omega (
               arith,
@@ -85,13 +87,14 @@ module _ (s : List ℕ) (g : Shape) (o : Open s g) where
       skipping-inside l = omega (arith, through, ones-few s g o (64 * (x .k + 1)), words-hold (g .bits))
 
       pub skipping-next : (y : Zeros) → x .before + ones (x .left) < h → y .k ≡ x .k + 1 → y .word ≡ word (x .k + 1)
-          → y .left ≡ 2 ^ 64 - 1 - y .word
+          → y .left ≡ 2 ^ 64 - 1 - y .word → y .counts ≡ runningOnes 8 0 (y .left)
           → y .before ≡ x .before + ones (x .left) → y .looks ≡ x .looks + 1 → Skipping s g h y
-      skipping-next y l k w e b r = record {
+      skipping-next y l k w e n b r = record {
         within = omega (arith, skipping-inside l);
         word-is = rw k w;
         gone = 0;
         left-are = rw e (rest-all (2 ^ 64 - 1 - y .word) (omega arith));
+        counts-are = n;
         counted = rw k (omega (arith, through));
         short = omega arith;
         room = omega (arith, z .room);

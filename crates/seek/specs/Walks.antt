@@ -4,7 +4,7 @@
 --   Before s b i      every element before number i is below b
 --   lastWord U xs i   the word of element number i in the upper run; the last word where there is none
 --   Started s g b x   a place and the zeros before it; elements before it, and the cursor's own there, are below b
---   Skipping s g h x  the zeros of word k that are left, with fewer than h before them
+--   Skipping s g h x  the zeros of word k that are left and their counts, with fewer than h before them
 --   Walking s g x     what is left of word k, and the ones of the run before it
 --   Skipped s g h x r a walk that stands just after zero number h; one look for each word passed
 --   Passed s g b k looks r  a walk that has passed no element at least b; one look for each word from k on
@@ -22,6 +22,7 @@ use Rattle.rules.specs.Counts.{onesBelow}
 use Rattle.rules.specs.ReadList.{listU, decode}
 use Rattle.rules.specs.Seek.{placeOf, upperWords, cursorBit}
 use Rattle.bits.specs.Words.{placeOfOne}
+use Rattle.bits.specs.ByteCounts.{runningOnes}
 use Rattle.listlaws.specs.Sound.{After}
 use Rattle.shape.specs.declared.Shape.{Shape}
 use Rattle.seeklaws.specs.Cursors.{firstAt, cursorAt}
@@ -54,6 +55,7 @@ pub record Skipping (s : List ℕ) (g : Shape) (h : ℕ) (x : Zeros) : Type 0 wh
   pub word-is : x .word ≡ runWord s (g .upper) (x .k)
   pub gone : ℕ
   pub left-are : Rest (2 ^ 64 - 1 - x .word) (x .left) gone
+  pub counts-are : x .counts ≡ runningOnes 8 0 (x .left)
   pub counted : onesBelow s (g .upper) (64 * x .k) + x .before ≡ 64 * x .k + gone
   pub short : x .before < h
   pub room : x .looks ≤ 2 ^ 31 + x .k

@@ -1,4 +1,5 @@
-// The seek on an accepted list, with its counts: a cursor moves as the step rule says, and each look is a word handed out.
+// The seek on an accepted list, with its counts: a cursor moves as the step rule says, and each look is a word handed
+// out.
 
 ghost use mathlib.Core.Path.{_≡_};
 ghost use Prim.Native.Nat.{_+_, _-_, _*_, _/_, _^_, _≤_, _<_};
@@ -6,6 +7,7 @@ ghost use lib.Count.{ones};
 ghost use lib.ListN.{length, getD};
 ghost use Rattle.rules.specs.Runs.{runWord, field, wordsFor};
 ghost use Rattle.rules.specs.ReadList.{listU, decode};
+ghost use Rattle.bits.specs.ByteCounts.{runningOnes};
 ghost use Rattle.readlist.specs.Open.{Open, OneAt};
 ghost use Rattle.seek.specs.Cursors.{spentMark, unused, rankIn, Held, Moving, startIn, landing, movedTo};
 ghost use Rattle.seek.specs.Walks.{Before, Started, Skipping, Skipped, Passed, Walking, AtOne, Landed};
@@ -53,14 +55,6 @@ fn look(s: &[u8], upper: usize, k: usize, looks: u32) -> Seen
         word: bits::run_word(s, upper, k),
         looks: looks + 1,
     }
-}
-
-// The bits of a word from a place on.
-fn from_place(x: u64, place: usize) -> u64
-    requires { ⌜ place < 64 ⌝ }
-    ensures { λ r. ⌜ r ≡ x / 2 ^ place * 2 ^ place ⌝ }
-{
-    (x >> place) << place
 }
 
 // The bits of a word from a place on, or behind it where `own` is 1.
@@ -114,10 +108,11 @@ fn start(s: &[u8], g: Shape, c: Cursor, b: usize) -> Place
 
 // ---- to zero number h
 
-// Word k, its zeros that are left as ones, the zeros of the run before those, and the looks.
+// Word k, its zeros that are left as ones with their running counts, the zeros of the run before those, and the looks.
 pub struct Zeros {
     pub word: u64,
     pub left: u64,
+    pub counts: u64,
     pub k: usize,
     pub before: usize,
     pub looks: u32,
@@ -125,10 +120,10 @@ pub struct Zeros {
 
 // The zeros of the run up to the end of the word.
 fn zeros_through(at: Zeros) -> usize
-    requires { ⌜ at .before < 2 ^ 32 ⌝ }
+    requires { ⌜ (at .before < 2 ^ 32) × (at .counts ≡ runningOnes 8 0 (at .left)) ⌝ }
     ensures { λ r. ⌜ r ≡ at .before + ones (at .left) ⌝ }
 {
-    at.before + u64::count_ones(at.left) as usize
+    at.before + bits::total(at.counts) as usize
 }
 
 // What a walk has before it: what is left of word k, the ones of the run before that, and the looks.
@@ -148,18 +143,20 @@ fn skip(s: &[u8], g: Shape, h: usize, from: Zeros) -> Walk
     while zeros_through(at) < h {
         let k = at.k + 1;
         let seen = look(s, g.upper, k, at.looks);
+        let left = !seen.word;
         let next = Zeros {
             word: seen.word,
-            left: !seen.word,
+            left,
+            counts: bits::running_counts(left),
             k,
             before: zeros_through(at),
             looks: seen.looks,
         };
         at = next;
     }
-    let place = bits::select_one(at.left, (h - at.before - 1) as u32) as usize;
+    let place = bits::select_by(at.left, at.counts, (h - at.before - 1) as u32) as usize;
     Walk {
-        left: from_place(at.word, place),
+        left: bits::from_bit(at.word, place),
         k: at.k,
         rank: 64 * at.k + place - (h - 1),
         looks: at.looks,
@@ -184,9 +181,11 @@ fn pass(s: &[u8], g: Shape, b: usize, from: Place, looks: u32) -> Walk
             looks: seen.looks,
         };
     }
+    let left = behind(!seen.word, place, from.own);
     let zeros = Zeros {
         word: seen.word,
-        left: behind(!seen.word, place, from.own),
+        left,
+        counts: bits::running_counts(left),
         k,
         before: from.zeros,
         looks: seen.looks,

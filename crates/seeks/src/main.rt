@@ -1,4 +1,5 @@
-// Prints seeks by fresh cursors, on S1's block for S5, S6 and S7, and on S8's: page, rank and looks in a line each, or none and the looks.
+// Prints seeks by fresh cursors, on S1's block for S5, S6 and S7, and on S8's: page, rank and looks in a line each, or
+// none and the looks.
 
 ghost use mathlib.Core.Path.{_≡_};
 ghost use lib.ListN.{length};

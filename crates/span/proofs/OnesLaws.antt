@@ -2,7 +2,6 @@
 use mathlib.Core.Path.{_≡_, refl, sym, ap, _∙_}
 use mathlib.Core.List.{List}
 use Prim.Native.Nat.{ℕ, _+_, _-_, _*_, _/_, _%_, _^_, _≤_, _<_}
-use native.Mathlib.Nat.{div-mul-le-self, mod-eq-of-lt}
 use native.Mathlib.Omega.{arith}
 use lib.Bits.{bitAnd}
 use lib.Count.{trailingZeros}
@@ -27,21 +26,20 @@ module _ (s : List ℕ) (g : Shape) (w : Walk) (o : WalkOn s g w) (more : w .nex
       let i = flat-inside s g (o .opened) (w .place) h (w .place) refl in
       (i, word-inside s g (o .opened) (w .place) h (w .place / 64) i .0)
 
-  pub ones-begin : (x : ℕ) → x ≡ runWord s (g .upper) (w .place / 64)
+  pub ones-begin : (x y : ℕ) → x ≡ runWord s (g .upper) (w .place / 64)
+      → y ≡ x / 2 ^ (w .place % 64) * 2 ^ (w .place % 64)
       → OnesLeft s g (w .next) (record {
-        left = x / 2 ^ (w .place % 64) * 2 ^ (w .place % 64) % 2 ^ 64;
+        left = y;
         k = w .place / 64;
         rank = w .next;
       })
-  ones-begin x e =
+  ones-begin x y e l =
       let f : ℕ = w .place % 64 in
       let p : 64 * (w .place / 64) + f ≡ w .place = omega arith in
-      let fits : x < 2 ^ 64 = rw e (open-word s g (o .opened) (w .place / 64)) in
-      let left : x / 2 ^ f * 2 ^ f % 2 ^ 64 ≡ runWord s (g .upper) (w .place / 64) / 2 ^ f * 2 ^ f =
-      mod-eq-of-lt (omega (arith, div-mul-le-self x (2 ^ f))) ∙ ap (λ (y : ℕ). y / 2 ^ f * 2 ^ f) e in
       record {
         walking =
-            walking-from s g (o .opened) f _ (omega arith) (ahead-inside .0) left
+            walking-from s g (o .opened) f _ (omega arith) (ahead-inside .0)
+            (l ∙ ap (λ (v : ℕ). v / 2 ^ f * 2 ^ f) e)
             (sym (ap (onesBelow s (g .upper)) p ∙ o .counted)) (omega arith);
         passed = refl;
       }

@@ -62,7 +62,7 @@ fn ones_ahead(block: &[u8], g: Shape, w: Walk) -> Ones
     let k = w.place / 64;
     let f = w.place % 64;
     Ones {
-        left: (bits::run_word(block, g.upper, k) >> f) << f,
+        left: bits::from_bit(bits::run_word(block, g.upper, k), f),
         k,
         rank: w.next,
     }

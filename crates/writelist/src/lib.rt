@@ -8,7 +8,8 @@ ghost use lib.ListN.{length, drop};
 ghost use Rattle.rules.specs.List.{rising, block};
 ghost use Rattle.rules.specs.Write.{laid};
 ghost use Rattle.rules.specs.Promises.{ListWritten};
-ghost use Rattle.writelist.specs.Filling.{Stored, Flushed, Lower, Fitting, Partly, Ready, OneMore, Open, Laid, Full, Closed};
+ghost use Rattle.writelist.specs.Filling.{Stored, Flushed, Lower, Fitting, Partly, Ready, OneMore, Open, Laid};
+ghost use Rattle.writelist.specs.Filling.{Full, Closed};
 use rules::Refusal;
 use rules::Written;
 use shape::Shape;
@@ -167,7 +168,8 @@ fn put_near(room: &mut [u8], g: Shape, f: Filling, x: usize) -> Filling
 fn lay_near(room: &mut [u8], g: Shape, start: Filling, list: &[u32], from: usize) -> Filling
     requires { ⌜ (from ≤ length (now list)) × Open g start (drop from (now list)) (now room) ⌝ }
     ensures { λ r. ⌜ (start .count ≤ r .count) × (r .count ≤ start .count + (length (now (list .entry)) - from))
-        × Laid g start (drop from (now (list .entry))) (r .count - start .count) r (now (room .entry)) (now (room .exit)) ⌝ }
+        × Laid g start (drop from (now (list .entry))) (r .count - start .count) r (now (room .entry))
+        (now (room .exit)) ⌝ }
 {
     let mut f = start;
     for i in from..list.len() {
@@ -183,7 +185,8 @@ fn lay_near(room: &mut [u8], g: Shape, start: Filling, list: &[u32], from: usize
 // Lays all elements of the list, which are above those laid so far.
 pub fn lay(room: &mut [u8], g: Shape, start: Filling, list: &[u32]) -> Filling
     requires { ⌜ Open g start (now list) (now room) ⌝ }
-    ensures { λ r. ⌜ Laid g start (now (list .entry)) (length (now (list .entry))) r (now (room .entry)) (now (room .exit)) ⌝ }
+    ensures { λ r. ⌜ Laid g start (now (list .entry)) (length (now (list .entry))) r (now (room .entry))
+        (now (room .exit)) ⌝ }
 {
     let mut f = start;
     let mut i: usize = 0;
@@ -211,7 +214,8 @@ pub fn finish(room: &mut [u8], g: Shape, f: Filling)
     put_words(room, g.upper, f.ups.words, (g.end - g.upper) / 8, f.ups.acc);
 }
 
-// Whether the list rises strictly and stays below u. No pair of neighbours ends the loop, so that it takes several at once.
+// Whether the list rises strictly and stays below u. No pair of neighbours ends the loop, so that it takes several at
+// once.
 pub fn rises(u: usize, list: &[u32]) -> bool
     ensures { λ r. ⌜ r ≡ rising 0 u (now (list .entry)) ⌝ }
 {

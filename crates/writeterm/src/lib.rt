@@ -1,4 +1,5 @@
-// Writing one word's block: the host's call. The word is tested first, and its three lists go straight into the room.
+// Writing one word's block: the host's call. The word is tested first, and its three lists are laid into the room one
+// after the other.
 
 ghost use mathlib.Core.Bool.{true};
 ghost use mathlib.Core.Path.{_≡_};
@@ -80,8 +81,8 @@ fn falls(list: &[u32]) -> usize
     n
 }
 
-// Whether the positions of each page rise strictly, which is that they fall only from one page to the next, and where the
-// elements that they give end.
+// Whether the positions of each page rise strictly, which is that they fall only from one page to the next, and where
+// the elements that they give end.
 fn positions_rise(counts: &[u32], positions: &[u32]) -> Reach
     requires { ⌜ (total (now counts) ≡ length (now positions)) × (positive (now counts) ≡ true) ⌝ }
     ensures { λ r. ⌜ Reached (inOrderByPage (now (counts .entry)) (now (positions .entry)))
@@ -188,7 +189,8 @@ fn mark(part: &mut [u32], counts: &[u32], start: Turn) -> Turn
 // Puts elements in the place of marks, each its position above its page's base; gives the base behind them.
 fn put_places(part: &mut [u32], start: usize, positions: &[u32]) -> usize
     requires { ⌜ (length (now positions) ≤ length (now part)) × Bounded start (now part) (now positions) ⌝ }
-    ensures { λ r. ⌜ (r ≡ baseAt start (marksOf (now (part .entry))) (now (positions .entry)) (length (now (positions .entry))))
+    ensures { λ r. ⌜ (r
+        ≡ baseAt start (marksOf (now (part .entry))) (now (positions .entry)) (length (now (positions .entry))))
         × Based start (now (part .entry)) (now (positions .entry)) (now (part .exit)) ⌝ }
 {
     let mut base = start;
@@ -225,7 +227,8 @@ fn fill_places(room: &mut [u8], g: Shape, counts: &[u32], positions: &[u32])
     writelist::finish(room, g, f);
 }
 
-// Writes the block of a word whose lists have these shapes: its header, and behind it the lists, each straight into its part.
+// Writes the block of a word whose lists have these shapes: its header, and behind it the lists, each straight into its
+// part.
 fn fill_term(
     room: &mut [u8],
     p: Shape,
@@ -250,7 +253,8 @@ fn fill_term(
     fill_places(&mut room[third..], q, counts, positions);
 }
 
-// Writes a word's block at the front of the room: pages below n, how often the word is on each, and the positions of all pages.
+// Writes a word's block at the front of the room: pages below n, how often the word is on each, and the positions of
+// all pages.
 pub fn write_term(
     n: u32,
     pages: &[u32],

@@ -1,6 +1,6 @@
-// Prints the block that the writer makes of S1's list, in hex, and then what the writer of a term answers, a line each: the number
-// of its refusal and the block. The words: S9's, one on no page, and those refused, with sums and positions past 32 bits.
-// Last come the whole cards of S9 and S12, made by the writer of a term and closed.
+// Prints the block that the writer makes of S1's list, in hex, and then what the writer of a term answers, a line each:
+// the number of its refusal and the block. The words: S9's, one on no page, and those refused, with sums and positions
+// past 32 bits. Last come the whole cards of S9 and S12, made by the writer of a term and closed.
 
 use libc::STDOUT_FILENO;
 ghost use Prim.Native.Nat.{_<_};

@@ -3,7 +3,8 @@ use mathlib.Core.Path.{refl, sym, _∙_}
 use native.Mathlib.Omega.{arith}
 use borrow.Author.Needs.{needs}
 use Rattle.phrases.specs.Asked.{Trying}
-use Rattle.phrases.proofs.TrialLaws.{left, trying-begins, counted-few, seek-ready, trying-goes, trying-less, trying-ends}
+use Rattle.phrases.proofs.TrialLaws.{left, trying-begins, counted-few, seek-ready, trying-goes, trying-less}
+use Rattle.phrases.proofs.TrialLaws.{trying-ends}
 use Rattle.phrases.proofs.count_starts.Statement.{statement}
 use Rattle.phrases.proofs.count_starts.Tie as tie
 

@@ -37,13 +37,13 @@ behind-requires c κs =
     let p = start .pre in
     (omega arith, own-le (a .s .now) (a .g) (p .0) (a .b) (a .from) (p .2) (p .3))
 
-sub-t14 : tie.Need-sub-t14
-sub-t14 c =
+sub-t15 : tie.Need-sub-t15
+sub-t15 c =
     let start = c .before .before .before .before .before .before .before .before .before in
     omega (arith, start .pre .2 .counted)
 
-add-t16 : tie.Need-add-t16
-add-t16 c =
+add-t17 : tie.Need-add-t17
+add-t17 c =
     let start = c .before .before .before .before .before .before .before .before .before .before in
     let a = start .args in
     let p = start .pre in
@@ -70,22 +70,22 @@ behind-requires-2 c κs =
 
 skip-requires : tie.Need-skip-requires
 skip-requires c κs =
-    let start = c .before .before .before .before .before .before .before .before .before in
+    let start = c .before .before .before .before .before .before .before .before .before .before in
     let a = start .args in
     let p = start .pre in
-    let e = c .before .before .before .before .look .ensures in (
+    let e = c .before .before .before .before .before .look .ensures in (
       p .0,
       open-ruled (a .s .now) (a .g) (p .0) (open-some (a .s .now) (a .g) (p .0) (omega arith)) .zeros-is (a .b) (p .1),
       skipping-start (a .s .now) (a .g) (p .0) (a .b) (a .from) (p .2) (p .3) _ (a .looks) _ (p .4) (e .0)
-          (c .behind2 .ensures) refl refl (e .1) (omega arith),
+          (c .before .behind2 .ensures) (c .running-counts .ensures) refl refl (e .1) (omega arith),
     )
 
 returns-2 : tie.Need-returns-2
 returns-2 c =
-    let start = c .before .before .before .before .before .before .before .before .before .before in
+    let start = c .before .before .before .before .before .before .before .before .before .before .before in
     let a = start .args in
     let p = start .pre in
-    let e = c .before .before .before .before .before .look .ensures in
+    let e = c .before .before .before .before .before .before .look .ensures in
     passed-skip (a .s .now) (a .g) (p .0) (a .b) (a .from) (p .2) (p .3) (a .looks) _ _ (c .skip .ensures) refl (e .1)
 
 pub pass-spec : {M : Type 1} → statement M
@@ -96,10 +96,11 @@ pass-spec =
     look-requires
     add-if1
     behind-requires
-    sub-t14
+    sub-t15
     (λ c. search needs)
-    add-t16
+    add-t17
     returns
     behind-requires-2
+    (λ c κs. search needs)
     skip-requires
     returns-2)

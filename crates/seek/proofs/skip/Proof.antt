@@ -30,7 +30,7 @@ zeros-through-requires c κs =
     let start = c .before .before in
     let z = c .loop .inv .0 in
     let r = open-reads (start .args .s .now) (start .args .g) (start .pre .0) in
-    omega (arith, z .short)
+    (omega (arith, z .short), z .counts-are)
 
 add-k : tie.Need-add-k Inv-loop μ-loop
 add-k c =
@@ -56,41 +56,47 @@ look-requires c κs =
 
 zeros-through-requires-2 : tie.Need-zeros-through-requires-2 Inv-loop μ-loop
 zeros-through-requires-2 c κs =
-    let start = c .before .before .before .before .before .before .before in
-    let z = c .before .before .before .before .before .loop .inv .0 in
+    let start = c .before .before .before .before .before .before .before .before in
+    let z = c .before .before .before .before .before .before .loop .inv .0 in
     let r = open-reads (start .args .s .now) (start .args .g) (start .pre .0) in
-    omega (arith, z .short)
+    (omega (arith, z .short), z .counts-are)
 
 loop-less : tie.Need-loop-less Inv-loop μ-loop
 loop-less c =
-    let z = c .before .before .before .before .before .before .loop .inv .0 in
+    let z = c .before .before .before .before .before .before .before .loop .inv .0 in
     omega (arith, z .within)
 
 loop-again : tie.Need-loop-again Inv-loop μ-loop
 loop-again c =
-    let start = c .before .before .before .before .before .before .before .before in
-    let at = c .before .before .before .before .before .before .loop in
-    let e = c .before .before .look .ensures in
+    let start = c .before .before .before .before .before .before .before .before .before in
+    let at = c .before .before .before .before .before .before .before .loop in
+    let e = c .before .before .before .look .ensures in
     let l : at .at .before + ones (at .at .left) < start .args .h = omega (
       arith,
-      c .before .before .before .before .before .zeros-through .ensures,
-      c .before .before .before .before .if1 .taken,
+      c .before .before .before .before .before .before .zeros-through .ensures,
+      c .before .before .before .before .before .if1 .taken,
     ) in
     let next = skipping-next (start .args .s .now) (start .args .g) (start .pre .0) (start .args .h) (at .at)
-    (at .inv .0) (start .pre .1) _ l refl (e .0) refl (c .zeros-through2 .ensures) (e .1) in
+    (at .inv .0) (start .pre .1) _ l refl (e .0) refl (c .before .running-counts .ensures) (c .zeros-through2 .ensures)
+    (e .1) in
     (next, omega (arith, at .inv .1, e .1))
 
-sub-select-one : tie.Need-sub-select-one Inv-loop μ-loop
-sub-select-one c = omega (arith, c .before .before .before .loop .inv .0 .short)
+sub-select-by : tie.Need-sub-select-by Inv-loop μ-loop
+sub-select-by c = omega (arith, c .before .before .before .loop .inv .0 .short)
 
-sub-select-one-2 : tie.Need-sub-select-one-2 Inv-loop μ-loop
-sub-select-one-2 c = omega (arith, c .before .before .before .loop .inv .0 .short)
+sub-select-by-2 : tie.Need-sub-select-by-2 Inv-loop μ-loop
+sub-select-by-2 c = omega (arith, c .before .before .before .loop .inv .0 .short)
 
-cast-select-one : tie.Need-cast-select-one Inv-loop μ-loop
-cast-select-one c =
+cast-select-by : tie.Need-cast-select-by Inv-loop μ-loop
+cast-select-by c =
     let start = c .before .before .before .before .before in
     let r = open-reads (start .args .s .now) (start .args .g) (start .pre .0) in
     record { fits = omega arith }
+
+select-by-requires : tie.Need-select-by-requires Inv-loop μ-loop
+select-by-requires c κs =
+    let z = c .before .before .before .loop .inv .0 in
+    (z .counts-are, omega (arith, z .short, c .before .before .zeros-through .ensures, c .before .if1 .left))
 
 -- zero number h, in the word that the loop leaves
 pub record Zero (s : List ℕ) (g : Shape) (h k place : ℕ) : Type 0 where
@@ -98,27 +104,27 @@ pub record Zero (s : List ℕ) (g : Shape) (h k place : ℕ) : Type 0 where
   pub rank-is : onesBelow s (g .upper) (64 * k + place) + h ≡ 64 * k + place + 1
   pub after : After (onesBelow s (g .upper)) h (suc (64 * k + place))
 
-zero-found : (c : tie.After-select-one Inv-loop μ-loop) →
+zero-found : (c : tie.After-select-by Inv-loop μ-loop) →
     let start = c .before .before .before .before .before .before in
     Zero (start .args .s .now) (start .args .g) (start .args .h) (c .before .before .before .before .loop .at .k)
-    (c .select-one .result)
+    (c .select-by .result)
 zero-found c =
     let start = c .before .before .before .before .before .before in
     let at = c .before .before .before .before .loop in
     let z = at .inv .0 in
     let l : start .args .h ≤ at .at .before + ones (at .at .left) =
     omega (arith, c .before .before .before .zeros-through .ensures, c .before .before .if1 .left) in
-    rw (c .select-one .ensures .0) (record {
+    rw (c .select-by .ensures .0) (record {
       inside = zero-lt (start .args .s .now) (start .args .g) (start .pre .0) (start .args .h) (at .at) z l;
       rank-is = zero-rank (start .args .s .now) (start .args .g) (start .pre .0) (start .args .h) (at .at) z l;
       after = zero-after (start .args .s .now) (start .args .g) (start .pre .0) (start .args .h) (at .at) z l;
     })
 
-from-place-requires : tie.Need-from-place-requires Inv-loop μ-loop
-from-place-requires c κs = zero-found c .inside
+from-bit-requires : tie.Need-from-bit-requires Inv-loop μ-loop
+from-bit-requires c κs = zero-found c .inside
 
-mul-t14 : tie.Need-mul-t14 Inv-loop μ-loop
-mul-t14 c =
+mul-t15 : tie.Need-mul-t15 Inv-loop μ-loop
+mul-t15 c =
     let start = c .before .before .before .before .before .before .before .before in
     let at = c .before .before .before .before .before .before .loop in
     record {
@@ -128,8 +134,8 @@ mul-t14 c =
       );
     }
 
-add-t15 : tie.Need-add-t15 Inv-loop μ-loop
-add-t15 c =
+add-t16 : tie.Need-add-t16 Inv-loop μ-loop
+add-t16 c =
     let start = c .before .before .before .before .before .before .before .before in
     let at = c .before .before .before .before .before .before .loop in
     record {
@@ -140,11 +146,11 @@ add-t15 c =
       );
     }
 
-sub-t18 : tie.Need-sub-t18 Inv-loop μ-loop
-sub-t18 c = omega (arith, c .before .before .before .before .before .before .loop .inv .0 .short)
-
 sub-t19 : tie.Need-sub-t19 Inv-loop μ-loop
-sub-t19 c = omega (arith, zero-found (c .before .before) .rank-is)
+sub-t19 c = omega (arith, c .before .before .before .before .before .before .loop .inv .0 .short)
+
+sub-t20 : tie.Need-sub-t20 Inv-loop μ-loop
+sub-t20 c = omega (arith, zero-found (c .before .before) .rank-is)
 
 returns : tie.Need-returns Inv-loop μ-loop
 returns c =
@@ -152,13 +158,13 @@ returns c =
     let at = c .before .before .before .before .before .before .loop in
     let z = at .inv .0 in
     let f = zero-found (c .before .before) in
-    let p : ℕ = c .before .before .select-one .result in
+    let p : ℕ = c .before .before .select-by .result in
     let e : suc (64 * at .at .k + p) ≡ 64 * at .at .k + p - (start .args .h - 1) + start .args .h =
     omega (arith, f .rank-is, z .short) in
     record {
       at =
           walking-from (start .args .s .now) (start .args .g) (start .pre .0) p _ (omega (arith, f .inside)) (z .within)
-          (c .before .from-place .ensures ∙ ap (λ (x : ℕ). x / 2 ^ p * 2 ^ p) (z .word-is))
+          (c .before .from-bit .ensures ∙ ap (λ (x : ℕ). x / 2 ^ p * 2 ^ p) (z .word-is))
           (omega (arith, f .rank-is, z .short)) (z .room);
       passed = rw e at (f .after);
       counted = at .inv .1;
@@ -174,17 +180,18 @@ skip-spec =
     zeros-through-requires
     add-k
     look-requires
+    (λ c κs. search needs)
     zeros-through-requires-2
     loop-less
     loop-again
-    sub-select-one
-    sub-select-one-2
-    cast-select-one
-    (λ c κs. search needs)
+    sub-select-by
+    sub-select-by-2
+    cast-select-by
+    select-by-requires
     (λ c. search needs)
-    from-place-requires
-    mul-t14
-    add-t15
-    sub-t18
+    from-bit-requires
+    mul-t15
+    add-t16
     sub-t19
+    sub-t20
     returns)

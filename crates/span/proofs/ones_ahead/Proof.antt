@@ -11,9 +11,9 @@ run-word-requires c κs =
 
 returns : tie.Need-returns
 returns c =
-    let b = c .before .before .before .before in
-    ones-begin (b .args .block .now) (b .args .g) (b .args .w) (b .pre .0) (b .pre .1) (c .run-word .result)
-    (c .run-word .ensures)
+    let b = c .before .before .before .before .before in
+    ones-begin (b .args .block .now) (b .args .g) (b .args .w) (b .pre .0) (b .pre .1) (c .before .run-word .result)
+    (c .from-bit .result) (c .before .run-word .ensures) (c .from-bit .ensures)
 
 pub ones-ahead-spec : {M : Type 1} → statement M
-ones-ahead-spec = tie.close (tie.spec run-word-requires (λ c. search needs) (λ c. search needs) returns)
+ones-ahead-spec = tie.close (tie.spec run-word-requires (λ c κs. search needs) returns)

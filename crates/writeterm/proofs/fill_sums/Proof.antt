@@ -9,7 +9,8 @@ use lib.Seq.{take-all}
 use Rattle.rules.specs.Term.{total, sums}
 use Rattle.termlaws.proofs.SumLaws.{length-sums}
 use Rattle.writelist.specs.Filling.{Partly}
-use Rattle.writeterm.proofs.LayLaws.{Width, stretch-width, stretch-is, stretch-follows, stretch-laid, total-split}
+use Rattle.writeterm.proofs.LayLaws.{Width, stretch-width, stretch-is, stretch-follows, stretch-laid}
+use Rattle.writeterm.proofs.LayLaws.{total-split}
 use Rattle.writeterm.proofs.LayLaws.{sums-long, sums-rise, stretch-sums, stretch-positive, stretch-total}
 use Rattle.writeterm.proofs.fill_sums.Statement.{statement}
 use Rattle.writeterm.proofs.fill_sums.Tie as tie
