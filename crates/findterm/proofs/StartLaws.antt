@@ -10,38 +10,26 @@ use lib.Seq.{getD-set-same, getD-set-other}
 use Rattle.rules.specs.Index.{indexT}
 use Rattle.laws.specs.Blocks.{blockAt}
 use Rattle.parts.specs.Places.{Walkable}
-use Rattle.findterm.specs.Starts.{Starts, Below, LeastFrom, Put}
+use Rattle.findterm.specs.Starts.{Starts, Below, LeastOf, LeastFrom, PutOf, Put}
 
 -- ---- the least term from a number on
-
--- r is the least at or above t of the first n terms, or 2 ^ 32
-pub record LeastOf (ts : List ℕ) (n t r : ℕ) : Type 0 where
-  pub onward : t ≤ r
-  pub least : (i : ℕ) → i < n → t ≤ getD ts i 0 → r ≤ getD ts i 0
-  pub among : (T : ℕ) → ((i : ℕ) → i < n → getD ts i 0 < T) → r < 2 ^ 32 → r < T
 
 module _ (ts : List ℕ) (n t r : ℕ) (l : LeastOf ts n t r) where
   pub least-taken : t ≤ getD ts n 0 → getD ts n 0 < r → LeastOf ts (n + 1) t (getD ts n 0)
   least-taken h g = record {
     onward = h;
     least = λ i b o. elim (ℕ-discrete i n) [ yes e ↦ rw e (omega arith) | no e ↦ omega (arith, l .least i (omega arith) o) ];
-    among = λ T b o. b n (omega arith);
+    among = λ o. (n, omega arith, refl);
   }
 
   pub least-kept : (t ≤ getD ts n 0 → r ≤ getD ts n 0) → LeastOf ts (n + 1) t r
   least-kept h = record {
     onward = l .onward;
     least = λ i b o. elim (ℕ-discrete i n) [ yes e ↦ rw e (h (rw e at o)) | no e ↦ l .least i (omega arith) o ];
-    among = λ T b o. l .among T (λ i g. b i (omega arith)) o;
+    among = λ o. let x = l .among o in (x .0, omega (arith, x .1), x .2);
   }
 
 -- ---- the starts put for a term
-
--- of the first n terms, those that are t have `at` as their number, and the others the number that they had
-pub record PutOf (ts : List ℕ) (n t at : ℕ) (ps after : List ℕ) : Type 0 where
-  pub same : length after ≡ length ps
-  pub here : (i : ℕ) → i < n → getD ts i 0 ≡ t → getD after i 0 ≡ at
-  pub others : (i : ℕ) → (i < n → getD ts i 0 ≡ t → ⊥) → getD after i 0 ≡ getD ps i 0
 
 module _ (ts : List ℕ) (n t at : ℕ) (ps after : List ℕ) (p : PutOf ts n t at ps after) where
   pub put-more : n < length ps → getD ts n 0 ≡ t → PutOf ts (n + 1) t at ps (set after n at)
@@ -93,7 +81,7 @@ starts-more : (s ts ps after : List ℕ) (t at next : ℕ) → AllStart s ts t p
 starts-more s ts ps after t at next a p o l i h b =
     elim (ℕ-discrete (getD ts i 0) t) [
       | yes e ↦ rw (p .here i h e, e) o
-      | no e ↦ rw (p .others i h e) (a i h (before (getD ts i 0) e b (l .least i h)))
+      | no e ↦ rw (p .others i (λ _. e)) (a i h (before (getD ts i 0) e b (l .least i h)))
     ]
   where
     beyond : (x : ℕ) → (x ≡ t → ⊥) → (x < t → ⊥) → t + 1 ≤ x
@@ -111,13 +99,17 @@ pub record Finding (s ts ps : List ℕ) (n t at next : ℕ) : Type 0 where
   pub found : AllStart s ts next ps
 
 module _ (s ts : List ℕ) (b : Below s ts) where
+  -- the least of the card's terms is one of them
+  least-below : (t r : ℕ) → LeastFrom ts t r → r < 2 ^ 32 → r < indexT s
+  least-below t r l o = let x = l .among o in rw (x .2) at (b (x .0) (x .1))
+
   pub finding-first : (ps : List ℕ) (next : ℕ) → LeastFrom ts 0 next → Finding s ts ps (length ps) 0 11 next
   unfolding blockAt
   finding-first ps next l = record {
     room = refl;
     start = refl;
     onward = omega arith;
-    on-card = l .among (indexT s) b;
+    on-card = least-below 0 next l;
     found = λ i h g. absurd (omega (arith, l .least i h (omega arith)));
   }
 
@@ -129,6 +121,6 @@ module _ (s ts : List ℕ) (b : Below s ts) where
           room = p .same ∙ f .room;
           start = start;
           onward = omega (arith, l .onward);
-          on-card = l .among (indexT s) b;
+          on-card = least-below (next + 1) then l;
           found = starts-more s ts ps after next to then (f .found) p (record { below = f .on-card h; start = start }) l;
         }

@@ -3,8 +3,10 @@
 --   Starts s t at       term number t of the index s starts at byte `at`
 --   Below s ts          each of the terms ts is a term of s
 --   Found s ts ps       each of the terms ts starts at its number of ps
---   LeastFrom ts t r    r is the least of the terms ts at or above t, or 2 ^ 32
---   Put ts t at ps after  `after` is ps with `at` as the number of each of the terms ts that is t
+--   LeastOf ts n t r    r is the least at or above t of the first n terms of ts, or 2 ^ 32 where there is none
+--   LeastFrom ts t r    so it is of all of ts
+--   PutOf ts n t at ps after  `after` is ps with `at` as the number of each of the first n terms of ts that is t
+--   Put ts t at ps after  so it is of all of ts
 use mathlib.Core.Path.{_≡_}
 use mathlib.Core.List.{List}
 use Prim.Native.Nat.{ℕ, _^_, _≤_, _<_}
@@ -22,12 +24,18 @@ Below s ts = (i : ℕ) → i < length ts → getD ts i 0 < indexT s
 abbrev pub Found : List ℕ → List ℕ → List ℕ → Type 0
 Found s ts ps = (i : ℕ) → i < length ts → Starts s (getD ts i 0) (getD ps i 0)
 
-pub record LeastFrom (ts : List ℕ) (t r : ℕ) : Type 0 where
+pub record LeastOf (ts : List ℕ) (n t r : ℕ) : Type 0 where
   pub onward : t ≤ r
-  pub least : (i : ℕ) → i < length ts → t ≤ getD ts i 0 → r ≤ getD ts i 0
-  pub among : (T : ℕ) → ((i : ℕ) → i < length ts → getD ts i 0 < T) → r < 2 ^ 32 → r < T
+  pub least : (i : ℕ) → i < n → t ≤ getD ts i 0 → r ≤ getD ts i 0
+  pub among : r < 2 ^ 32 → (i : ℕ) × (i < n) × (getD ts i 0 ≡ r)
 
-pub record Put (ts : List ℕ) (t at : ℕ) (ps after : List ℕ) : Type 0 where
+abbrev pub LeastFrom : List ℕ → ℕ → ℕ → Type 0
+LeastFrom ts t r = LeastOf ts (length ts) t r
+
+pub record PutOf (ts : List ℕ) (n t at : ℕ) (ps after : List ℕ) : Type 0 where
   pub same : length after ≡ length ps
-  pub here : (i : ℕ) → i < length ts → getD ts i 0 ≡ t → getD after i 0 ≡ at
-  pub others : (i : ℕ) → i < length ts → (getD ts i 0 ≡ t → ⊥) → getD after i 0 ≡ getD ps i 0
+  pub here : (i : ℕ) → i < n → getD ts i 0 ≡ t → getD after i 0 ≡ at
+  pub others : (i : ℕ) → (i < n → getD ts i 0 ≡ t → ⊥) → getD after i 0 ≡ getD ps i 0
+
+abbrev pub Put : List ℕ → ℕ → ℕ → List ℕ → List ℕ → Type 0
+Put ts t at ps after = PutOf ts (length ts) t at ps after

@@ -5,7 +5,7 @@ ghost use Prim.Native.Nat.{_*_, _<_};
 ghost use lib.ListN.{length};
 ghost use lib.Seq.{paste};
 ghost use Rattle.rules.specs.Common.{leadOf};
-ghost use Rattle.openlists.specs.Places.{placePart, placePages, placedIn, numbersAt, sourceOf, slotOf, PlaceOk};
+ghost use Rattle.openlists.specs.Places.{placePart, placePages, placedIn, numbersAt, sourceOf, PlaceOk};
 ghost use Rattle.openlists.specs.Places.{Places, Alike, Slots, Opened};
 
 // The bytes at place i.
@@ -86,19 +86,6 @@ pub fn source_of(lead: usize, t: usize) -> usize
         return t - 1;
     }
     t
-}
-
-// The slot in which the list of place i stands then.
-pub fn slot_of(lead: usize, i: usize) -> usize
-    ensures { λ r. ⌜ r ≡ slotOf lead i ⌝ }
-{
-    if i == lead {
-        return 0;
-    }
-    if i < lead {
-        return i + 1;
-    }
-    i
 }
 
 // Opens the lists at the first k places into the 64 numbers, that at place `lead` first and the others in their order.

@@ -32,23 +32,34 @@ list-accepted s t (suc zero) a h l = accepted-lists (termPart t s) (accepted-ter
 list-accepted s t (suc (suc zero)) a h l = accepted-lists (termPart t s) (accepted-term s a t h .accepts) .positions
 list-accepted s t (suc (suc (suc k))) a h l = absurd (omega arith)
 
+-- a list's shape by its eight numbers
+shape-from : (sh : List ℕ) (i : ℕ) (f : ℕ → ℕ) → ((j : ℕ) → j < 8 → numberOf sh i j ≡ f j) → shapeIn sh i ≡ (record {
+  u = f 2;
+  n = f 7;
+  w = f 3;
+  bits = f 4;
+  lower = f 5;
+  upper = f 6;
+  end = f 1 - f 0;
+})
+unfolding shapeIn
+shape-from sh i f e = rw (
+  e 0 (omega arith),
+  e 1 (omega arith),
+  e 2 (omega arith),
+  e 3 (omega arith),
+  e 4 (omega arith),
+  e 5 (omega arith),
+  e 6 (omega arith),
+  e 7 (omega arith),
+)
+
 -- a slot is what its numbers are
 slot-same : (s sh r : List ℕ) (i : ℕ) (b : List ℕ) → length r ≡ 64
     → ((j : ℕ) → j < 8 → numberOf r i j ≡ numberOf sh i j) → Slot s sh i b → Slot s r i b
 slot-same s sh r i b l e o =
     let p : partAt s r i ≡ partAt s sh i = unfold partAt in rw (e 0 (omega arith), e 1 (omega arith)) in
-    let g : shapeIn r i ≡ shapeIn sh i =
-    unfold shapeIn in rw (
-      e 0 (omega arith),
-      e 1 (omega arith),
-      e 2 (omega arith),
-      e 3 (omega arith),
-      e 4
-          (omega arith),
-      e 5 (omega arith),
-      e 6 (omega arith),
-      e 7 (omega arith),
-    ) in
+    let g : shapeIn r i ≡ shapeIn sh i = unfold shapeIn in shape-from r i (numberOf sh i) e in
     record {
       block = record {
         room = l;
@@ -76,18 +87,7 @@ module _ (s : List ℕ) (from to : ℕ) (b : List ℕ) (w : Within s from to) (b
   slot-made sh i l h e =
       let p : partAt s sh i ≡ b = unfold partAt in rw (e 0 (omega arith), e 1 (omega arith)) bytes in
       let g : shapeIn sh i ≡ shapeOf (listU b) (listN b) =
-      unfold shapeIn in rw (
-        e 0 (omega arith),
-        e 1 (omega arith),
-        e 2 (omega arith),
-        e 3 (omega arith),
-        e 4
-            (omega arith),
-        e 5 (omega arith),
-        e 6 (omega arith),
-        e 7 (omega arith),
-        ends-at,
-      ) in
+      rw ends-at at (shape-from sh i (λ j. getD numbers j 0) e) in
       record {
         block = record {
           room = l;

@@ -45,7 +45,7 @@ module _ (s ts : List ℕ) (lead : ℕ) (pg ct ps : List ℕ) (a : Asked s ts le
     abbrev slot : ℕ
     slot = slotOf lead i
 
-    slot-within : slot < k
+    pub slot-within : slot < k
     slot-within = slot-lt lead i k (lead-within s ts pg (a .pages) lead (a .leads)) h
 
     pub asked-list : ListAt s pg slot

@@ -9,6 +9,8 @@
 --   AheadOf s ts ct ps cw pw b i  of word i's counts and positions nothing of a page from b on is passed; reading stands
 --                       where cw and pw say
 --   Ahead s ts ct ps cw pw b  so it is of all words
+--   Turnable s ts lead pg ct ps q p cw pw  the phrase is asked, its cursors are on page p, and that page is ahead
+--   CountedOn s ts ct ps p r cw pw  r starts are on page p, and the pages behind it are ahead
 --   positionsHere s ts p i  the positions of word i on page p
 --   pageHere s ts p     those of each word
 --   TurnedTo s ts ct ps p a cw pw xs i  word i is turned to page p, xs has its span there, and reading stands ready for a start
@@ -21,7 +23,7 @@
 use mathlib.Core.Bool.{true, cond, not}
 use mathlib.Core.Path.{_≡_}
 use mathlib.Core.List.{List, [], _∷_, _++_}
-use Prim.Native.Nat.{ℕ, _+_, _≤_, _<_}
+use Prim.Native.Nat.{ℕ, _+_, _^_, _≤_, _<_}
 use lib.Dec.{eqb, ltb}
 use lib.ListN.{length, getD, replicate}
 use Rattle.rules.specs.declared.Refusal.the-variants.{Accepted}
@@ -30,7 +32,7 @@ use Rattle.rules.specs.ReadList.{decode}
 use Rattle.rules.specs.ReadTerm.{pagesOf, readWord, termRefusal}
 use Rattle.rules.specs.Index.{termPart}
 use Rattle.rules.specs.Common.{leadOf}
-use Rattle.rules.specs.Questions.{member, positionsOn, withStarts, commonPages, listsIn, wordsIn}
+use Rattle.rules.specs.Questions.{member, positionsOn, starts, withStarts, commonPages, listsIn, wordsIn}
 use Rattle.rules.specs.Write.{laid}
 use Rattle.commonlaws.specs.Readers.{OnPage}
 use Rattle.query.specs.declared.Query.{Query}
@@ -80,6 +82,12 @@ pub record Ahead (s ts ct ps cw pw : List ℕ) (b : ℕ) : Type 0 where
   pub counted-room : length cw ≡ 24
   pub walked-room : length pw ≡ 24
   pub each : (i : ℕ) → i < length ts → AheadOf s ts ct ps cw pw b i
+
+abbrev pub Turnable : List ℕ → List ℕ → ℕ → List ℕ → List ℕ → List ℕ → Query → ℕ → List ℕ → List ℕ → Type 0
+Turnable s ts lead pg ct ps q p cw pw = Asked s ts lead pg ct ps × OnAll s ts pg q p × Ahead s ts ct ps cw pw p
+
+abbrev pub CountedOn : List ℕ → List ℕ → List ℕ → List ℕ → ℕ → ℕ → List ℕ → List ℕ → Type 0
+CountedOn s ts ct ps p r cw pw = (r ≡ starts (wordsIn s ts) p) × (r < 2 ^ 32) × Ahead s ts ct ps cw pw (p + 1)
 
 abbrev pub positionsHere : List ℕ → List ℕ → ℕ → ℕ → List ℕ
 positionsHere s ts p i = positionsOn p (readWord (termAt s ts i))

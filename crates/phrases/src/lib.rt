@@ -8,11 +8,11 @@ ghost use lib.ListN.{length};
 ghost use Rattle.rules.specs.declared.Refusal.the-variants.{Accepted};
 ghost use Rattle.rules.specs.Index.{indexT, indexRefusal};
 ghost use mathlib.Core.List.{_∷_};
-ghost use Rattle.rules.specs.Questions.{starts, wordsIn, byPhrase};
+ghost use Rattle.rules.specs.Questions.{wordsIn, byPhrase};
 ghost use Rattle.rules.specs.Write.{laid};
 ghost use Rattle.questions.specs.Formed.{wordsGood};
 ghost use Rattle.questions.specs.Wrote.{Wrote};
-ghost use Rattle.phrases.specs.Asked.{foundIn, triedAt, Asked, OnAll, Ahead, Trying, PairedBehind};
+ghost use Rattle.phrases.specs.Asked.{foundIn, triedAt, Asked, OnAll, Turnable, CountedOn, Trying, PairedBehind};
 use query::Query;
 use seek::SPENT;
 
@@ -53,7 +53,7 @@ fn turn_next(
         return at;
     }
     let i = openlists::source_of(lead, at.standing);
-    let rank = kinds::rank_in(pages, q, openlists::slot_of(lead, i));
+    let rank = kinds::rank_in(pages, q, at.standing);
     let x = phrase::ranks_at(card, counts, i, rank, counted);
     phrase::turn_to(card, positions, i, x, spans, walked);
     Trial {
@@ -106,12 +106,10 @@ fn count_starts(
     counted: &mut [usize],
     walked: &mut [usize],
 ) -> usize
-    requires { ⌜ Asked (now card) (now terms) lead (now pages) (now counts) (now positions)
-        × OnAll (now card) (now terms) (now pages) q page
-        × Ahead (now card) (now terms) (now counts) (now positions) (now counted) (now walked) page ⌝ }
-    ensures { λ r. ⌜ (r ≡ starts (wordsIn (now (card .entry)) (now (terms .entry))) page) × (r < 2 ^ 32)
-        × Ahead (now (card .entry)) (now (terms .entry)) (now (counts .entry)) (now (positions .entry))
-        (now (counted .exit)) (now (walked .exit)) (page + 1) ⌝ }
+    requires { ⌜ Turnable (now card) (now terms) lead (now pages) (now counts) (now positions) q page (now counted)
+        (now walked) ⌝ }
+    ensures { λ r. ⌜ CountedOn (now (card .entry)) (now (terms .entry)) (now (counts .entry)) (now (positions .entry))
+        page r (now (counted .exit)) (now (walked .exit)) ⌝ }
 {
     let mut spans = [0usize; 16];
     let mut at = Trial {
@@ -157,15 +155,13 @@ fn page_starts(
     counted: &mut [usize],
     walked: &mut [usize],
 ) -> usize
-    requires { ⌜ Asked (now card) (now terms) lead (now pages) (now counts) (now positions)
-        × OnAll (now card) (now terms) (now pages) q page
-        × Ahead (now card) (now terms) (now counts) (now positions) (now counted) (now walked) page ⌝ }
-    ensures { λ r. ⌜ (r ≡ starts (wordsIn (now (card .entry)) (now (terms .entry))) page) × (r < 2 ^ 32)
-        × Ahead (now (card .entry)) (now (terms .entry)) (now (counts .entry)) (now (positions .entry))
-        (now (counted .exit)) (now (walked .exit)) (page + 1) ⌝ }
+    requires { ⌜ Turnable (now card) (now terms) lead (now pages) (now counts) (now positions) q page (now counted)
+        (now walked) ⌝ }
+    ensures { λ r. ⌜ CountedOn (now (card .entry)) (now (terms .entry)) (now (counts .entry)) (now (positions .entry))
+        page r (now (counted .exit)) (now (walked .exit)) ⌝ }
 {
     if terms.len() == 1 {
-        let rank = kinds::rank_in(pages, q, openlists::slot_of(lead, 0));
+        let rank = kinds::rank_in(pages, q, 0);
         let x = phrase::ranks_at(card, counts, 0, rank, counted);
         return x.to - x.from;
     }

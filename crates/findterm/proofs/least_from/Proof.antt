@@ -6,7 +6,8 @@ use native.Mathlib.Omega.{arith}
 use borrow.Author.Needs.{needs}
 use borrow.Author.Tests.{ltb-true, ltb-false}
 use lib.ListN.{length}
-use Rattle.findterm.proofs.StartLaws.{LeastOf, least-taken, least-kept}
+use Rattle.findterm.specs.Starts.{LeastOf}
+use Rattle.findterm.proofs.StartLaws.{least-taken, least-kept}
 use Rattle.findterm.proofs.least_from.Statement.{statement}
 use Rattle.findterm.proofs.least_from.Tie as tie
 
@@ -19,7 +20,7 @@ abbrev μ-loop : tie.MeasureT-loop
 loop-holds : tie.Need-loop-holds Inv-loop μ-loop
 loop-holds c = (
   omega arith,
-  record { onward = c .pre; least = λ i h. absurd (omega arith); among = λ T b h. absurd (omega arith) },
+  record { onward = c .pre; least = λ i h. absurd (omega arith); among = λ h. absurd (omega arith) },
 )
 
 cast-term : tie.Need-cast-term Inv-loop μ-loop
@@ -44,8 +45,7 @@ returns c =
     let l = c .before .loop in
     let a = c .before .before .args in
     let e : l .i ≡ length (a .terms .now) = omega arith in
-    let o = rw e at (l .inv .1) in
-    record { onward = o .onward; least = o .least; among = o .among }
+    rw e at (l .inv .1)
 
 pub least-from-spec : {M : Type 1} → statement M
 least-from-spec =

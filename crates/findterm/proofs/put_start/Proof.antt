@@ -5,7 +5,8 @@ use Prim.Native.Nat.{_-_, _≤_}
 use native.Mathlib.Omega.{arith}
 use borrow.Author.Needs.{needs}
 use lib.ListN.{length}
-use Rattle.findterm.proofs.StartLaws.{PutOf, put-more, put-kept}
+use Rattle.findterm.specs.Starts.{PutOf}
+use Rattle.findterm.proofs.StartLaws.{put-more, put-kept}
 use Rattle.findterm.proofs.put_start.Statement.{statement}
 use Rattle.findterm.proofs.put_start.Tie as tie
 
@@ -47,8 +48,7 @@ returns c =
     let l = c .before .loop in
     let a = c .before .before .args in
     let e : l .i ≡ length (a .terms .now) = omega arith in
-    let o = rw e at (l .inv .2) in
-    record { same = o .same; here = o .here; others = λ i h n. o .others i (λ _. n) }
+    rw e at (l .inv .2)
 
 pub put-start-spec : {M : Type 1} → statement M
 put-start-spec =
