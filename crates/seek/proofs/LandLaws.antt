@@ -18,7 +18,7 @@ use Rattle.seeklaws.proofs.SeekLaws.{cursorAt-spent, cursorAt-on}
 use Rattle.seek.specs.declared.Walk.{Walk}
 use Rattle.seek.specs.declared.Landing.{Landing}
 use Rattle.seek.specs.Cursors.{spentMark, markOf}
-use Rattle.seek.specs.Walks.{Before, lastWord, Walking, Landed}
+use Rattle.seek.specs.Walks.{Before, lastWord, landingWord, Walking, Landed}
 use Rattle.seek.proofs.OpenLaws.{open-some, open-length, open-ruled, placed-at}
 use Rattle.seek.proofs.WalkLaws.{walking-few, one-lt, one-bit, one-rank}
 
@@ -30,15 +30,15 @@ pub last-none : (U : ℕ) (xs : List ℕ) (i : ℕ) → i ≡ length xs → last
 unfolding lastWord
 last-none U xs i e = rw (eq-eqb i (length xs) e)
 
-module _ (s : List ℕ) (g : Shape) (o : Open s g) (b : ℕ) (from x : Walk) (a : Walking s g x)
-    (passed : Before s b (x .rank)) (paid : x .looks + from .k ≡ from .looks + x .k) (r : Landing) where
+module _ (s : List ℕ) (g : Shape) (o : Open s g) (b : ℕ) (x : Walk) (a : Walking s g x)
+    (passed : Before s b (x .rank)) (r : Landing) where
   abbrev xs : List ℕ
   xs = decode s
 
-  pub landed-on : r .looks ≡ x .looks → 0 < x .left → b ≤ getD (decode s) (x .rank) 0
-      → r .mark ≡ getD (decode s) (x .rank) 0 + 1 → r .bit ≡ 64 * x .k + trailingZeros 64 (x .left) → Landed s b from r
+  pub landed-on : 0 < x .left → b ≤ getD (decode s) (x .rank) 0 → r .mark ≡ getD (decode s) (x .rank) 0 + 1
+      → r .bit ≡ 64 * x .k + trailingZeros 64 (x .left) → Landed s b r × (landingWord s b ≡ x .k)
   unfolding markOf cursorBit
-  landed-on looks some h m p =
+  landed-on some h m p =
       let bit : ℕ = 64 * x .k + trailingZeros 64 (x .left) in
       let one = one-bit s g o x a some in
       let count = one-rank s g o x a some in
@@ -46,23 +46,24 @@ module _ (s : List ℕ) (g : Shape) (o : Open s g) (b : ℕ) (from x : Walk) (a 
       let n : x .rank < length xs = rw (open-length s g o) l in
       let first : firstAt b xs ≡ x .rank = firstAt-unique b xs (x .rank) (omega arith) passed (λ _. h) in
       let place : placeOf (listU s) xs (x .rank) ≡ bit =
-      open-ruled s g o (omega arith) .place-is (x .rank) ∙ placed-at s g o bit (x .rank) one count in
-      record {
-        mark-is = rw (first, cursorAt-on xs (x .rank) n) m;
-        bit-is = rw (first, cursorAt-on xs (x .rank) n) (p ∙ sym place);
-        counted =
-            rw (first, last-on (listU s) xs (x .rank) n, place) (omega (arith, paid, looks, one-lt s g o x a some));
-      }
+      open-ruled s g o (omega arith) .place-is (x .rank) ∙ placed-at s g o bit (x .rank) one count in (
+        record {
+          mark-is = rw (first, cursorAt-on xs (x .rank) n) m;
+          bit-is = rw (first, cursorAt-on xs (x .rank) n) (p ∙ sym place);
+        },
+        rw (first, last-on (listU s) xs (x .rank) n, place) (omega (arith, one-lt s g o x a some)),
+      )
 
-  pub landed-none : r .looks + x .k + 1 ≡ x .looks + wordsFor (g .bits) → g .n ≤ x .rank → r .mark ≡ spentMark
-      → r .bit ≡ 0 → Landed s b from r
+  pub landed-none : g .n ≤ x .rank → r .mark ≡ spentMark → r .bit ≡ 0
+      → Landed s b r × (landingWord s b + 1 ≡ wordsFor (g .bits))
   unfolding markOf cursorBit
-  landed-none looks e m p =
+  landed-none e m p =
       let n : x .rank ≡ length xs = omega (arith, walking-few s g o x a, open-length s g o) in
       let first : firstAt b xs ≡ length xs = firstAt-none b xs (λ j h. passed j (omega arith)) in
-      let some = open-ruled s g o (open-some s g o (unfold wordsFor in omega (arith, a .within))) in
-      record {
-        mark-is = rw (first, cursorAt-spent xs (length xs) refl) m;
-        bit-is = rw (first, cursorAt-spent xs (length xs) refl) p;
-        counted = rw (first, last-none (listU s) xs (length xs) refl, some .words-is) (omega (arith, paid, looks));
-      }
+      let some = open-ruled s g o (open-some s g o (unfold wordsFor in omega (arith, a .within))) in (
+        record {
+          mark-is = rw (first, cursorAt-spent xs (length xs) refl) m;
+          bit-is = rw (first, cursorAt-spent xs (length xs) refl) p;
+        },
+        rw (first, last-none (listU s) xs (length xs) refl, some .words-is) (omega (arith, a .within)),
+      )

@@ -17,20 +17,18 @@ use Rattle.laws.proofs.CountLaws.{below-none, below-suc, run-steps}
 use Rattle.laws.proofs.RunLaws.{run-cases}
 use Rattle.shape.specs.declared.Shape.{Shape}
 use Rattle.listlaws.proofs.AfterLaws.{after-lt, after-le}
-use Rattle.bits.specs.ByteCounts.{runningOnes}
 use Rattle.readlist.specs.Open.{Open, pointersIn, pointerOf, PointerAt}
 use Rattle.readlist.proofs.ReadLaws.{open-reads, pointer-reads}
 use Rattle.seeklaws.specs.Cursors.{Placed}
 use Rattle.seeklaws.proofs.JumpLaws.{start-ahead, cursor-lt}
 use Rattle.seek.specs.declared.Cursor.{Cursor}
 use Rattle.seek.specs.declared.Place.{Place}
-use Rattle.seek.specs.declared.Zeros.{Zeros}
 use Rattle.seek.specs.declared.Walk.{Walk}
 use Rattle.seek.specs.Cursors.{markOf, startIn, Moving}
 use Rattle.seek.specs.Walks.{Before, Started, Skipping, Skipped, Passed}
 use Rattle.seek.proofs.OpenLaws.{Ruled, open-U, open-within, open-n, open-some, open-length, open-rising}
 use Rattle.seek.proofs.OpenLaws.{open-ruled, before-place, before-zeros}
-use Rattle.seek.proofs.WalkLaws.{skipping-from, walking-from}
+use Rattle.seek.proofs.WalkLaws.{walking-from}
 use Rattle.seek.proofs.CursorLaws.{held-rule, held-floor}
 
 -- a place with an element is within the run
@@ -73,40 +71,40 @@ module _ (s : List ℕ) (g : Shape) (o : Open s g) (b : ℕ) (p : Place) (t : St
             rw (one, add-one) (omega (arith, below-suc s (g .upper) (p .bit), t .own-set, bit-le))
       ]
 
-  -- the walk from the start on, or from behind the cursor's own element
-  pub passed-start : (looks : ℕ) (r : Walk) → looks < 2 ^ 31
-      → r .left ≡ runWord s (g .upper) (p .bit / 64) / 2 ^ (p .bit % 64 + p .own) * 2 ^ (p .bit % 64 + p .own) → r .k
-      ≡ p .bit / 64
-      → r .rank ≡ p .bit - p .zeros + p .own → r .looks ≡ looks + 1 → Passed s g b (p .bit / 64) (looks + 1) r
-  passed-start looks r l e i n c =
-      let before : r .rank ≡ onesBelow s (g .upper) (p .bit) + p .own = omega (arith, t .counted) in
-      record {
-        at =
-            walking-from s g o (f + p .own) r (omega (arith, own-le)) (rw i start-word) (rw i e)
-            (rw (i, behind-start, own-counted) before) (omega arith);
-        passed = rw before (t .passed);
-        counted = omega arith;
-      }
+  -- the ones before the walk from the start on, or from behind the cursor's own element
+  start-rank : (r : Walk) → r .rank ≡ p .bit - p .zeros + p .own
+      → r .rank ≡ onesBelow s (g .upper) (p .bit) + p .own
+  start-rank r n = omega (arith, t .counted)
 
-  -- the zeros from the start on, or from behind the cursor's own element
-  pub skipping-start : (h looks : ℕ) (x : Zeros) → looks < 2 ^ 31 → x .word ≡ runWord s (g .upper) (p .bit / 64)
-      → x .left ≡ (2 ^ 64 - 1 - x .word) / 2 ^ (p .bit % 64 + p .own) * 2 ^ (p .bit % 64 + p .own)
-      → x .counts ≡ runningOnes 8 0 (x .left)
-      → x .k ≡ p .bit / 64 → x .before ≡ p .zeros → x .looks ≡ looks + 1 → p .zeros < h → Skipping s g h x
-  skipping-start h looks x l w e r i z c n =
-      skipping-from s g o h (f + p .own) x (omega (arith, own-le)) (rw i start-word) (rw i w) e r
-      (rw (i, behind-start, own-counted) (omega (arith, t .counted))) (omega arith) (omega arith)
+  module _ (r : Walk) (left-is : r .left
+      ≡ runWord s (g .upper) (p .bit / 64) / 2 ^ (p .bit % 64 + p .own) * 2 ^ (p .bit % 64 + p .own))
+      (k-is : r .k ≡ p .bit / 64) (rank-is : r .rank ≡ p .bit - p .zeros + p .own) where
+    pub passed-start : Passed s g b r
+    passed-start = record {
+      at =
+          walking-from s g o (f + p .own) r (omega (arith, own-le)) (rw k-is start-word) (rw k-is left-is)
+          (rw (k-is, behind-start, own-counted) (start-rank r rank-is));
+      passed = rw (start-rank r rank-is) (t .passed);
+    }
+
+    pub skipping-start : (h : ℕ) → p .zeros < h → Skipping s g h r
+    skipping-start h l = record {
+      within = rw k-is start-word;
+      place = f + p .own;
+      place-le = omega (arith, own-le);
+      left-is = rw k-is left-is;
+      counted = rw (k-is, behind-start, own-counted) (start-rank r rank-is);
+      short = rw (k-is, behind-start) (omega (arith, start-rank r rank-is, t .counted));
+    }
 
   -- the walk from the zeros of b's high part on
-  pub passed-skip : (looks : ℕ) (x : Zeros) (r : Walk) → Skipped s g (b / 2 ^ g .w) x r → x .k ≡ p .bit / 64
-      → x .looks ≡ looks + 1 → Passed s g b (p .bit / 64) (looks + 1) r
-  passed-skip looks x r z i c =
+  pub passed-skip : (r : Walk) → Skipped s g (b / 2 ^ g .w) r → Passed s g b r
+  passed-skip r z =
       let h : ℕ = b / 2 ^ g .w in
       let below : onesBelow s (g .upper) (r .rank + h) ≡ r .rank = omega (arith, z .passed .counted) in
       record {
         at = z .at;
         passed = rw below at (before-zeros s g o (open-some s g o (omega arith)) b (r .rank + h) (z .passed));
-        counted = omega (arith, z .counted);
       }
 
 -- ---- the start

@@ -9,8 +9,9 @@
 --   Held U xs c       c is a cursor that seeks on the list xs below U have made
 --   Moving s c b      a cursor on the list in s that a seek for b moves: it is not ahead of b, nor b of the list
 --   startIn s c b     the bit at which the rule's seek for b starts on that list
---   landing U xs c b  where a seek for b ends: the rule's next cursor, and the rule's looks more
---   movedTo U xs c b  the cursor after a seek for b: so, and one seek more
+--   landing U xs c b  where a seek for b ends: at the rule's next cursor
+--   looksFor U xs c b   the rule's looks of that seek
+--   movedTo U xs c b  the cursor after a seek for b: there, with one seek more and those looks more
 --   foundBy U xs c    the answer that a cursor after a seek stands for: its page and rank, or none
 --   after U xs c bs   the cursor after seeks for the bounds bs in turn
 --   founds U xs c bs  the answers of these seeks
@@ -65,7 +66,10 @@ startIn s c b = startOf (listU s) (decode s) (ruleCursor (listU s) (decode s) c)
 unfoldable pub landing : ℕ → List ℕ → Cursor → ℕ → Landing
 landing U xs c b =
     let a : Sought = seek U xs (ruleCursor U xs c) b in
-    record { mark = markOf xs (a .cursor); bit = cursorBit U xs (a .cursor); looks = c .looks + a .looks }
+    record { mark = markOf xs (a .cursor); bit = cursorBit U xs (a .cursor) }
+
+unfoldable pub looksFor : ℕ → List ℕ → Cursor → ℕ → ℕ
+looksFor U xs c b = seek U xs (ruleCursor U xs c) b .looks
 
 unfoldable pub movedTo : ℕ → List ℕ → Cursor → ℕ → Cursor
 movedTo U xs c b =

@@ -7,10 +7,11 @@ ghost use lib.Count.{ones};
 ghost use lib.ListN.{length, getD};
 ghost use Rattle.rules.specs.Runs.{runWord, field, wordsFor};
 ghost use Rattle.rules.specs.ReadList.{listU, decode};
-ghost use Rattle.bits.specs.ByteCounts.{runningOnes};
 ghost use Rattle.readlist.specs.Open.{Open, OneAt};
-ghost use Rattle.seek.specs.Cursors.{spentMark, unused, rankIn, Held, Moving, startIn, landing, movedTo};
-ghost use Rattle.seek.specs.Walks.{Before, Started, Skipping, Skipped, Passed, Walking, AtOne, Landed};
+ghost use Rattle.seek.specs.Cursors.{spentMark, unused, rankIn, Held, Moving, startIn, landing, looksFor};
+ghost use Rattle.seek.specs.Cursors.{movedTo};
+ghost use Rattle.seek.specs.Walks.{Before, Started, Paid, Skipping, ZeroIn, AtZero, Skipped, Passed, Walking};
+ghost use Rattle.seek.specs.Walks.{AtOne, Landed, landingWord};
 use shape::Shape;
 
 // A cursor on a list: its mark is 0 where fresh, page + 1 on an element, or SPENT; the element's bit; and its counts.
@@ -40,21 +41,14 @@ impl Cursor {
 
 // ---- words of the upper run
 
-// A word of the upper run, and the looks with it.
-pub struct Seen {
-    pub word: u64,
-    pub looks: u32,
-}
-
-// Hands out word k of the upper run and adds one look: a seek has the run's words from here alone.
-fn look(s: &[u8], upper: usize, k: usize, looks: u32) -> Seen
-    requires { ⌜ (upper + 8 * k + 8 ≤ length (now s)) × (looks < 2 ^ 32 - 1) ⌝ }
-    ensures { λ r. ⌜ (r .word ≡ runWord (now (s .entry)) upper k) × (r .looks ≡ looks + 1) ⌝ }
+// Hands out word k of the upper run, and adds one look to the count that it is lent: a seek has the run's words from
+// here alone.
+fn look(s: &[u8], upper: usize, k: usize, looks: &mut u32) -> u64
+    requires { ⌜ (upper + 8 * k + 8 ≤ length (now s)) × (now looks < 2 ^ 32 - 1) ⌝ }
+    ensures { λ r. ⌜ (r ≡ runWord (now (s .entry)) upper k) × (now (looks .exit) ≡ now (looks .entry) + 1) ⌝ }
 {
-    Seen {
-        word: bits::run_word(s, upper, k),
-        looks: looks + 1,
-    }
+    *looks += 1;
+    bits::run_word(s, upper, k)
 }
 
 // The bits of a word from a place on, or behind it where `own` is 1.
@@ -106,143 +100,121 @@ fn start(s: &[u8], g: Shape, c: Cursor, b: usize) -> Place
     }
 }
 
-// ---- to zero number h
+// ---- over words
 
-// Word k, its zeros that are left as ones with their running counts, the zeros of the run before those, and the looks.
-pub struct Zeros {
-    pub word: u64,
-    pub left: u64,
-    pub counts: u64,
-    pub k: usize,
-    pub before: usize,
-    pub looks: u32,
-}
-
-// The zeros of the run up to the end of the word.
-fn zeros_through(at: Zeros) -> usize
-    requires { ⌜ (at .before < 2 ^ 32) × (at .counts ≡ runningOnes 8 0 (at .left)) ⌝ }
-    ensures { λ r. ⌜ r ≡ at .before + ones (at .left) ⌝ }
-{
-    at.before + bits::total(at.counts) as usize
-}
-
-// What a walk has before it: what is left of word k, the ones of the run before that, and the looks.
+// What a walk has before it: what is left of word k, and the ones of the run before that.
 pub struct Walk {
     pub left: u64,
     pub k: usize,
     pub rank: usize,
-    pub looks: u32,
 }
 
-// Passes words by their counts to the one with zero number h, counted from 1, and stands there.
-fn skip(s: &[u8], g: Shape, h: usize, from: Zeros) -> Walk
-    requires { ⌜ Open (now s) g × (h + g .n ≤ g .bits) × Skipping (now s) g h from ⌝ }
-    ensures { λ r. ⌜ Skipped (now (s .entry)) g h from r ⌝ }
+// Goes on from word k to the next, before which the run has `rank` ones.
+fn next_word(s: &[u8], g: Shape, k: usize, rank: usize, looks: &mut u32) -> Walk
+    requires { ⌜ Open (now s) g × (k + 1 < wordsFor (g .bits)) × (now looks ≤ 2 ^ 31 + k) ⌝ }
+    ensures { λ r. ⌜ (r .left ≡ runWord (now (s .entry)) (g .upper) (k + 1)) × (r .k ≡ k + 1) × (r .rank ≡ rank)
+        × (now (looks .exit) ≡ now (looks .entry) + 1) ⌝ }
+{
+    let next = k + 1;
+    Walk {
+        left: look(s, g.upper, next, looks),
+        k: next,
+        rank,
+    }
+}
+
+// ---- to zero number h
+
+// The ones of the run up to the end of the word.
+fn rank_through(at: Walk) -> usize
+    requires { ⌜ at .rank < 2 ^ 32 ⌝ }
+    ensures { λ r. ⌜ r ≡ at .rank + ones (at .left) ⌝ }
+{
+    at.rank + u64::count_ones(at.left) as usize
+}
+
+// Goes on to zero number h of the run, counted from 1, which is in what is left of the word.
+fn to_zero(at: Walk, h: usize) -> Walk
+    requires { ⌜ ZeroIn h at ⌝ }
+    ensures { λ r. ⌜ AtZero h at r ⌝ }
+{
+    let j = h + at.rank - 64 * at.k - 1;
+    let zeros = !at.left;
+    let place = bits::select_by(zeros, bits::running_counts(zeros), j as u32) as usize;
+    Walk {
+        left: bits::from_bit(at.left, place),
+        k: at.k,
+        rank: at.rank + place - j,
+    }
+}
+
+// Passes words by their counts of ones to the one with zero number h, and stands there.
+fn skip(s: &[u8], g: Shape, h: usize, from: Walk, looks: &mut u32) -> Walk
+    requires { ⌜ Open (now s) g × (h + g .n ≤ g .bits) × Skipping (now s) g h from × (now looks ≤ 2 ^ 31 + from .k) ⌝ }
+    ensures { λ r. ⌜ Skipped (now (s .entry)) g h r × Paid (from .k) (now (looks .entry)) (r .k) (now (looks .exit)) ⌝ }
 {
     let mut at = from;
-    while zeros_through(at) < h {
-        let k = at.k + 1;
-        let seen = look(s, g.upper, k, at.looks);
-        let left = !seen.word;
-        let next = Zeros {
-            word: seen.word,
-            left,
-            counts: bits::running_counts(left),
-            k,
-            before: zeros_through(at),
-            looks: seen.looks,
-        };
-        at = next;
+    while 64 * at.k + 64 < h + rank_through(at) {
+        at = next_word(s, g, at.k, rank_through(at), looks);
     }
-    let place = bits::select_by(at.left, at.counts, (h - at.before - 1) as u32) as usize;
-    Walk {
-        left: bits::from_bit(at.word, place),
-        k: at.k,
-        rank: 64 * at.k + place - (h - 1),
-        looks: at.looks,
-    }
+    to_zero(at, h)
 }
 
-// Looks at the word of the start, and passes the cursor's own element, which is below the bound, or passes on to the
+// Looks at the word of the start, and passes the cursor's own element, which is below the bound; then passes on to the
 // zero before the bound's high part where that is not near.
-fn pass(s: &[u8], g: Shape, b: usize, from: Place, looks: u32) -> Walk
-    requires { ⌜ Open (now s) g × (b < g .u) × Started (now s) g b from × (from .bit < g .bits) × (looks < 2 ^ 31) ⌝ }
-    ensures { λ r. ⌜ Passed (now (s .entry)) g b (from .bit / 64) (looks + 1) r ⌝ }
+fn pass(s: &[u8], g: Shape, b: usize, from: Place, looks: &mut u32) -> Walk
+    requires { ⌜ Open (now s) g × (b < g .u) × Started (now s) g b from × (from .bit < g .bits)
+        × (now looks < 2 ^ 31) ⌝ }
+    ensures { λ r. ⌜ Passed (now (s .entry)) g b r
+        × Paid (from .bit / 64) (now (looks .entry) + 1) (r .k) (now (looks .exit)) ⌝ }
 {
     let h = b >> g.w;
     let k = from.bit / 64;
-    let place = from.bit % 64;
-    let seen = look(s, g.upper, k, looks);
-    if h <= from.zeros + 3 {
-        return Walk {
-            left: behind(seen.word, place, from.own),
-            k,
-            rank: from.bit - from.zeros + from.own as usize,
-            looks: seen.looks,
-        };
-    }
-    let left = behind(!seen.word, place, from.own);
-    let zeros = Zeros {
-        word: seen.word,
-        left,
-        counts: bits::running_counts(left),
+    let word = look(s, g.upper, k, looks);
+    let at = Walk {
+        left: behind(word, from.bit % 64, from.own),
         k,
-        before: from.zeros,
-        looks: seen.looks,
+        rank: from.bit - from.zeros + from.own as usize,
     };
-    skip(s, g, h, zeros)
+    if h <= from.zeros + 3 {
+        return at;
+    }
+    skip(s, g, h, at, looks)
 }
 
 // ---- to the first element at or above the bound
 
-// Where a search ends: the cursor's mark and bit, and the looks.
+// Where a search ends: the cursor's mark and bit.
 pub struct Landing {
     pub mark: u32,
     pub bit: u32,
-    pub looks: u32,
 }
 
 // The end where there is no element at or above the bound.
-fn none(looks: u32) -> Landing
-    ensures { λ r. ⌜ (r .mark ≡ spentMark) × (r .bit ≡ 0) × (r .looks ≡ looks) ⌝ }
+fn none() -> Landing
+    ensures { λ r. ⌜ (r .mark ≡ spentMark) × (r .bit ≡ 0) ⌝ }
 {
     Landing {
         mark: SPENT,
         bit: 0,
-        looks,
-    }
-}
-
-// Goes on to the next word.
-fn next_word(s: &[u8], g: Shape, at: Walk) -> Walk
-    requires { ⌜ Open (now s) g × (at .k + 1 < wordsFor (g .bits)) × (at .looks ≤ 2 ^ 31 + at .k) ⌝ }
-    ensures { λ r. ⌜ (r .left ≡ runWord (now (s .entry)) (g .upper) (at .k + 1)) × (r .k ≡ at .k + 1)
-        × (r .rank ≡ at .rank) × (r .looks ≡ at .looks + 1) ⌝ }
-{
-    let k = at.k + 1;
-    let seen = look(s, g.upper, k, at.looks);
-    Walk {
-        left: seen.word,
-        k,
-        rank: at.rank,
-        looks: seen.looks,
     }
 }
 
 // Passes words with no one left; there is one ahead.
-fn to_one(s: &[u8], g: Shape, from: Walk) -> Walk
-    requires { ⌜ Open (now s) g × Walking (now s) g from × (from .rank < g .n) ⌝ }
-    ensures { λ r. ⌜ AtOne (now (s .entry)) g from r ⌝ }
+fn to_one(s: &[u8], g: Shape, from: Walk, looks: &mut u32) -> Walk
+    requires { ⌜ Open (now s) g × Walking (now s) g from × (from .rank < g .n) × (now looks ≤ 2 ^ 31 + from .k) ⌝ }
+    ensures { λ r. ⌜ AtOne (now (s .entry)) g from r
+        × Paid (from .k) (now (looks .entry)) (r .k) (now (looks .exit)) ⌝ }
 {
     let mut at = from;
     while at.left == 0 {
-        at = next_word(s, g, at);
+        at = next_word(s, g, at.k, at.rank, looks);
     }
     at
 }
 
-// The low part of the element of that rank. It is read here, and not by `bits::low_field`: that has more callers, and
-// stays a call of its own.
+// The low part of the element of that rank, by words of the lower run alone. It is read here, and not by
+// `bits::low_field`: that has more callers, and stays a call of its own.
 fn low_part(s: &[u8], g: Shape, rank: usize) -> usize
     requires { ⌜ Open (now s) g × (rank < g .n) ⌝ }
     ensures { λ r. ⌜ (r ≡ field (now (s .entry)) (g .lower) (rank * g .w) (g .w)) × (r < 2 ^ 24) ⌝ }
@@ -250,14 +222,17 @@ fn low_part(s: &[u8], g: Shape, rank: usize) -> usize
     if g.w == 0 {
         return 0;
     }
+    let lower = g.lower;
+    let upper = g.upper;
+    let run = &s[lower..upper];
     let o = rank * g.w;
     let k = o / 64;
     let place = o % 64;
-    let word = bits::run_word(s, g.lower, k);
+    let word = bits::run_word(run, 0, k);
     if place + g.w <= 64 {
         return bits::field_of(word, 0, place, g.w) as usize;
     }
-    bits::field_of(word, bits::run_word(s, g.lower, k + 1), place, g.w) as usize
+    bits::field_of(word, bits::run_word(run, 0, k + 1), place, g.w) as usize
 }
 
 // The element whose one stands at that bit with `rank` ones below it.
@@ -269,83 +244,87 @@ fn page_at(s: &[u8], g: Shape, bit: usize, rank: usize) -> usize
 }
 
 // Passes all words up to the run's last.
-fn to_end(s: &[u8], g: Shape, from: Walk) -> Walk
-    requires { ⌜ Open (now s) g × (from .k < wordsFor (g .bits)) × (from .looks ≤ 2 ^ 31 + from .k) ⌝ }
-    ensures { λ r. ⌜ r .looks + from .k + 1 ≡ from .looks + wordsFor (g .bits) ⌝ }
+fn to_end(s: &[u8], g: Shape, from: usize, looks: &mut u32)
+    requires { ⌜ Open (now s) g × (from < wordsFor (g .bits)) × (now looks ≤ 2 ^ 31 + from) ⌝ }
+    ensures { λ _. ⌜ Paid (from + 1) (now (looks .entry)) (wordsFor (g .bits)) (now (looks .exit)) ⌝ }
 {
     let last = (g.bits + 63) / 64 - 1;
-    let mut at = from;
-    while at.k < last {
-        at = next_word(s, g, at);
+    let mut k = from;
+    while k < last {
+        let at = next_word(s, g, k, 0, looks);
+        k = at.k;
     }
-    at
 }
 
 // Walks from one to one to the first element at or above b.
-fn land(s: &[u8], g: Shape, b: usize, from: Walk) -> Landing
-    requires { ⌜ Open (now s) g × Walking (now s) g from × Before (now s) b (from .rank) ⌝ }
-    ensures { λ r. ⌜ Landed (now (s .entry)) b from r ⌝ }
+fn land(s: &[u8], g: Shape, b: usize, from: Walk, looks: &mut u32) -> Landing
+    requires { ⌜ Open (now s) g × Walking (now s) g from × Before (now s) b (from .rank)
+        × (now looks ≤ 2 ^ 31 + from .k) ⌝ }
+    ensures { λ r. ⌜ Landed (now (s .entry)) b r
+        × Paid (from .k) (now (looks .entry)) (landingWord (now (s .entry)) b) (now (looks .exit)) ⌝ }
 {
     let mut at = from;
     while at.rank < g.n {
-        let one = to_one(s, g, at);
+        let one = to_one(s, g, at, looks);
         let bit = 64 * one.k + u64::trailing_zeros(one.left) as usize;
         let page = page_at(s, g, bit, one.rank);
         if b <= page {
             return Landing {
                 mark: (page + 1) as u32,
                 bit: bit as u32,
-                looks: one.looks,
             };
         }
         let next = Walk {
             left: one.left & (one.left - 1),
             k: one.k,
             rank: one.rank + 1,
-            looks: one.looks,
         };
         at = next;
     }
-    let end = to_end(s, g, at);
-    none(end.looks)
+    to_end(s, g, at.k, looks);
+    none()
 }
 
 // ---- the seek
 
 // Where a seek for b ends: it stays, is spent with no look, or passes and lands.
-fn find(s: &[u8], g: Shape, c: Cursor, b: usize) -> Landing
-    requires { ⌜ Open (now s) g × Held (listU (now s)) (decode (now s)) c × (c .looks < 2 ^ 31) ⌝ }
-    ensures { λ r. ⌜ r ≡ landing (listU (now (s .entry))) (decode (now (s .entry))) c b ⌝ }
+fn find(s: &[u8], g: Shape, c: Cursor, b: usize, looks: &mut u32) -> Landing
+    requires { ⌜ Open (now s) g × Held (listU (now s)) (decode (now s)) c × (now looks < 2 ^ 31) ⌝ }
+    ensures { λ r. ⌜ (r ≡ landing (listU (now (s .entry))) (decode (now (s .entry))) c b)
+        × (now (looks .exit)
+        ≡ now (looks .entry) + looksFor (listU (now (s .entry))) (decode (now (s .entry))) c b) ⌝ }
 {
     if b < c.mark as usize {
         return Landing {
             mark: c.mark,
             bit: c.bit,
-            looks: c.looks,
         };
     }
     if g.n == 0 || g.u <= b {
-        return none(c.looks);
+        return none();
     }
     let from = start(s, g, c, b);
     if from.own == 0 && from.bit == g.bits {
-        return none(c.looks);
+        return none();
     }
-    land(s, g, b, pass(s, g, b, from, c.looks))
+    let at = pass(s, g, b, from, looks);
+    land(s, g, b, at, looks)
 }
 
-// One seek for b: the cursor moves as the step rule says, and this function alone adds one seek.
+// One seek for b: the cursor moves as the step rule says, and this function alone adds one seek. The count that every
+// look of it adds to is the cursor's own.
 pub fn seek(s: &[u8], g: Shape, c: Cursor, b: usize) -> Cursor
     requires { ⌜ Open (now s) g × Held (listU (now s)) (decode (now s)) c
         × (c .seeks < 2 ^ 31) × (c .looks < 2 ^ 31) ⌝ }
     ensures { λ r. ⌜ r ≡ movedTo (listU (now (s .entry))) (decode (now (s .entry))) c b ⌝ }
 {
-    let to = find(s, g, c, b);
+    let mut looks = c.looks;
+    let to = find(s, g, c, b, &mut looks);
     Cursor {
         mark: to.mark,
         bit: to.bit,
         seeks: c.seeks + 1,
-        looks: to.looks,
+        looks,
     }
 }
 

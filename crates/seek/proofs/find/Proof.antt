@@ -19,7 +19,7 @@ returns c =
     let a = start .args in
     let o = start .pre .0 in
     landing-stays (listU (a .s .now)) (decode (a .s .now)) (open-rising (a .s .now) (a .g) o)
-    (open-within (a .s .now) (a .g) o) (a .c) (start .pre .1) (a .b) _ (c .if1 .taken) refl refl refl
+    (open-within (a .s .now) (a .g) o) (a .c) (start .pre .1) (a .b) _ _ (c .if1 .taken) refl refl
 
 returns-2 : tie.Need-returns-2
 returns-2 c =
@@ -31,10 +31,10 @@ returns-2 c =
     let u = open-U (a .s .now) (a .g) o in
     landing-none (listU (a .s .now)) (decode (a .s .now)) (open-rising (a .s .now) (a .g) o)
     (open-within (a .s .now) (a .g) o) (a .c) (start .pre .1) (a .b)
-    (c .before .before .before .if1 .left) _ (elim (c .before .if2 .came) [
+    (c .before .before .before .if1 .left) _ _ (elim (c .before .if2 .came) [
       | inl w ↦ inl (omega arith)
       | inr w ↦ inr (omega (arith, leb-true))
-    ]) (e .0) (e .1) (e .2)
+    ]) (e .0) (e .1)
 
 -- past the first tests the cursor moves
 moving : (c : tie.Else3) →
@@ -67,8 +67,8 @@ returns-3 c =
     let some : 0 < a .g .n = omega (arith, m .some, open-n (a .s .now) (a .g) o) in
     landing-end (listU (a .s .now)) (decode (a .s .now)) (open-rising (a .s .now) (a .g) o)
     (open-within (a .s .now) (a .g) o) (a .c) (start .pre .1) (a .b)
-    (m .ahead) (m .below) (rw (open-length (a .s .now) (a .g) o) some) _
-    (sym (e .1) ∙ here ∙ sym (open-ruled (a .s .now) (a .g) o some .bits-is)) (n .0) (n .1) (n .2)
+    (m .ahead) (m .below) (rw (open-length (a .s .now) (a .g) o) some) _ _
+    (sym (e .1) ∙ here ∙ sym (open-ruled (a .s .now) (a .g) o some .bits-is)) (n .0) (n .1)
 
 -- where the start is not the run's end
 inside : (c : tie.Joined4) →
@@ -86,14 +86,25 @@ inside c =
 
 pass-requires : tie.Need-pass-requires
 pass-requires c κs =
-    let there = c .before .before in
+    let there = c .before .before .before in
     let start = there .before .before .before .before .before .before .before .before in
-    let u = open-U (start .args .s .now) (start .args .g) (start .pre .0) in
-    (start .pre .0, omega (arith, u, moving (there .before) .below), there .start .ensures .0, inside c, start .pre .2)
+    let u = open-U (start .args .s .now) (start .args .g) (start .pre .0) in (
+      start .pre .0,
+      omega (arith, u, moving (there .before) .below),
+      there .start .ensures .0,
+      inside (c .before),
+      start .pre .2,
+    )
+
+land-requires : tie.Need-land-requires
+land-requires c κs =
+    let start = c .before .before .before .before .before .before .before .before .before .before .before .before .before in
+    let p = c .before .pass .ensures in
+    (start .pre .0, p .0 .at, p .0 .passed, omega (arith, p .1, start .pre .2))
 
 returns-4 : tie.Need-returns-4
 returns-4 c =
-    let there = c .before .before .before .before in
+    let there = c .before .before .before .before .before .before in
     let start = there .before .before .before .before .before .before .before .before in
     let a = start .args in
     let o = start .pre .0 in
@@ -103,9 +114,9 @@ returns-4 c =
     let some : 0 < a .g .n = omega (arith, m .some, open-n (a .s .now) (a .g) o) in
     landing-walked (listU (a .s .now)) (decode (a .s .now)) (open-rising (a .s .now) (a .g) o)
     (open-within (a .s .now) (a .g) o) (a .c) (start .pre .1) (a .b)
-    (m .ahead) (m .below) (rw (open-length (a .s .now) (a .g) o) some) _
-    (omega (arith, e .1, inside (c .before .before), open-ruled (a .s .now) (a .g) o some .bits-is)) (l .mark-is) (l .bit-is)
-    (rw (← e .1) (omega (arith, l .counted, c .before .pass .ensures .counted)))
+    (m .ahead) (m .below) (rw (open-length (a .s .now) (a .g) o) some) _ _ _
+    (omega (arith, e .1, inside (c .before .before .before .before), open-ruled (a .s .now) (a .g) o some .bits-is)) (l .0 .mark-is)
+    (l .0 .bit-is) (rw (← e .1) (omega (arith, l .1, c .before .before .pass .ensures .1)))
 
 pub find-spec : {M : Type 1} → statement M
 find-spec =
@@ -119,5 +130,5 @@ find-spec =
     (λ c κs. tt)
     returns-3
     pass-requires
-    (λ c κs. search needs)
+    land-requires
     returns-4)

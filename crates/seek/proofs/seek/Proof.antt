@@ -1,22 +1,18 @@
 -- `seek` is the search with one seek more.
-use mathlib.Core.Path.{ap}
-use Prim.Native.Nat.{_+_}
+use mathlib.Core.Path.{_≡_}
+use Prim.Native.Nat.{ℕ, _+_}
 use borrow.Author.Needs.{needs}
-use Rattle.seek.specs.declared.Landing.{Landing}
-use Rattle.seek.specs.Cursors.{held, landing, movedTo}
+use Rattle.seek.specs.declared.Cursor.{Cursor}
+use Rattle.seek.specs.Cursors.{held, landing, looksFor, movedTo}
 use Rattle.seek.proofs.seek.Statement.{statement}
 use Rattle.seek.proofs.seek.Tie as tie
 
 returns : tie.Need-returns
-unfolding movedTo held landing
+unfolding movedTo held landing looksFor
 returns c =
-    let a = c .before .before .before .args in
-    ap (λ (l : Landing). record {
-      mark = l .mark;
-      bit = l .bit;
-      seeks = a .c .seeks + 1;
-      looks = l .looks;
-    }) (c .before .find .ensures)
+    let a = c .before .before .before .before .args in
+    let f = c .before .find .ensures in
+    rw (f .0, f .1)
 
 pub seek-spec : {M : Type 1} → statement M
 seek-spec = tie.close (tie.spec (λ c κs. search needs) (λ c. search needs) returns)

@@ -4,15 +4,15 @@ use Prim.Native.Nat.{_+_, _-_, _≤_}
 use native.Mathlib.Omega.{arith}
 use Rattle.rules.specs.Runs.{wordsFor}
 use Rattle.readlist.proofs.ReadLaws.{open-reads}
+use Rattle.seek.specs.Walks.{Paid}
 use Rattle.seek.proofs.to_end.Statement.{statement}
 use Rattle.seek.proofs.to_end.Tie as tie
 
 abbrev Inv-loop : tie.InvT-loop
-Inv-loop s g last at₀ at =
-    (last + 1 ≡ wordsFor (g .bits)) × (at .k ≤ last) × (at .looks + at₀ .k ≡ at₀ .looks + at .k)
+Inv-loop s g from looks₀ last k₀ looks k = (last + 1 ≡ wordsFor (g .bits)) × (k ≤ last) × Paid k₀ looks₀ k looks
 
 abbrev μ-loop : tie.MeasureT-loop
-μ-loop s g last at₀ at = last - at .k
+μ-loop s g from looks₀ last k₀ looks k = last - k
 
 add-last : tie.Need-add-last Inv-loop μ-loop
 add-last c =
@@ -49,7 +49,7 @@ loop-again c =
 
 returns : tie.Need-returns Inv-loop μ-loop
 returns c =
-    let i = c .before .before .loop .inv in
+    let i = c .before .loop .inv in
     omega (arith, i .0, i .1, i .2)
 
 pub to-end-spec : {M : Type 1} → statement M

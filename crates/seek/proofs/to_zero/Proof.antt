@@ -1,0 +1,85 @@
+-- `to_zero` selects the zero among the word's: those that lie below what is left are counted as well.
+use mathlib.Core.Path.{_≡_, refl, sym, _∙_}
+use Prim.Native.Nat.{ℕ, _+_, _-_, _*_, _%_, _^_, _≤_, _<_}
+use native.Mathlib.Nat.{mod-eq-of-lt}
+use native.Mathlib.Omega.{arith}
+use borrow.Author.Needs.{needs}
+use lib.Count.{ones}
+use Rattle.rules.specs.Runs.{bit}
+use Rattle.bits.specs.Words.{placeOfOne}
+use Rattle.bits.proofs.WordLaws.{place-bit, place-ones, complement-ones, complement-bit}
+use Rattle.seek.proofs.to_zero.Statement.{statement}
+use Rattle.seek.proofs.to_zero.Tie as tie
+
+-- the zeros of a word and its ones are 64
+all-bits : (x : ℕ) → x < 2 ^ 64 → ones (2 ^ 64 - 1 - x) + ones x ≡ 64
+all-bits x l =
+    let other : 2 ^ 64 - 1 - x < 2 ^ 64 = omega arith in
+    rw (mod-eq-of-lt l, mod-eq-of-lt other) at (complement-ones 64 x 64 l (omega arith))
+
+-- zero number j of a word
+pub record ZeroAt (x j p : ℕ) : Type 0 where
+  pub free : bit x p ≡ 0
+  pub number : ones (x % 2 ^ p) + j ≡ p
+
+zero-at : (x j p : ℕ) → x < 2 ^ 64 → p ≡ placeOfOne 64 (2 ^ 64 - 1 - x) j → p < 64 → ZeroAt x j p
+zero-at x j p l e h =
+    let y : ℕ = 2 ^ 64 - 1 - x in
+    let i : placeOfOne 64 y j < 64 = rw e at h in
+    let set : bit y p ≡ 1 = rw e (place-bit 64 y j i) in
+    let count : ones (y % 2 ^ p) ≡ j = rw e (place-ones 64 y j i) in
+    record {
+      free = omega (arith, complement-bit 64 x p l h);
+      number = omega (arith, complement-ones 64 x p l (omega arith));
+    }
+
+select-by-requires : tie.Need-select-by-requires
+select-by-requires c κs =
+    let start = c .before .before .before .before in
+    let z = start .pre in
+    (c .running-counts .ensures, omega (arith, z .behind, z .reached, all-bits (start .args .at .left) (omega arith)))
+
+-- the zero that is selected
+selected : (c : tie.After-select-by) →
+    let a = c .before .before .before .before .before .args in
+    ZeroAt (a .at .left) (a .h + a .at .rank - 64 * a .at .k - 1) (c .select-by .result)
+selected c =
+    let a = c .before .before .before .before .before .args in
+    zero-at (a .at .left) (a .h + a .at .rank - 64 * a .at .k - 1) (c .select-by .result) (omega arith)
+    (c .select-by .ensures .0) (c .select-by .ensures .1)
+
+sub-t7 : tie.Need-sub-t7
+sub-t7 c = omega (arith, selected (c .before .before) .number)
+
+returns : tie.Need-returns
+returns c =
+    let there = c .before .before in
+    let start = there .before .before .before .before .before in
+    let z = start .pre in
+    let f = selected there in
+    record {
+      place = there .select-by .result;
+      inside = there .select-by .ensures .1;
+      zero = f .free;
+      k-kept = refl;
+      left-is = c .before .from-bit .ensures;
+      rank-is = omega (arith, f .number);
+      number = omega (arith, f .number, z .behind);
+    }
+
+pub to-zero-spec : {M : Type 1} → statement M
+to-zero-spec =
+    tie.close
+    (tie.spec
+    (λ c. search needs)
+    (λ c. search needs)
+    (λ c. search needs)
+    (λ c. search needs)
+    (λ c κs. search needs)
+    (λ c. search needs)
+    select-by-requires
+    (λ c. search needs)
+    (λ c κs. search needs)
+    (λ c. search needs)
+    sub-t7
+    returns)
