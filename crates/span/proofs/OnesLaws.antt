@@ -40,12 +40,12 @@ module _ (s : List ℕ) (g : Shape) (w : Walk) (o : WalkOn s g w) (more : w .nex
         walking =
             walking-from s g (o .opened) f _ (omega arith) (ahead-inside .0)
             (l ∙ ap (λ (v : ℕ). v / 2 ^ f * 2 ^ f) e)
-            (sym (ap (onesBelow s (g .upper)) p ∙ o .counted)) (omega arith);
+            (sym (ap (onesBelow s (g .upper)) p ∙ o .counted));
         passed = refl;
       }
 
 module _ (s : List ℕ) (g : Shape) (o : Open s g) (n : ℕ) (more : n < g .n) (x : Ones) (l : OnesLeft s g n x) where
-  abbrev here : Walking s g (record { left = x .left; k = x .k; rank = x .rank; looks = 0 })
+  abbrev here : Walking s g (record { left = x .left; k = x .k; rank = x .rank })
   here = l .walking
 
   -- a word without a one left is not the last
@@ -54,20 +54,10 @@ module _ (s : List ℕ) (g : Shape) (o : Open s g) (n : ℕ) (more : n < g .n) (
 
   pub ones-next : x .left ≡ 0 → (y : ℕ) → y ≡ runWord s (g .upper) (x .k + 1)
       → OnesLeft s g n (record { left = y; k = x .k + 1; rank = x .rank })
-  ones-next e y w =
-      let v =
-      walking-next s g o _ here (record { left = y; k = x .k + 1; rank = x .rank; looks = 1 }) e refl (ones-go-on e) w
-      refl refl in
-      record {
-        walking = record {
-          within = v .within;
-          gone = v .gone;
-          left-are = v .left-are;
-          counted = v .counted;
-          room = omega arith;
-        };
-        passed = l .passed;
-      }
+  ones-next e y w = record {
+    walking = walking-next s g o _ here _ e refl (ones-go-on e) w refl;
+    passed = l .passed;
+  }
 
   module _ (some : 0 < x .left) where
     abbrev place : ℕ
@@ -82,6 +72,6 @@ module _ (s : List ℕ) (g : Shape) (o : Open s g) (n : ℕ) (more : n < g .n) (
     pub ones-drop : OnesLeft s g (n + 1)
         (record { left = bitAnd (x .left) (x .left - 1); k = x .k; rank = x .rank + 1 })
     ones-drop = record {
-      walking = walking-drop s g o _ here some _ refl refl refl refl;
+      walking = walking-drop s g o _ here some _ refl refl refl;
       passed = ap (λ (m : ℕ). m + 1) (l .passed);
     }

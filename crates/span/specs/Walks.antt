@@ -38,7 +38,7 @@ pub record Passing (s : List ℕ) (g : Shape) (to b : ℕ) (w : Walk) : Type 0 w
   pub below : past (decode s) (w .next - 1) ≤ b
 
 pub record OnesLeft (s : List ℕ) (g : Shape) (n : ℕ) (x : Ones) : Type 0 where
-  pub walking : Walking s g (record { left = x .left; k = x .k; rank = x .rank; looks = 0 })
+  pub walking : Walking s g (record { left = x .left; k = x .k; rank = x .rank })
   pub passed : x .rank ≡ n
 
 pub record PassedBelow (s : List ℕ) (g : Shape) (to b : ℕ) (w r : Walk) : Type 0 where
