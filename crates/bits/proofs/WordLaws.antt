@@ -269,11 +269,3 @@ module _ (s : List ℕ) (at k j x : ℕ) (word : x ≡ runWord s at k) where
         word-ones s at k p (omega arith)
             ∙ rw (← word) (ap (λ (n : ℕ). onesBelow s at (64 * k) + n) (place-ones 64 x j h)),
       )
-
-  pub run-zero : x < 2 ^ 64 → placeOfZero 64 x j < 64 → (runBit s at (64 * k + placeOfZero 64 x j) ≡ 0)
-      × (onesBelow s at (64 * k + placeOfZero 64 x j) + j ≡ onesBelow s at (64 * k) + placeOfZero 64 x j)
-  run-zero l h =
-      let p : ℕ = placeOfZero 64 x j in
-      let o : onesBelow s at (64 * k + p) ≡ onesBelow s at (64 * k) + ones (x % 2 ^ p) =
-      word-ones s at k p (omega arith) ∙ rw (← word) in
-      (run-bit s at k p h ∙ rw (← word) (zero-bit 64 x l j h), omega (arith, o, zero-ones 64 x l j h))

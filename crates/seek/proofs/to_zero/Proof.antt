@@ -6,8 +6,8 @@ use native.Mathlib.Omega.{arith}
 use borrow.Author.Needs.{needs}
 use lib.Count.{ones}
 use Rattle.rules.specs.Runs.{bit}
-use Rattle.bits.specs.Words.{placeOfOne}
-use Rattle.bits.proofs.WordLaws.{place-bit, place-ones, complement-ones, complement-bit}
+use Rattle.bits.specs.Words.{placeOfOne, placeOfZero}
+use Rattle.bits.proofs.WordLaws.{complement-ones, zero-bit, zero-ones}
 use Rattle.seek.proofs.to_zero.Statement.{statement}
 use Rattle.seek.proofs.to_zero.Tie as tie
 
@@ -18,20 +18,10 @@ all-bits x l =
     rw (mod-eq-of-lt l, mod-eq-of-lt other) at (complement-ones 64 x 64 l (omega arith))
 
 -- zero number j of a word
-pub record ZeroAt (x j p : ℕ) : Type 0 where
-  pub free : bit x p ≡ 0
-  pub number : ones (x % 2 ^ p) + j ≡ p
-
-zero-at : (x j p : ℕ) → x < 2 ^ 64 → p ≡ placeOfOne 64 (2 ^ 64 - 1 - x) j → p < 64 → ZeroAt x j p
-zero-at x j p l e h =
-    let y : ℕ = 2 ^ 64 - 1 - x in
-    let i : placeOfOne 64 y j < 64 = rw e at h in
-    let set : bit y p ≡ 1 = rw e (place-bit 64 y j i) in
-    let count : ones (y % 2 ^ p) ≡ j = rw e (place-ones 64 y j i) in
-    record {
-      free = omega (arith, complement-bit 64 x p l h);
-      number = omega (arith, complement-ones 64 x p l (omega arith));
-    }
+zero-at : (x j p : ℕ) → x < 2 ^ 64 → p ≡ placeOfOne 64 (2 ^ 64 - 1 - x) j → p < 64
+    → (bit x p ≡ 0) × (ones (x % 2 ^ p) + j ≡ p)
+unfolding placeOfZero
+zero-at x j p l e h = rw e (zero-bit 64 x l j (rw e at h), zero-ones 64 x l j (rw e at h))
 
 select-by-requires : tie.Need-select-by-requires
 select-by-requires c κs =
@@ -42,14 +32,16 @@ select-by-requires c κs =
 -- the zero that is selected
 selected : (c : tie.After-select-by) →
     let a = c .before .before .before .before .before .args in
-    ZeroAt (a .at .left) (a .h + a .at .rank - 64 * a .at .k - 1) (c .select-by .result)
+    (bit (a .at .left) (c .select-by .result) ≡ 0)
+    × (ones (a .at .left % 2 ^ c .select-by .result) + (a .h + a .at .rank - 64 * a .at .k - 1)
+    ≡ c .select-by .result)
 selected c =
     let a = c .before .before .before .before .before .args in
     zero-at (a .at .left) (a .h + a .at .rank - 64 * a .at .k - 1) (c .select-by .result) (omega arith)
     (c .select-by .ensures .0) (c .select-by .ensures .1)
 
 sub-t7 : tie.Need-sub-t7
-sub-t7 c = omega (arith, selected (c .before .before) .number)
+sub-t7 c = omega (arith, selected (c .before .before) .1)
 
 returns : tie.Need-returns
 returns c =
@@ -60,11 +52,11 @@ returns c =
     record {
       place = there .select-by .result;
       inside = there .select-by .ensures .1;
-      zero = f .free;
+      zero = f .0;
       k-kept = refl;
       left-is = c .before .from-bit .ensures;
-      rank-is = omega (arith, f .number);
-      number = omega (arith, f .number, z .behind);
+      rank-is = omega (arith, f .1);
+      number = omega (arith, f .1, z .behind);
     }
 
 pub to-zero-spec : {M : Type 1} → statement M
