@@ -55,14 +55,22 @@ pub fn shape_in(shapes: &[u32], i: usize) -> Shape
     }
 }
 
-// The cursor c of list i after a seek for b.
-fn seek_list(card: &[u8], shapes: &[u32], i: usize, c: Cursor, b: usize) -> Cursor
-    requires { ⌜ Seekable (now card) (now shapes) i c ⌝ }
-    ensures { λ r. ⌜ r ≡ movedIn (now (card .entry)) (now (shapes .entry)) i c b ⌝ }
+// The query, and the cursor of it that is in hand.
+struct InHand {
+    q: Query,
+    hand: Cursor,
+}
+
+// A seek for b on list i, by the cursor in hand: the query comes back as it was, and the hand moved.
+fn seek_in(card: &[u8], shapes: &[u32], mut s: InHand, i: usize, b: usize) -> InHand
+    requires { ⌜ Seekable (now card) (now shapes) i (s .hand) ⌝ }
+    ensures { λ r. ⌜ (r .q ≡ s .q) × (r .hand ≡ movedIn (now (card .entry)) (now (shapes .entry)) i (s .hand) b) ⌝ }
 {
     let from = number(shapes, i, 0);
     let to = number(shapes, i, 1);
-    seek::seek(&card[from..to], shape_in(shapes, i), c, b)
+    let c = seek::seek(&card[from..to], shape_in(shapes, i), s.hand, b);
+    s.hand = c;
+    s
 }
 
 // ---- the common pages
@@ -84,8 +92,7 @@ fn put(room: &mut [u32], at: usize, page: u32)
 }
 
 // Goes over the pages at or above the bound that the first k lists share: lists all, as far as the room goes, or stops
-// at the first. It is the one loop of seeks: the query stays in it, and one cursor at a time goes by value through its
-// seek.
+// at the first. It is the one loop of seeks, and the query goes by value through each of them.
 fn scan_lists(
     card: &[u8],
     shapes: &[u32],
@@ -104,7 +111,11 @@ fn scan_lists(
     let mut found = 0;
     let mut i = 0;
     loop {
-        let c = seek_list(card, shapes, i, q.cursors[i], b);
+        let hand = q.cursors[i];
+        let s = seek_in(card, shapes, InHand { q, hand }, i, b);
+        let back = s.q;
+        q = back;
+        let c = s.hand;
         q.cursors[i] = c;
         let mark = c.mark;
         if mark == SPENT {

@@ -26,119 +26,135 @@ loop-holds c =
     let p = c .before .before .before .pre in
     scanning-start _ _ _ _ _ _ _ (p .0) (p .1)
 
-mul-seek-list : tie.Need-mul-seek-list Inv-loop μ-loop
-mul-seek-list c =
+mul-hand : tie.Need-mul-hand Inv-loop μ-loop
+mul-hand c =
     let g = c .loop .inv in
     omega (arith, g .here, g .midst .apt .lists .few)
 
-element-copy-out-seek-list : tie.Need-element-copy-out-seek-list Inv-loop μ-loop
-element-copy-out-seek-list c =
+element-copy-out-hand : tie.Need-element-copy-out-hand Inv-loop μ-loop
+element-copy-out-hand c =
     let g = c .loop .inv in
     omega (arith, g .here, g .midst .apt .lists .few)
 
-seek-list-requires : tie.Need-seek-list-requires Inv-loop μ-loop
+seek-in-requires : tie.Need-seek-in-requires Inv-loop μ-loop
 unfolding unused
-seek-list-requires c κs =
+seek-in-requires c κs =
     let l = c .before .loop in
     scanning-seekable _ _ _ _ _ _ _ (l .q) (l .b) (l .i) (l .found) (l .room) (l .inv)
 
 mul-c : tie.Need-mul-c Inv-loop μ-loop
 mul-c c =
-    let g = c .before .before .loop .inv in
+    let g = c .before .before .before .before .loop .inv in
     omega (arith, g .here, g .midst .apt .lists .few)
 
 element-set-from-c : tie.Need-element-set-from-c Inv-loop μ-loop
 element-set-from-c c =
-    let g = c .before .before .loop .inv in
+    let g = c .before .before .before .before .loop .inv in
     omega (arith, g .here, g .midst .apt .lists .few)
 
 same-length : tie.Need-same-length Inv-loop μ-loop
-same-length c = c .before .before .before .loop .inv .long
+same-length c = c .before .before .before .before .before .loop .inv .long
 
 returns : tie.Need-returns Inv-loop μ-loop
 unfolding unused
 returns c =
-    let l = c .before .before .before .loop in
-    let s = c .before .seek-list in
-    scanning-none _ _ _ _ _ _ _ (l .q) (l .b) (l .i) (l .found) (l .room) (l .inv) (s .result) (s .ensures)
-    (c .if1 .taken)
+    let k = c .before .before .before in
+    let l = k .before .before .loop in
+    let s = k .seek-in in
+    rw (s .ensures .0)
+    (scanning-none _ _ _ _ _ _ _ (l .q) (l .b) (l .i) (l .found) (l .room) (l .inv) (s .result .hand) (s .ensures .1)
+    (c .if1 .taken))
 
 sub-page : tie.Need-sub-page Inv-loop μ-loop
 unfolding unused
 sub-page c =
-    let l = c .before .before .before .loop in
-    let s = c .before .seek-list in
-    scanning-some _ _ _ _ _ _ _ (l .q) (l .b) (l .i) (l .found) (l .room) (l .inv) (s .result) (s .ensures)
+    let k = c .before .before .before in
+    let l = k .before .before .loop in
+    let s = k .seek-in in
+    scanning-some _ _ _ _ _ _ _ (l .q) (l .b) (l .i) (l .found) (l .room) (l .inv) (s .result .hand) (s .ensures .1)
 
 loop-less : tie.Need-loop-less Inv-loop μ-loop
 unfolding unused
 loop-less c =
-    let l = c .before .before .before .before .before .loop in
-    let s = c .before .before .before .seek-list in
-    scanning-less _ _ _ _ _ _ _ (l .q) (l .b) (l .i) (l .found) (l .room) (l .inv) (s .result) (s .ensures)
-    (c .before .before .if1 .left)
+    let k = c .before .before .before .before .before in
+    let l = k .before .before .loop in
+    let s = k .seek-in in
+    rw (s .ensures .0)
+    (scanning-less _ _ _ _ _ _ _ (l .q) (l .b) (l .i) (l .found) (l .room) (l .inv) (s .result .hand) (s .ensures .1)
+    (c .before .before .if1 .left))
 
 loop-again : tie.Need-loop-again Inv-loop μ-loop
 unfolding unused
 loop-again c =
-    let l = c .before .before .before .before .before .loop in
-    let s = c .before .before .before .seek-list in
-    scanning-larger _ _ _ _ _ _ _ (l .q) (l .b) (l .i) (l .found) (l .room) (l .inv) (s .result) (s .ensures)
+    let k = c .before .before .before .before .before in
+    let l = k .before .before .loop in
+    let s = k .seek-in in
+    rw (s .ensures .0)
+    (scanning-larger _ _ _ _ _ _ _ (l .q) (l .b) (l .i) (l .found) (l .room) (l .inv) (s .result .hand) (s .ensures .1)
     (c .before .before .if1 .left) (omega (arith, c .before .if2 .taken))
-    (ltb-true (l .b) (s .result .mark - 1) (c .if3 .taken))
+    (ltb-true (l .b) (s .result .hand .mark - 1) (c .if3 .taken)))
 
 -- past that test the page is no larger one
-no-larger : (c : tie.Joined2 Inv-loop μ-loop) → 0 < c .before .before .before .before .loop .i
-    → c .before .before .before .before .loop .b < c .before .before .seek-list .result .mark - 1 → ⊥
+no-larger : (c : tie.Joined2 Inv-loop μ-loop) → 0 < c .before .before .before .before .before .before .loop .i
+    → c .before .before .before .before .before .before .loop .b
+    < c .before .before .before .before .seek-in .result .hand .mark - 1 → ⊥
 no-larger c h g = elim (c .if2 .came) [
-  | inl e ↦ false≢true (sym (e .1 .left)
-      ∙ lt-ltb (c .before .before .before .before .loop .b) (c .before .before .seek-list .result .mark - 1) g)
+  | inl e ↦
+      let k = c .before .before .before .before in
+      false≢true (sym (e .1 .left) ∙ lt-ltb (k .before .before .loop .b) (k .seek-in .result .hand .mark - 1) g)
   | inr e ↦ omega (arith, e .left)
 ]
 
 add-i : tie.Need-add-i Inv-loop μ-loop
 add-i c =
-    let g = c .before .before .before .before .loop .inv in
+    let g = c .before .before .before .before .before .before .loop .inv in
     omega (arith, g .here, g .midst .apt .lists .few)
 
 loop-less-2 : tie.Need-loop-less-2 Inv-loop μ-loop
 unfolding unused
 loop-less-2 c =
-    let l = c .before .before .before .before .before .loop in
-    let s = c .before .before .before .seek-list in
-    scanning-less _ _ _ _ _ _ _ (l .q) (l .b) (l .i) (l .found) (l .room) (l .inv) (s .result) (s .ensures)
-    (c .before .before .if1 .left)
+    let k = c .before .before .before .before .before in
+    let l = k .before .before .loop in
+    let s = k .seek-in in
+    rw (s .ensures .0)
+    (scanning-less _ _ _ _ _ _ _ (l .q) (l .b) (l .i) (l .found) (l .room) (l .inv) (s .result .hand) (s .ensures .1)
+    (c .before .before .if1 .left))
 
 loop-again-2 : tie.Need-loop-again-2 Inv-loop μ-loop
 unfolding unused
 loop-again-2 c =
-    let l = c .before .before .before .before .before .loop in
-    let s = c .before .before .before .seek-list in
-    scanning-same _ _ _ _ _ _ _ (l .q) (l .b) (l .i) (l .found) (l .room) (l .inv) (s .result) (s .ensures)
-    (c .before .before .if1 .left) (no-larger (c .before)) (c .if4 .taken)
+    let k = c .before .before .before .before .before in
+    let l = k .before .before .loop in
+    let s = k .seek-in in
+    rw (s .ensures .0)
+    (scanning-same _ _ _ _ _ _ _ (l .q) (l .b) (l .i) (l .found) (l .room) (l .inv) (s .result .hand) (s .ensures .1)
+    (c .before .before .if1 .left) (no-larger (c .before)) (c .if4 .taken))
 
 same-length-2 : tie.Need-same-length-2 Inv-loop μ-loop
-same-length-2 c = c .before .before .before .before .before .before .loop .inv .long
+same-length-2 c = c .before .before .before .before .before .before .before .before .loop .inv .long
 
 returns-2 : tie.Need-returns-2 Inv-loop μ-loop
 unfolding unused
 returns-2 c =
-    let l = c .before .before .before .before .before .before .loop in
-    let s = c .before .before .before .before .seek-list in
-    scanning-stops _ _ _ _ _ _ _ (l .q) (l .b) (l .i) (l .found) (l .room) (l .inv) (s .result) (s .ensures)
+    let k = c .before .before .before .before .before .before in
+    let l = k .before .before .loop in
+    let s = k .seek-in in
+    rw (s .ensures .0)
+    (scanning-stops _ _ _ _ _ _ _ (l .q) (l .b) (l .i) (l .found) (l .room) (l .inv) (s .result .hand) (s .ensures .1)
     (c .before .before .before .if1 .left) (no-larger (c .before .before)) (c .before .if4 .left)
-    (not-true _ (c .if5 .taken))
+    (not-true _ (c .if5 .taken)))
 
 sub-put : tie.Need-sub-put Inv-loop μ-loop
 unfolding unused
 sub-put c =
-    let l = c .before .before .before .before .before .before .before .loop in
-    let s = c .before .before .before .before .before .seek-list in
-    scanning-some _ _ _ _ _ _ _ (l .q) (l .b) (l .i) (l .found) (l .room) (l .inv) (s .result) (s .ensures)
+    let k = c .before .before .before .before .before .before .before in
+    let l = k .before .before .loop in
+    let s = k .seek-in in
+    scanning-some _ _ _ _ _ _ _ (l .q) (l .b) (l .i) (l .found) (l .room) (l .inv) (s .result .hand) (s .ensures .1)
 
 add-found : tie.Need-add-found Inv-loop μ-loop
 add-found c =
-    let l = c .before .before .before .before .before .before .before .before .before .before .loop in
+    let l = c .before .before .before .before .before .before .before .before .before .before .before .before .loop in
     omega (
       arith,
       scanning-found _ _ _ _ _ _ _ (l .q) (l .b) (l .i) (l .found) (l .room) (l .inv)
@@ -148,19 +164,22 @@ add-found c =
 loop-less-3 : tie.Need-loop-less-3 Inv-loop μ-loop
 unfolding unused
 loop-less-3 c =
-    let l = c .before .before .before .before .before .before .before .before .before .before .loop in
-    let s = c .before .before .before .before .before .before .before .before .seek-list in
-    scanning-less _ _ _ _ _ _ _ (l .q) (l .b) (l .i) (l .found) (l .room) (l .inv) (s .result) (s .ensures)
-    (c .before .before .before .before .before .before .before .if1 .left)
+    let k = c .before .before .before .before .before .before .before .before .before .before in
+    let l = k .before .before .loop in
+    let s = k .seek-in in
+    rw (s .ensures .0)
+    (scanning-less _ _ _ _ _ _ _ (l .q) (l .b) (l .i) (l .found) (l .room) (l .inv) (s .result .hand) (s .ensures .1)
+    (c .before .before .before .before .before .before .before .if1 .left))
 
 loop-again-3 : tie.Need-loop-again-3 Inv-loop μ-loop
 unfolding unused
 loop-again-3 c =
-    let l = c .before .before .before .before .before .before .before .before .before .before .loop in
-    let s = c .before .before .before .before .before .before .before .before .seek-list in
+    let k = c .before .before .before .before .before .before .before .before .before .before in
+    let l = k .before .before .loop in
+    let s = k .seek-in in
     let f = c .before .before .before .before in
-    rw (c .before .before .put .ensures)
-    (scanning-lists _ _ _ _ _ _ _ (l .q) (l .b) (l .i) (l .found) (l .room) (l .inv) (s .result) (s .ensures)
+    rw (c .before .before .put .ensures, s .ensures .0)
+    (scanning-lists _ _ _ _ _ _ _ (l .q) (l .b) (l .i) (l .found) (l .room) (l .inv) (s .result .hand) (s .ensures .1)
     (f .before .before .before .if1 .left) (no-larger (f .before .before)) (f .before .if4 .left)
     (not-false _ (f .if5 .left)))
 
@@ -171,9 +190,9 @@ scan-lists-spec =
     Inv-loop
     μ-loop
     loop-holds
-    mul-seek-list
-    element-copy-out-seek-list
-    seek-list-requires
+    mul-hand
+    element-copy-out-hand
+    seek-in-requires
     mul-c
     element-set-from-c
     same-length

@@ -1,8 +1,9 @@
--- `seek_list` seeks on the part of the card that the list's numbers name.
+-- `seek_in` seeks on the part of the card that the list's numbers name, and moves the hand alone.
+use mathlib.Core.Path.{refl}
 use borrow.Author.Needs.{needs}
 use Rattle.query.specs.Lists.{partAt, pagesAt}
-use Rattle.query.proofs.seek_list.Statement.{statement}
-use Rattle.query.proofs.seek_list.Tie as tie
+use Rattle.query.proofs.seek_in.Statement.{statement}
+use Rattle.query.proofs.seek_in.Tie as tie
 
 seek-requires : tie.Need-seek-requires
 unfolding partAt pagesAt
@@ -18,10 +19,10 @@ returns c =
     let p = c .before .before .before .before .before .before .before .pre in
     let from = c .before .before .before .before .number .ensures in
     let to = c .before .before .before .number2 .ensures in
-    rw (c .seek .ensures, from, to, p .list .bound)
+    (refl, rw (c .seek .ensures, from, to, p .list .bound))
 
-pub seek-list-spec : {M : Type 1} → statement M
-seek-list-spec =
+pub seek-in-spec : {M : Type 1} → statement M
+seek-in-spec =
     tie.close
     (tie.spec
     (λ c κs. search needs)
