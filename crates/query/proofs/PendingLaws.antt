@@ -16,6 +16,7 @@ use Rattle.commonlaws.specs.Next.{Next, stop, plus, nextCommon, midway}
 use Rattle.commonlaws.proofs.AgreeLaws.{sought-first, sought-least}
 use Rattle.commonlaws.proofs.LoopLaws.{next-none, next-page, midway-end, midway-none, midway-larger, midway-same}
 use Rattle.query.specs.Lists.{span}
+use Rattle.query.specs.Queries.{listAfter}
 use Rattle.query.proofs.SpanLaws.{span-none, span-cons, span-split, span-snoc, span-same, span-ready}
 
 -- the rank at which a cursor is
@@ -23,10 +24,6 @@ unfoldable pub rankOf : Cursor → ℕ
 rankOf fresh = 0
 rankOf (on i) = i
 rankOf spent = 0
-
--- the list to be sought after number i was sought for b and found d: the lead again after a larger page, else the next
-unfoldable pub listAfter : ℕ → ℕ → ℕ → ℕ
-listAfter i b d = cond (ltb 0 i && ltb b d) 0 (i + 1)
 
 module _ (i b d : ℕ) where
   pub listAfter-larger : 0 < i → b < d → listAfter i b d ≡ 0

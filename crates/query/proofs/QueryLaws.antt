@@ -22,8 +22,8 @@ use Rattle.seek.proofs.MoveLaws.{moved-held, moved-rule, moved-seeks, moved-loo
 use Rattle.query.specs.declared.Query.{Query}
 use Rattle.query.specs.Lists.{pagesAt, boundIn, ListAt}
 use Rattle.query.specs.Queries.{cursorIn, withCursor, readerAt, leadIn, othersIn, movedIn, total, seeksOf}
-use Rattle.query.specs.Queries.{looksOf, Apt}
-use Rattle.query.proofs.PendingLaws.{listAfter, pending, Moves, pending-none, pending-page}
+use Rattle.query.specs.Queries.{looksOf, listAfter, seekOn, Apt}
+use Rattle.query.proofs.PendingLaws.{pending, Moves, pending-none, pending-page}
 use Rattle.query.proofs.ListLaws.{list-within, list-rises}
 
 -- ---- totals
@@ -64,9 +64,17 @@ at-some xs i = elim (ℕ-discrete i (length xs)) [
   | no e ↦ rw (ne-eqb i (length xs) e) (omega arith)
 ]
 
--- what is left of the next common page, with the seeks and looks so far in front
+-- what is left of the next common page
+abbrev pub toCome : List ℕ → List ℕ → ℕ → Query → ℕ → ℕ → Next
+toCome s sh k q i b = pending (boundIn sh) k (readerAt s sh q) i b
+
+-- that, with the seeks and looks so far in front
 abbrev pub left : List ℕ → List ℕ → ℕ → Query → ℕ → ℕ → Next
-left s sh k q i b = plus (seeksOf q) (looksOf q) (pending (boundIn sh) k (readerAt s sh q) i b)
+left s sh k q i b = plus (seeksOf q) (looksOf q) (toCome s sh k q i b)
+
+-- the query after its seeks
+abbrev pub endOf : List ℕ → List ℕ → ℕ → Query → ℕ → ℕ → Query
+endOf s sh k q i b = seekOn s sh (toCome s sh k q i b .seeks) q i b
 
 module _ (s sh : List ℕ) (k : ℕ) (q : Query) (b : ℕ) (a : Apt s sh k q b) (i : ℕ) (h : i < k) where
   list : ListAt s sh i
@@ -161,19 +169,41 @@ module _ (s sh : List ℕ) (k : ℕ) (q : Query) (b : ℕ) (a : Apt s sh k q b) 
   counted : (n : Next) → plus (seeksOf q) (looksOf q) (plus 1 (this .looks) n) ≡ plus (seeksOf after) (looksOf after) n
   counted n = plus-plus (seeksOf q) (looksOf q) 1 (this .looks) n ∙ rw (seek-seeks, seek-looks)
 
+  abbrev then : ℕ
+  then = next .mark - 1
+
+  here-none : next .mark ≡ spentMark → toCome s sh k q i b
+      ≡ plus 1 (this .looks) (stop none (leadIn s sh after) (othersIn s sh k after))
+  here-none e =
+      pending-none (boundIn sh) k b (readerAt s sh q) (readerAt s sh after) (a .ready) i h seek-moves (found-none e)
+
+  here-page : (next .mark ≡ spentMark → ⊥)
+      → toCome s sh k q i b ≡ plus 1 (this .looks) (toCome s sh k after (listAfter i b then) then)
+  here-page e = pending-page (boundIn sh) k b (readerAt s sh q) (readerAt s sh after) (a .ready) i h seek-moves then
+      (rankIn (boundIn sh) (pagesAt s sh i) next) (found-page e)
+
   pub left-none : next .mark ≡ spentMark
       → left s sh k q i b ≡ plus (seeksOf after) (looksOf after) (stop none (leadIn s sh after) (othersIn s sh k after))
   left-none e =
-      ap (plus (seeksOf q) (looksOf q))
-      (pending-none (boundIn sh) k b (readerAt s sh q) (readerAt s sh after) (a .ready) i h seek-moves (found-none e))
+      ap (plus (seeksOf q) (looksOf q)) (here-none e)
       ∙ counted (stop none (leadIn s sh after) (othersIn s sh k after))
 
   pub left-page : (next .mark ≡ spentMark → ⊥)
-      → left s sh k q i b ≡ left s sh k after (listAfter i b (next .mark - 1)) (next .mark - 1)
+      → left s sh k q i b ≡ left s sh k after (listAfter i b then) then
   left-page e =
-      ap (plus (seeksOf q) (looksOf q)) (pending-page (boundIn sh) k b (readerAt s sh q) (readerAt s sh after)
-      (a .ready) i h seek-moves (next .mark - 1) (rankIn (boundIn sh) (pagesAt s sh i) next) (found-page e))
-      ∙ counted (pending (boundIn sh) k (readerAt s sh after) (listAfter i b (next .mark - 1)) (next .mark - 1))
+      ap (plus (seeksOf q) (looksOf q)) (here-page e) ∙ counted (toCome s sh k after (listAfter i b then) then)
+
+  -- and the query that the seeks to come lead to
+  pub end-none : next .mark ≡ spentMark → endOf s sh k q i b ≡ after
+  unfolding plus stop
+  end-none e = rw (ap (λ (n : Next). n .seeks) (here-none e)) (unfold seekOn in refl)
+
+  pub end-page : (next .mark ≡ spentMark → ⊥) → endOf s sh k q i b ≡ endOf s sh k after (listAfter i b then) then
+  unfolding plus
+  end-page e =
+      let n : ℕ = toCome s sh k after (listAfter i b then) then .seeks in
+      let m : toCome s sh k q i b .seeks ≡ suc n = ap (λ (n : Next). n .seeks) (here-page e) ∙ omega arith in
+      rw m (unfold seekOn in refl)
 
   pub page-least : (next .mark ≡ spentMark → ⊥) → b ≤ next .mark - 1
   page-least e = sought-least (boundIn sh) b (readerAt s sh q i) (a .ready i h) (next .mark - 1)

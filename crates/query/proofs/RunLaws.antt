@@ -1,4 +1,4 @@
--- Laws of a run of seeks: the counts stay narrow, and the loop that finds the next common page comes to what the rule has.
+-- Laws of a run of seeks: the counts stay narrow, and the loop that finds the next common page comes to the rule's.
 use mathlib.Core.Path.{_≡_, refl, sym, ap, _∙_}
 use mathlib.Core.List.{List, _∷_}
 use Prim.Native.Nat.{ℕ, _+_, _-_, _*_, _^_, _≤_, _<_}
@@ -18,13 +18,14 @@ use Rattle.query.specs.declared.Query.{Query}
 use Rattle.query.specs.declared.Turn.{Turn}
 use Rattle.query.specs.Lists.{pagesAt, boundIn}
 use Rattle.query.specs.Queries.{cursorIn, withCursor, readerAt, leadIn, othersIn, movedIn, seeksOf, looksOf}
-use Rattle.query.specs.Queries.{markFound, nextFor, Seekable, Apt, Running, Turned}
+use Rattle.query.specs.Queries.{markFound, nextFor, listAfter, seekOn, Seekable, Apt, Running}
+use Rattle.query.specs.Queries.{Turned}
 use Rattle.query.proofs.SpanLaws.{length-span, span-cons, span-ready, span-pages}
-use Rattle.query.proofs.PendingLaws.{rankOf, listAfter, listAfter-larger, listAfter-same, listAfter-le, pending}
+use Rattle.query.proofs.PendingLaws.{rankOf, listAfter-larger, listAfter-same, listAfter-le, pending}
 use Rattle.query.proofs.PendingLaws.{pending-end}
 use Rattle.query.proofs.ListLaws.{list-within, list-length, span-words}
 use Rattle.query.proofs.QueryLaws.{total-at, left, seek-apt, seek-seeks, mark-some, left-none, left-page}
-use Rattle.query.proofs.QueryLaws.{page-least}
+use Rattle.query.proofs.QueryLaws.{toCome, endOf, end-none, end-page, page-least}
 
 pub apt-more : (s sh : List ℕ) (k : ℕ) (q : Query) (b d : ℕ) → Apt s sh k q b → b ≤ d → Apt s sh k q d
 apt-more s sh k q b d a l = record {
@@ -95,9 +96,10 @@ module _ (s sh : List ℕ) (k : ℕ) (q₀ : Query) (b₀ : ℕ) where
     pub apt : Apt s sh k q b
     pub within : i ≤ k
     pub same : left s sh k q i b ≡ left s sh k q₀ 0 b₀
+    pub ends : endOf s sh k q i b ≡ endOf s sh k q₀ 0 b₀
 
   pub midst-start : Running s sh k q₀ b₀ → Midst q₀ b₀ 0
-  midst-start r = record { running = r; apt = r .apt; within = omega arith; same = refl }
+  midst-start r = record { running = r; apt = r .apt; within = omega arith; same = refl; ends = refl }
 
   -- where it ends with the answer f
   module _ (f : Found) (t : Turn) (b : ℕ) (r : Running s sh k q₀ b₀) (a : Apt s sh k (t .q) b)
@@ -139,9 +141,11 @@ module _ (s sh : List ℕ) (k : ℕ) (q₀ : Query) (b₀ : ℕ) where
             looks = rw (lead-is, others-are) (omega (arith, seeks-are, looks-are, n .carried .paid, r .looks));
           }
 
-      pub turned-from : t .mark ≡ markFound f → ((c j : ℕ) → f ≡ page c j → b ≤ c) → Turned s sh k q₀ b₀ t
-      turned-from e h =
+      pub turned-from : t .q ≡ endOf s sh k q₀ 0 b₀ → t .mark ≡ markFound f → ((c j : ℕ) → f ≡ page c j → b ≤ c)
+          → Turned s sh k q₀ b₀ t
+      turned-from p e h =
           let n = next-narrow s sh k q₀ b₀ r in record {
+            query = unfold pending in p;
             eight = a .eight;
             mark = e ∙ ap markFound found-is;
             lead = lead-is;
@@ -169,10 +173,14 @@ module _ (s sh : List ℕ) (k : ℕ) (q₀ : Query) (b₀ : ℕ) where
   midst-end : (q : Query) (b i : ℕ) → Midst q b i → k ≤ i → Turned s sh k q₀ b₀ (record { q = q; mark = b + 1 })
   midst-end q b i m h =
       let e : i ≡ k = omega (arith, m .within) in
-      let end =
-      ap (plus (seeksOf q) (looksOf q)) (pending-end (boundIn sh) k b (readerAt s sh q) (m .apt .lists .some)) in
+      let p = pending-end (boundIn sh) k b (readerAt s sh q) (m .apt .lists .some) in
+      let end = ap (plus (seeksOf q) (looksOf q)) p in
+      let none-left : toCome s sh k q k b .seeks ≡ 0 =
+      ap (λ (n : Next). n .seeks) p ∙ (unfold stop in refl) in
+      let stays : endOf s sh k q k b ≡ q = rw none-left (unfold seekOn in refl) in
       turned-from (page b (rankOf (leadIn s sh q .cursor))) (record { q = q; mark = b + 1 }) b (m .running) (m .apt)
-      (sym end ∙ rw e at (m .same)) (unfold markFound in refl) (λ c j z. let x : b ≡ c = cc in omega arith)
+      (sym end ∙ rw e at (m .same)) (sym stays ∙ rw e at (m .ends)) (unfold markFound in refl)
+      (λ c j z. let x : b ≡ c = cc in omega arith)
 
   module _ (q : Query) (b i : ℕ) (m : Midst q b i) where
     pub midst-seekable : i < k → Seekable s sh i (cursorIn q i)
@@ -198,7 +206,8 @@ module _ (s sh : List ℕ) (k : ℕ) (q₀ : Query) (b₀ : ℕ) where
             mark = movedIn s sh i (cursorIn q i) b .mark;
           }) b (m .running)
           (seek-apt s sh k q b (m .apt) i h b (omega arith)) (sym (left-none s sh k q b (m .apt) i h e) ∙ m .same)
-          (e ∙ (unfold markFound in refl)) (λ c j z. let x : _≡_ {A = ℕ} 0 1 = cc in absurd (omega arith)))
+          (sym (end-none s sh k q b (m .apt) i h e) ∙ m .ends) (e ∙ (unfold markFound in refl))
+          (λ c j z. let x : _≡_ {A = ℕ} 0 1 = cc in absurd (omega arith)))
 
       pub midst-some : 0 < c .mark
       midst-some = rw w (mark-some s sh k q b (m .apt) i h)
@@ -212,6 +221,7 @@ module _ (s sh : List ℕ) (k : ℕ) (q₀ : Query) (b₀ : ℕ) where
             (page-least s sh k q b (m .apt) i h e);
         within = l;
         same = rw (← a) (sym (left-page s sh k q b (m .apt) i h e) ∙ m .same);
+        ends = rw (← a) (sym (end-page s sh k q b (m .apt) i h e) ∙ m .ends);
       })
 
       -- a seek more, of as many as there may be

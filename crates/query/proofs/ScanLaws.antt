@@ -1,4 +1,4 @@
--- Laws of going over the common pages: the pages before the present one are listed, and the present one is being sought.
+-- Laws of going over the common pages: the pages before the present one are listed, and the present one is sought.
 use mathlib.Core.Bool.{Bool, true, false, false≢true}
 use mathlib.Core.Path.{_≡_, refl, sym, ap, _∙_}
 use mathlib.Core.List.{List, [], _∷_, _++_}

@@ -1,7 +1,7 @@
--- What the mark of a next common page says:
--- none, or the page of the rule's answer; and that fewer of the lead are left.
+-- What the mark of a next common page says: none, or the page of the rule's answer; that fewer of the lead are left;
+-- and that one query and mark alone come of it.
 use mathlib.Core.Bool.{true}
-use mathlib.Core.Path.{_≡_, refl, ap, _∙_}
+use mathlib.Core.Path.{_≡_, refl, sym, ap, ap₂, _∙_}
 use mathlib.Core.List.{List}
 use Prim.Native.Nat.{ℕ, _+_, _<_}
 use native.Mathlib.Omega.{arith}
@@ -52,3 +52,8 @@ module _ (s sh : List ℕ) (k : ℕ) (q : Query) (b : ℕ) (a : Apt s sh k q b) 
         let p = turned-page h in
         let hit = rw (p .3) at (came s sh k q b a .ends) in
         rw (u .lead, came s sh k q b a .carried .lead-pages, p .2) (hit .fewer)
+
+pub turned-unique : (s sh : List ℕ) (k : ℕ) (q : Query) (b : ℕ) (t t′ : Turn) → Turned s sh k q b t
+    → Turned s sh k q b t′ → t ≡ t′
+turned-unique s sh k q b t t′ u u′ = ap₂ (λ (r : Query) (m : ℕ). record { q = r; mark = m })
+    (u .query ∙ sym (u′ .query)) (u .mark ∙ sym (u′ .mark))

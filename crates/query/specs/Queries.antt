@@ -11,13 +11,19 @@
 --   seeksOf q, looksOf q  the seeks and the looks of all cursors
 --   markFound a         the mark of an answer: page + 1, or spentMark
 --   nextFor s sh k q b  the next page at or above b that the k lists share, as the step rule finds it
+--   listAfter i b d     the list to be sought after number i was sought for b and found d: the lead again after a
+--                       larger page, else the next
+--   seekOn s sh n q i b the query after n seeks: of list i for b, and each later one of listAfter for the page found
 --   Seekable s sh i c   c is a cursor that seeks on list i have made, and its counts have room for one more
---   Apt s sh k q b      the cursors on the k lists are such, and none has passed a page from b on
+--   Apt s sh k q b      the k lists are there, seeks on them made their cursors, and none has passed a page from b on
 --   Running s sh k q b  so, and no count will wrap
---   Turned s sh k q b t t is the query after its next page at or above b, with the mark of that page
+--   Turned s sh k q b t t is the query after the seeks for its next page at or above b, with the mark of that page: its
+--                       readers and totals are the rule's, and from behind a page that was found it is Running
+use mathlib.Core.Bool.{cond, _&&_}
 use mathlib.Core.Path.{_≡_}
 use mathlib.Core.List.{List, [], _∷_}
-use Prim.Native.Nat.{ℕ, _+_, _-_, _*_, _^_, _≤_, _<_}
+use Prim.Native.Nat.{ℕ, zero, suc, _+_, _-_, _*_, _^_, _≤_, _<_}
+use lib.Dec.{ltb}
 use lib.ListN.{length, getD, set, replicate}
 use Rattle.rules.specs.Seek.{Found, none, page}
 use Rattle.rules.specs.Common.{Reader}
@@ -67,6 +73,15 @@ markFound (page c _) = c + 1
 abbrev pub nextFor : List ℕ → List ℕ → ℕ → Query → ℕ → Next
 nextFor s sh k q b = nextCommon (boundIn sh) (leadIn s sh q) (othersIn s sh k q) b
 
+unfoldable pub listAfter : ℕ → ℕ → ℕ → ℕ
+listAfter i b d = cond (ltb 0 i && ltb b d) 0 (i + 1)
+
+unfoldable pub seekOn : List ℕ → List ℕ → ℕ → Query → ℕ → ℕ → Query
+seekOn s sh zero q i b = q
+seekOn s sh (suc n) q i b =
+    let c : Cursor = movedIn s sh i (cursorIn q i) b in
+    seekOn s sh n (withCursor q i c) (listAfter i b (c .mark - 1)) (c .mark - 1)
+
 pub record Seekable (s sh : List ℕ) (i : ℕ) (c : Cursor) : Type 0 where
   pub list : ListAt s sh i
   pub held : Held (boundIn sh) (pagesAt s sh i) c
@@ -86,6 +101,7 @@ pub record Running (s sh : List ℕ) (k : ℕ) (q : Query) (b : ℕ) : Type 0 wh
   pub looks : looksOf q ≤ seeksOf q + reachedBy (boundIn sh) (leadIn s sh q ∷ othersIn s sh k q)
 
 pub record Turned (s sh : List ℕ) (k : ℕ) (q : Query) (b : ℕ) (t : Turn) : Type 0 where
+  pub query : t .q ≡ seekOn s sh (nextFor s sh k q b .seeks) q 0 b
   pub eight : length (t .q .cursors) ≡ 8
   pub mark : t .mark ≡ markFound (nextFor s sh k q b .found)
   pub lead : leadIn s sh (t .q) ≡ nextFor s sh k q b .lead

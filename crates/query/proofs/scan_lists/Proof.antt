@@ -1,4 +1,4 @@
--- `scan_lists` seeks list by list; the pages before the present one are listed. The measure is the seeks that may follow.
+-- `scan_lists` seeks list by list; the pages before the present one are listed. The measure: the seeks that may follow.
 use mathlib.Core.Bool.{false≢true}
 use mathlib.Core.Logic.{inl, inr}
 use mathlib.Core.Path.{sym, _∙_}
