@@ -9,16 +9,17 @@ use native.Mathlib.Omega.{arith}
 use lib.ListN.{length, getD, take}
 use Rattle.rules.specs.List.{rising}
 use Rattle.rules.specs.Term.{next}
-use Rattle.rules.specs.ReadList.{decode}
+use Rattle.rules.specs.ReadList.{listU, decode}
+use Rattle.rules.specs.Seek.{placeOf}
 use Rattle.laws.proofs.CountLaws.{below-none, below-suc}
 use Rattle.shape.specs.declared.Shape.{Shape}
 use Rattle.seeklaws.specs.Cursors.{firstAt}
 use Rattle.seeklaws.proofs.FirstLaws.{rising-lt, rising-below, firstAt-unique}
 use Rattle.readlist.specs.Open.{Open, OneAt}
 use Rattle.readlist.proofs.ReadLaws.{one-ranks}
-use Rattle.seek.proofs.OpenLaws.{open-length}
+use Rattle.seek.proofs.OpenLaws.{open-length, open-ruled, placed-at}
 use Rattle.span.specs.declared.Walk.{Walk}
-use Rattle.span.specs.Walks.{past, WalkOn, PassedTo, Passing}
+use Rattle.span.specs.Walks.{past, behind, WalkOn, PassedTo, Passing}
 
 -- ---- one past the first elements
 
@@ -76,6 +77,10 @@ first-past U xs r (suc i) h =
 
 -- ---- where reading stands
 
+behind-some : (U : ℕ) (xs : List ℕ) (i : ℕ) → behind U xs (i + 1) ≡ placeOf U xs i + 1
+unfolding behind
+behind-some U xs i = rw (add-one i)
+
 module _ (s : List ℕ) (g : Shape) (o : Open s g) where
   -- at the start
   pub walk-new : WalkOn s g (record { next = 0; past = 0; place = 0 })
@@ -83,6 +88,7 @@ module _ (s : List ℕ) (g : Shape) (o : Open s g) where
     opened = o;
     within = omega arith;
     past-is = sym (past-none (decode s));
+    place-is = unfold behind in refl;
     counted = below-none s (g .upper);
   }
 
@@ -92,16 +98,28 @@ module _ (s : List ℕ) (g : Shape) (o : Open s g) where
   walk-past rank place value one e =
       let r = one-ranks s g o place rank one in
       let d : rank + 1 - 1 ≡ rank = omega arith in
+      let stands : placeOf (listU s) (decode s) rank ≡ place =
+      open-ruled s g o (omega (arith, r .number)) .place-is rank
+      ∙ placed-at s g o place rank (one .set) (one .below) in
       let p = rw d at (past-some (decode s) (rank + 1) (omega arith) (omega (arith, r .number, open-length s g o))) in
       record {
         on = record {
           opened = o;
           within = omega (arith, r .number);
           past-is = ap (λ (v : ℕ). v + 1) e ∙ sym p;
+          place-is = ap (λ (v : ℕ). v + 1) (sym stands) ∙ sym (behind-some (listU s) (decode s) rank);
           counted = rw (add-one place) (omega (arith, below-suc s (g .upper) place, one .set, one .below));
         };
         at = refl;
       }
+
+-- as many elements passed, it stands at the same place
+pub passed-unique : (s : List ℕ) (g : Shape) (n : ℕ) (w r : Walk) → PassedTo s g n w → PassedTo s g n r → w ≡ r
+passed-unique s g n w r p q =
+    let e : w .next ≡ r .next = p .at ∙ sym (q .at) in
+    let d = p .on .past-is ∙ ap (past (decode s)) e ∙ sym (q .on .past-is) in
+    let f = p .on .place-is ∙ ap (behind (listU s) (decode s)) e ∙ sym (q .on .place-is) in
+    rw (← e, ← d, ← f)
 
 -- one more is passed where all that are passed lie below b
 pub passing-on : (s : List ℕ) (g : Shape) (to b : ℕ) (w r : Walk) → Passing s g to b w → w .next < to → w .past ≤ b
