@@ -2,5 +2,8 @@ pub mod WriteLaws
 pub mod AskLaws
 pub mod KindLaws
 pub mod PlainLaws
+pub mod FirstLaws
+pub mod SentenceLaws
 pub mod Demands
+pub mod Refusals
 pub mod Witnesses

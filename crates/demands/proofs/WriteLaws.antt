@@ -17,7 +17,7 @@ use Rattle.rules.specs.List.{rising, validList, block}
 use Rattle.rules.specs.Write.{Made, refused, laid, stored, writeList}
 use Rattle.rules.specs.Term.{Word, next, places, validWord, termBlock, writeTerm}
 use Rattle.rules.specs.Index.{closeRefusal, closeIndex}
-use Rattle.laws.proofs.RefusalLaws.{number-inj, true-accepted}
+use Rattle.laws.proofs.RefusalLaws.{number-inj, accepted-true, true-accepted}
 use Rattle.laws.proofs.RoomLaws.{success, made-passed, stored-fits, fits-stored}
 use Rattle.listlaws.proofs.ValidLaws.{valid-from, valid-parts}
 use Rattle.termlaws.specs.Words.{Writable}
@@ -80,6 +80,17 @@ close-keeps buffer used N T =
     keeps-cond buffer (accepted (closeRefusal buffer used N T)) _ _
     (λ n. absurd (n refl)) (keeps-refused buffer (closeRefusal buffer used N T))
 
+-- closing gives its refusal
+pub close-gives : (buffer : List ℕ) (used N T : ℕ)
+    → closeIndex buffer used N T .refusal ≡ closeRefusal buffer used N T
+unfolding closeIndex
+close-gives buffer used N T = go (accepted (closeRefusal buffer used N T)) refl
+  where
+    go : (b : Bool) → accepted (closeRefusal buffer used N T) ≡ b
+        → closeIndex buffer used N T .refusal ≡ closeRefusal buffer used N T
+    go true e = rw e (sym (accepted-true (closeRefusal buffer used N T) e))
+    go false e = rw e
+
 -- ---- written
 
 -- closing reports the used length
@@ -120,7 +131,7 @@ from-writable N t w = (w .valid, w .within, w .reach)
 -- ---- what a host is told of it
 
 module _ (m : Made) (r : HostWritten) (after : List ℕ) (p : toldOf r after ≡ told m) where
-  is-refusal : r .refusal ≡ number (m .refusal)
+  pub is-refusal : r .refusal ≡ number (m .refusal)
   is-refusal = ap (λ (t : Told). t .refusal) p
 
   pub told-accepts : r .refusal ≡ 0 → m .refusal ≡ Accepted

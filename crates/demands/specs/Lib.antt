@@ -1,1 +1,4 @@
 pub mod Asking
+pub mod Faults
+pub mod BadQuestions
+pub mod Sentences
