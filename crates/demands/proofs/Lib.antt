@@ -4,6 +4,7 @@ pub mod KindLaws
 pub mod PlainLaws
 pub mod FirstLaws
 pub mod SentenceLaws
+pub mod FaultLaws
 pub mod Demands
 pub mod Refusals
 pub mod Witnesses
