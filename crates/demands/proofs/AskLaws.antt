@@ -1,25 +1,18 @@
 -- A run of questions by document 01's definitions: the answers that fit, the three ways that it ends, and how questions
 -- that a host writes one after the other are read.
-use mathlib.Core.Bool.{Bool, true, false, cond, not, _||_, false≢true}
+use mathlib.Core.Bool.{Bool, true, false, cond, not, false≢true}
 use mathlib.Core.Path.{_≡_, refl, sym, ap, _∙_}
 use mathlib.Core.List.{List, [], _∷_}
-use Prim.Native.Nat.{ℕ, zero, suc, _+_, _-_, _≤_, _<_}
+use Prim.Native.Nat.{ℕ, suc, _+_, _-_, _≤_, _<_}
 use native.Mathlib.Decide.{decLt}
 use native.Mathlib.Omega.{arith}
 use borrow.Author.Tests.{le-leb, lt-leb, ltb-true, ltb-false, le-ltb}
-use lib.Dec.{ltb, eqb}
-use lib.ListN.{length, getD, take, drop, length-append}
+use lib.Dec.{ltb}
+use lib.ListN.{length, take, length-append}
 use lib.Seq.{take-all, take-append-seam, drop-append-seam}
-use Rattle.rules.specs.declared.Refusal.{Refusal}
-use Rattle.rules.specs.declared.Refusal.the-variants.{Accepted, Short, Length, Version, Limit, Layout, Runs, Parts}
-use Rattle.rules.specs.declared.Refusal.the-variants.{Question, Room}
+use Rattle.rules.specs.declared.Refusal.the-variants.{Accepted, Question, Room}
 use Rattle.rules.specs.Refusal.{number, accepted, andThen}
-use Rattle.rules.specs.Limits.{limit, termLimit, version, listHeader, termHeader, indexHeader}
-use Rattle.rules.specs.List.{size}
-use Rattle.rules.specs.ReadList.{stated, listU, listN, decode, isBlock, listRefusal}
-use Rattle.rules.specs.Parts.{after, inside}
-use Rattle.rules.specs.ReadTerm.{listsOf, pagesOf, disagree, termRefusal}
-use Rattle.rules.specs.Index.{indexN, indexT, termsRefusal, indexRefusal}
+use Rattle.rules.specs.Index.{indexT, indexRefusal}
 use Rattle.rules.specs.Write.{laid}
 use Rattle.rules.specs.Questions.{kindOf, countOf, argsOf, behind, wellFormed, replies}
 use Rattle.rules.specs.Ask.{Replied, fitting, fitted, reply, joined, put, ask}
@@ -29,6 +22,10 @@ use Rattle.questions.proofs.FrontLaws.{formed-front}
 use Rattle.jundefola.specs.declared.HostAsked.{HostAsked}
 use Rattle.jundefola.specs.Host.{Heard, HostAnswered}
 use Rattle.demands.specs.Asking.{Query, written, Good}
+use Rattle.demands.specs.Sentences.{First, indexSentences, asking}
+use Rattle.demands.proofs.FirstLaws.{Tests, first-end, first-then}
+use Rattle.demands.proofs.SentenceLaws.{test, index-first, index-refuses, index-most}
+use Rattle.demands.proofs.BadLaws.{tests-bad}
 
 -- ---- the answers that fit
 
@@ -73,76 +70,6 @@ fits (a ∷ rest) n = elim (decLt n (length a)) [
               rw next (omega (arith, f .most (omega arith))));
           all = λ k. y ∙ ap (λ (l : List (List ℕ)). a ∷ l) (f .all (omega (arith, length-append a (joined rest))));
         }
-
--- ---- reading bytes is never refused for want of room
-
-abbrev NotRoom : Refusal → Type 0
-NotRoom r = r ≡ Room → ⊥
-
-other : (r : Refusal) → number r < 9 → NotRoom r
-other r h e = omega (arith, ap number e)
-
-cond-not : (b : Bool) (r q : Refusal) → NotRoom r → NotRoom q → NotRoom (cond b r q)
-cond-not true r q e f = e
-cond-not false r q e f = f
-
-then-not : (r q : Refusal) → NotRoom r → NotRoom q → NotRoom (andThen r q)
-unfolding andThen
-then-not r q e f = cond-not (accepted r) q r f e
-
-inside-not : (h : ℕ) (f : List ℕ → Refusal) → ((s : List ℕ) → NotRoom (f s)) → (s : List ℕ) → NotRoom (inside h f s)
-unfolding inside
-inside-not h f n s =
-    cond-not (ltb (length s) h) _ _ (other Short (omega arith))
-    (cond-not (ltb (stated s) h || ltb (length s) (stated s)) _ _ (other Length (omega arith)) (n (take (stated s) s)))
-
-list-not : (s : List ℕ) → NotRoom (listRefusal s)
-unfolding listRefusal
-list-not s =
-    cond-not (ltb (length s) listHeader) _ _ (other Short (omega arith))
-    (cond-not (not (eqb (stated s) (length s))) _ _ (other Length (omega arith))
-    (cond-not (not (eqb (getD s 4 0) version)) _ _ (other Version (omega arith))
-    (cond-not (ltb limit (listU s)) _ _ (other Limit (omega arith))
-    (cond-not (ltb (listU s) (listN s) || not (eqb (length s) (size (listU s) (listN s)))) _ _
-    (other Layout (omega arith))
-    (cond-not (not (isBlock s (listU s) (decode s))) _ _ (other Runs (omega arith)) (other Accepted (omega arith)))))))
-
-term-not : (s : List ℕ) → NotRoom (termRefusal s)
-unfolding termRefusal
-term-not s =
-    cond-not (ltb (length s) termHeader) _ _ (other Short (omega arith))
-    (cond-not (not (eqb (stated s) (length s))) _ _ (other Length (omega arith))
-    (cond-not (not (eqb (getD s 4 0) version)) _ _ (other Version (omega arith))
-    (then-not (inside listHeader listRefusal (listsOf s)) _ (inside-not listHeader listRefusal list-not (listsOf s))
-    (then-not (inside listHeader listRefusal (after 1 (listsOf s))) _
-    (inside-not listHeader listRefusal list-not (after 1 (listsOf s)))
-    (then-not (inside listHeader listRefusal (after 2 (listsOf s))) _
-    (inside-not listHeader listRefusal list-not (after 2 (listsOf s)))
-    (cond-not (ltb 0 (length (after 3 (listsOf s)))) _ _ (other Layout (omega arith))
-    (cond-not (disagree s) _ _ (other Parts (omega arith)) (other Accepted (omega arith)))))))))
-
-terms-not : (T N : ℕ) (s : List ℕ) → NotRoom (termsRefusal T N s)
-unfolding termsRefusal
-terms-not zero N s = cond-not (ltb 0 (length s)) _ _ (other Layout (omega arith)) (other Accepted (omega arith))
-terms-not (suc T) N s =
-    go (terms-not T N (drop (stated s) s))
-    (accepted (inside termHeader termRefusal s)) refl (eqb (listU (pagesOf (take (stated s) s))) N) refl
-  where
-    go : NotRoom (termsRefusal T N (drop (stated s) s))
-        → (b : Bool) → accepted (inside termHeader termRefusal s) ≡ b
-        → (c : Bool) → eqb (listU (pagesOf (take (stated s) s))) N ≡ c → NotRoom (termsRefusal (suc T) N s)
-    go n false e c f = rw (e, termsRefusal) (inside-not termHeader termRefusal term-not s)
-    go n true e false f = rw (e, f, termsRefusal) (other Parts (omega arith))
-    go n true e true f = rw (e, f, termsRefusal) n
-
-index-not : (s : List ℕ) → NotRoom (indexRefusal s)
-unfolding indexRefusal
-index-not s =
-    cond-not (ltb (length s) indexHeader) _ _ (other Short (omega arith))
-    (cond-not (not (eqb (stated s) (length s))) _ _ (other Length (omega arith))
-    (cond-not (not (eqb (getD s 4 0) version)) _ _ (other Version (omega arith))
-    (cond-not (ltb limit (indexN s) || ltb termLimit (indexT s)) _ _ (other Limit (omega arith))
-    (terms-not (indexT s) (indexN s) (drop indexHeader s)))))
 
 -- ---- the ways that a run ends
 
@@ -213,8 +140,8 @@ module _ (s qs : List ℕ) (n : ℕ) where
   reply-room =
       let P : Replied → Type 0 = λ r. r .refusal ≡ Room
       → Passes × (r .answers ≡ fitting n given) × (length (fitting n given) < length given) in
-      by-end P (λ x e. absurd (index-not s e)) (λ e. absurd (other Question (omega arith) e))
-      (λ p. by-fit P (λ l e. (p, refl, l)) (λ a l e. absurd (other Accepted (omega arith) e)))
+      by-end P (λ x e. absurd (omega (arith, index-most s, ap number e))) (λ e. absurd (omega (arith, ap number e)))
+      (λ p. by-fit P (λ l e. (p, refl, l)) (λ a l e. absurd (omega (arith, ap number e))))
 
   pub reply-all : reply s qs n .refusal ≡ Accepted
       → Passes × (reply s qs n .answers ≡ given) × (length (joined given) ≤ n)
@@ -222,11 +149,50 @@ module _ (s qs : List ℕ) (n : ℕ) where
       let P : Replied → Type 0 = λ r. r .refusal ≡ Accepted
       → Passes × (r .answers ≡ given) × (length (joined given) ≤ n) in
       by-end P (λ x e. absurd (x e)) (λ e. absurd (omega (arith, ap number e)))
-      (λ p. by-fit P (λ l e. absurd (other Accepted (omega arith) (sym e))) (λ a l e. (p, refl, l)))
+      (λ p. by-fit P (λ l e. absurd (omega (arith, ap number e))) (λ a l e. (p, refl, l)))
 
   pub all-reply : Passes → length (joined given) ≤ n → reply s qs n ≡ record { refusal = Accepted; answers = given }
   unfolding fitted
   all-reply p l = reply-passed p ∙ rw (fits given n .all l, le-ltb (length given) (length given) (omega arith))
+
+  -- ---- by the first sentence that holds
+
+  reply-then : reply s qs n .refusal ≡ andThen (indexRefusal s)
+      (cond (not (wellFormed (indexT s) (length qs) qs)) Question
+      (cond (ltb (length (fitting n given)) (length given)) Room Accepted))
+  unfolding reply fitted andThen
+  reply-then = go (accepted (indexRefusal s)) (wellFormed (indexT s) (length qs) qs)
+    where
+      go : (a b : Bool) → cond (not a) (record { refusal = indexRefusal s; answers = [] })
+          (cond (not b) (record { refusal = Question; answers = [] }) (fitted n given)) .refusal
+          ≡ cond a (cond (not b) Question (cond (ltb (length (fitting n given)) (length given)) Room Accepted))
+          (indexRefusal s)
+      go false b = refl
+      go true false = refl
+      go true true = refl
+
+  tests-fit : Tests (ltb (length (fitting n given)) (length given)) (n < length (joined given))
+  tests-fit =
+      let k : ℕ = length (fitting n given) in
+      let f = fits given n in (
+        λ e. elim (decLt n (length (joined given))) [
+          | yes h ↦ h
+          | no h ↦ absurd (omega (arith, ltb-true k (length given) e, ap length (f .all (omega arith))))
+        ],
+        λ e h.
+            let l = ltb-false k (length given) e in
+            let all : fitting n given ≡ given = f .first ∙ take-all k given l in
+            omega (arith, rw all at (f .within)),
+      )
+
+-- the card's sentences, then those of the run
+pub reply-first : (s qs room : List ℕ) → First (number (reply s qs (length room) .refusal)) (asking s qs room)
+reply-first s qs room =
+    let n : ℕ = length room in
+    let more : Bool = ltb (length (fitting n (given s qs n))) (length (given s qs n)) in
+    rw (reply-then s qs n) (first-then 7 _ _ (indexSentences s) _ (index-refuses s) (index-first s)
+    (λ a. test (not (wellFormed (indexT s) (length qs) qs)) _ _ _ _ (tests-bad (indexT s) qs)
+    (λ b. test more _ _ _ _ (tests-fit s qs n) (λ c. first-end))))
 
 -- ---- what a host reads off
 

@@ -25,7 +25,7 @@ use Rattle.demands.specs.Sentences.{Sentence, _when_, First, listWriting
 use Rattle.demands.proofs.FirstLaws.{Tests, tests-lt, tests-differ, first-end, first-test, first-and}
 
 -- a test that finds no fault, and what it says where it finds one
-tests-not : (b : Bool) (P : Type 0) → (b ≡ false → P) → (b ≡ true → P → ⊥) → Tests (not b) P
+pub tests-not : (b : Bool) (P : Type 0) → (b ≡ false → P) → (b ≡ true → P → ⊥) → Tests (not b) P
 tests-not b P f g = (λ e. f (not-true b e), λ e. g (not-false b e))
 
 -- ---- a list in order, and below a bound
@@ -60,13 +60,13 @@ tests-order xs = tests-not (inOrder 0 xs) (OutOfOrder xs)
     (λ e. elim (order-some 0 xs e) [ inl a ↦ absurd (omega (arith, a .1)) | inr a ↦ a ])
     (λ e o. order-none 0 xs e (o .0) (o .1) (o .2))
 
-below-none : (U : ℕ) (xs : List ℕ) → allBelow U xs ≡ true → (i : ℕ) → i < length xs → U ≤ getD xs i 0 → ⊥
+pub below-none : (U : ℕ) (xs : List ℕ) → allBelow U xs ≡ true → (i : ℕ) → i < length xs → U ≤ getD xs i 0 → ⊥
 unfolding allBelow
 below-none U [] e i h l = omega arith
 below-none U (x ∷ xs) e zero h l = omega (arith, ltb-true x U (and-parts (ltb x U) (allBelow U xs) e .0))
 below-none U (x ∷ xs) e (suc i) h l = below-none U xs (and-parts (ltb x U) (allBelow U xs) e .1) i (omega arith) l
 
-below-some : (U : ℕ) (xs : List ℕ) → allBelow U xs ≡ false → NotBelow U xs
+pub below-some : (U : ℕ) (xs : List ℕ) → allBelow U xs ≡ false → NotBelow U xs
 unfolding allBelow
 below-some U [] e = absurd (true≢false e)
 below-some U (x ∷ xs) e = go (below-some U xs) (ltb x U) refl

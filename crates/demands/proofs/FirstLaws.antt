@@ -30,10 +30,10 @@ first-exactly ps r f k = (λ e. rw (← e) f, λ g. first-unique ps r k f g)
 
 -- ---- none, and an append
 
--- each sentence refuses
-abbrev pub Refuses : List Sentence → Type 0
-Refuses [] = Unit {0}
-Refuses (p ∷ ps) = (0 < number (p .refusal)) × Refuses ps
+-- each sentence refuses, with n at most
+abbrev pub Refuses : ℕ → List Sentence → Type 0
+Refuses n [] = Unit {0}
+Refuses n (p ∷ ps) = (0 < number (p .refusal)) × (number (p .refusal) ≤ n) × Refuses n ps
 
 -- none of them holds
 abbrev pub None : List Sentence → Type 0
@@ -41,54 +41,60 @@ None [] = Unit {0}
 None (p ∷ ps) = (p .holds → ⊥) × None ps
 
 -- 0 is given exactly when none holds
-zero-none : (ps : List Sentence) → Refuses ps → First 0 ps → None ps
+zero-none : (n : ℕ) (ps : List Sentence) → Refuses n ps → First 0 ps → None ps
 unfolding First
-zero-none [] r f = tt
-zero-none (p ∷ ps) r (inl a) = absurd (omega (arith, r .0, a .1))
-zero-none (p ∷ ps) r (inr a) = (a .0, zero-none ps (r .1) (a .1))
+zero-none n [] r f = tt
+zero-none n (p ∷ ps) r (inl a) = absurd (omega (arith, r .0, a .1))
+zero-none n (p ∷ ps) r (inr a) = (a .0, zero-none n ps (r .2) (a .1))
 
 none-zero : (ps : List Sentence) → None ps → First 0 ps
 unfolding First
 none-zero [] n = refl
 none-zero (p ∷ ps) n = inr (n .0, none-zero ps (n .1))
 
-pub first-none : (ps : List Sentence) → Refuses ps → First 0 ps ↔ None ps
-first-none ps r = (zero-none ps r, none-zero ps)
+pub first-none : (n : ℕ) (ps : List Sentence) → Refuses n ps → First 0 ps ↔ None ps
+first-none n ps r = (zero-none n ps r, none-zero ps)
+
+pub first-most : (n : ℕ) (ps : List Sentence) (k : ℕ) → Refuses n ps → First k ps → k ≤ n
+unfolding First
+first-most n [] k r f = omega arith
+first-most n (p ∷ ps) k r (inl a) = omega (arith, r .1, a .1)
+first-most n (p ∷ ps) k r (inr a) = first-most n ps k (r .2) (a .1)
 
 -- the first of two lists of sentences: that of the one, or of the other where none of the one holds
 module _ (qs : List Sentence) (k : ℕ) where
   pub first-stay : (ps : List Sentence) → (k ≡ 0 → ⊥) → First k ps → First k (ps ++ qs)
   unfolding First
-  first-stay [] n f = absurd (n f)
-  first-stay (p ∷ ps) n (inl a) = inl a
-  first-stay (p ∷ ps) n (inr a) = inr (a .0, first-stay ps n (a .1))
+  first-stay [] z f = absurd (z f)
+  first-stay (p ∷ ps) z (inl a) = inl a
+  first-stay (p ∷ ps) z (inr a) = inr (a .0, first-stay ps z (a .1))
 
   pub first-skip : (ps : List Sentence) → None ps → First k qs → First k (ps ++ qs)
   unfolding First
-  first-skip [] n f = f
-  first-skip (p ∷ ps) n f = inr (n .0, first-skip ps (n .1) f)
+  first-skip [] none f = f
+  first-skip (p ∷ ps) none f = inr (none .0, first-skip ps (none .1) f)
 
-  first-split : (ps : List Sentence) → Refuses ps → First k (ps ++ qs)
+  first-split : (n : ℕ) (ps : List Sentence) → Refuses n ps → First k (ps ++ qs)
       → (First k ps × (k ≡ 0 → ⊥)) ⊎ (None ps × First k qs)
   unfolding First
-  first-split [] r f = inr (tt, f)
-  first-split (p ∷ ps) r (inl a) = inl (inl a, λ z. omega (arith, r .0, a .1))
-  first-split (p ∷ ps) r (inr a) = elim (first-split ps (r .1) (a .1)) [
+  first-split n [] r f = inr (tt, f)
+  first-split n (p ∷ ps) r (inl a) = inl (inl a, λ z. omega (arith, r .0, a .1))
+  first-split n (p ∷ ps) r (inr a) = elim (first-split n ps (r .2) (a .1)) [
     | inl b ↦ inl (inr (a .0, b .0), b .1)
     | inr b ↦ inr ((a .0, b .0), b .1)
   ]
 
-  pub first-append : (ps : List Sentence) → Refuses ps
+  pub first-append : (n : ℕ) (ps : List Sentence) → Refuses n ps
       → First k (ps ++ qs) ↔ ((First k ps × (k ≡ 0 → ⊥)) ⊎ (None ps × First k qs))
-  first-append ps r = (first-split ps r, back)
+  first-append n ps r = (first-split n ps r, back)
     where
       back : (First k ps × (k ≡ 0 → ⊥)) ⊎ (None ps × First k qs) → First k (ps ++ qs)
       back (inl a) = first-stay ps (a .1) (a .0)
       back (inr a) = first-skip ps (a .0) (a .1)
 
-pub refuses-append : (ps qs : List Sentence) → Refuses ps → Refuses qs → Refuses (ps ++ qs)
-refuses-append [] qs r q = q
-refuses-append (p ∷ ps) qs r q = (r .0, refuses-append ps qs (r .1) q)
+pub refuses-append : (n : ℕ) (ps qs : List Sentence) → Refuses n ps → Refuses n qs → Refuses n (ps ++ qs)
+refuses-append n [] qs r q = q
+refuses-append n (p ∷ ps) qs r q = (r .0, r .1, refuses-append n ps qs (r .2) q)
 
 -- ---- tests in a row
 
@@ -132,14 +138,14 @@ module _ (A : Type 0) (f : A → ℕ) (x y : A) (R : Refusal) (P : Type 0) (ps :
   first-and true b t g = inr (t .1 refl, g refl)
 
 -- one refusal, and then another
-pub first-then : (r q : Refusal) (ps qs : List Sentence) → Refuses ps → First (number r) ps
+pub first-then : (n : ℕ) (r q : Refusal) (ps qs : List Sentence) → Refuses n ps → First (number r) ps
     → (r ≡ Accepted → First (number q) qs) → First (number (andThen r q)) (ps ++ qs)
-first-then r q ps qs p f g = go (accepted r) refl
+first-then n r q ps qs p f g = go (accepted r) refl
   where
     go : (b : Bool) → accepted r ≡ b → First (number (andThen r q)) (ps ++ qs)
     go true e =
         let a = accepted-true r e in
-        rw (andThen-next r q a) (first-skip qs (number q) ps (zero-none ps p (rw a at f)) (g a))
+        rw (andThen-next r q a) (first-skip qs (number q) ps (zero-none n ps p (rw a at f)) (g a))
     go false e =
         rw (andThen-stop r q e) (first-stay qs (number r) ps
         (λ z. let c : true ≡ false = sym (true-accepted r (number-inj r Accepted z)) ∙ e in true≢false c) f)

@@ -5,6 +5,7 @@ pub mod PlainLaws
 pub mod FirstLaws
 pub mod SentenceLaws
 pub mod FaultLaws
+pub mod BadLaws
 pub mod Demands
 pub mod Refusals
 pub mod Witnesses

@@ -3,21 +3,34 @@
 -- what each says in specs/Faults.antt and specs/BadQuestions.antt. `first-exactly` (FirstLaws.antt) turns each theorem
 -- into "the number is k exactly when", and `first-none` says it of 0. Like Demands.antt, the theorems are of any result
 -- that the promise of the call allows, and of nothing else of the program.
-use mathlib.Core.Path.{_≡_, ap, _∙_}
-use mathlib.Core.List.{List}
-use Prim.Native.Nat.{ℕ}
+use mathlib.Core.Bool.{Bool, true, false, not}
+use mathlib.Core.Logic.{_↔_, inl, inr}
+use mathlib.Core.Path.{_≡_, refl, ap, _∙_}
+use mathlib.Core.List.{List, [], _∷_, _++_}
+use Prim.Native.Nat.{ℕ, _<_}
+use native.Mathlib.Omega.{arith}
+use lib.ListN.{length}
+use Rattle.rules.specs.declared.Refusal.the-variants.{Question, Room}
 use Rattle.rules.specs.Refusal.{number}
 use Rattle.rules.specs.Write.{writeList}
 use Rattle.rules.specs.Term.{Word, writeTerm}
-use Rattle.rules.specs.Index.{closeIndex}
+use Rattle.rules.specs.Index.{indexT, closeIndex}
+use Rattle.rules.specs.Questions.{wellFormed, replies}
+use Rattle.rules.specs.Ask.{joined}
 use Rattle.jundefola.specs.declared.HostWritten.{HostWritten}
+use Rattle.jundefola.specs.declared.HostAsked.{HostAsked}
 use Rattle.jundefola.specs.Host.{HostListChecked, HostListWritten, HostTermChecked, HostTermWritten}
-use Rattle.jundefola.specs.Host.{HostIndexChecked, HostIndexClosed}
-use Rattle.demands.specs.Sentences.{First, listSentences, termSentences, indexSentences}
-use Rattle.demands.specs.Sentences.{listWriting, termWriting, closing}
+use Rattle.jundefola.specs.Host.{HostIndexChecked, HostIndexClosed, HostAnswered}
+use Rattle.demands.specs.BadQuestions.{SomeBad}
+use Rattle.demands.specs.Sentences.{Sentence, _when_, First, listSentences, termSentences, indexSentences}
+use Rattle.demands.specs.Sentences.{listWriting, termWriting, closing, asking}
+use Rattle.demands.proofs.FirstLaws.{None, first-unique, first-none, first-most, first-stay, first-skip}
+use Rattle.demands.proofs.FirstLaws.{first-append}
 use Rattle.demands.proofs.WriteLaws.{is-refusal, close-gives}
-use Rattle.demands.proofs.SentenceLaws.{list-first, term-first, index-first, close-first}
+use Rattle.demands.proofs.SentenceLaws.{list-first, term-first, index-first, close-first, index-refuses}
 use Rattle.demands.proofs.FaultLaws.{list-writing, term-writing}
+use Rattle.demands.proofs.BadLaws.{tests-bad}
+use Rattle.demands.proofs.AskLaws.{reads, reply-first}
 
 -- ---- the checks
 
@@ -57,3 +70,77 @@ pub close-index-first : (buffer : List ℕ) (used N T : ℕ) (r : HostWritten) (
 close-index-first buffer used N T r after p =
     let e = is-refusal (closeIndex buffer used N T) r after p ∙ ap number (close-gives buffer used N T) in
     rw e (close-first buffer used N T)
+
+-- ---- a run of questions
+
+-- A question is bad in document 01's words exactly where the definitions find the run not well formed.
+pub bad-exactly : (T : ℕ) (qs : List ℕ) → (wellFormed T (length qs) qs ≡ false) ↔ SomeBad T qs
+bad-exactly T qs = (λ e. tests-bad T qs .0 (ap not e), λ b. go b (wellFormed T (length qs) qs) refl)
+  where
+    go : SomeBad T qs → (w : Bool) → wellFormed T (length qs) qs ≡ w → w ≡ false
+    go b true e = absurd (tests-bad T qs .1 (ap not e) b)
+    go b false e = refl
+
+module _ (s qs room : List ℕ) (r : HostAsked) (after : List ℕ) (p : HostAnswered s qs room r after) where
+  -- "The card is checked first, then all questions: an unknown kind, a wrong c, a term not below T or a question cut
+  -- short is 8. .. If an answer doesn't fit whole in what room is left, 9 is returned"
+  pub ask-first : First (r .refusal) (asking s qs room)
+  ask-first = rw (reads s qs room r after p .refusal) (reply-first s qs room)
+
+  -- k is the number that the check gives the same bytes
+  module _ (k : ℕ) (c : HostIndexChecked s k) where
+    abbrev answersLength : ℕ
+    answersLength = length (joined (replies s (length qs) qs))
+
+    -- the sentences behind the card's
+    abbrev later : List Sentence
+    later = Question when SomeBad (indexT s) qs ∷ Room when (length room < answersLength) ∷ []
+
+    -- where another number is the first's, it is what the call gives
+    is-given : (j : ℕ) → First j (indexSentences s ++ later) → r .refusal ≡ j
+    is-given j f = first-unique (asking s qs room) (r .refusal) j ask-first f
+
+    passed : k ≡ 0 → None (indexSentences s)
+    passed z = first-none 7 (indexSentences s) (index-refuses s) .0 (rw z at (index-check-first s k c))
+
+    -- a number above the card's own comes from the sentences behind them, and the card was accepted
+    behind-card : 7 < r .refusal → (k ≡ 0) × First (r .refusal) later
+    behind-card h = elim (first-append later (r .refusal) 7 (indexSentences s) (index-refuses s) .0 ask-first) [
+      | inl a ↦ absurd (omega (arith, first-most 7 (indexSentences s) (r .refusal) (index-refuses s) (a .0)))
+      | inr a ↦ (
+        first-unique (indexSentences s) k 0 (index-check-first s k c)
+            (first-none 7 (indexSentences s) (index-refuses s) .1 (a .0)),
+        a .1,
+      )
+    ]
+
+    -- A refused card's number is the check's own.
+    pub ask-card : (k ≡ 0 → ⊥) → r .refusal ≡ k
+    ask-card n = is-given k (first-stay later k (indexSentences s) n (index-check-first s k c))
+
+    -- 8 exactly when the card is accepted and some question is bad.
+    pub ask-question : (r .refusal ≡ number Question) ↔ ((k ≡ 0) × SomeBad (indexT s) qs)
+    unfolding First
+    ask-question = (
+      λ e.
+          let b = behind-card (omega arith) in
+          elim (b .1) [
+            | inl a ↦ (b .0, a .0)
+            | inr a ↦ elim (a .1) [ inl d ↦ absurd (omega (arith, d .1)) | inr d ↦ absurd (omega (arith, d .1)) ]
+          ],
+      λ b. is-given 8 (first-skip later 8 (indexSentences s) (passed (b .0)) (inl (b .1, refl))),
+    )
+
+    -- 9 exactly when all is well and the answers do not all fit.
+    pub ask-full : (r .refusal ≡ number Room)
+        ↔ ((k ≡ 0) × (SomeBad (indexT s) qs → ⊥) × (length room < answersLength))
+    unfolding First
+    ask-full = (
+      λ e.
+          let b = behind-card (omega arith) in
+          elim (b .1) [
+            | inl a ↦ absurd (omega (arith, a .1))
+            | inr a ↦ elim (a .1) [ inl d ↦ (b .0, a .0, d .0) | inr d ↦ absurd (omega (arith, d .1)) ]
+          ],
+      λ b. is-given 9 (first-skip later 9 (indexSentences s) (passed (b .0)) (inr (b .1, inl (b .2, refl)))),
+    )

@@ -27,15 +27,14 @@ use Rattle.listlaws.proofs.BlockLaws.{same-eq, same-refl}
 use Rattle.listlaws.proofs.ValidLaws.{valid-parts, valid-from}
 use Rattle.listlaws.proofs.Theorems.{block-tells, accepted-block}
 use Rattle.cardlaws.proofs.TermsLaws.{terms-bad, terms-other, terms-next}
-use Rattle.demands.specs.Faults.{BlockOf, NoList, OtherEnd, CountsN, CountsU, PositionsN, PositionsU}
-use Rattle.demands.specs.Faults.{PagesU}
+use Rattle.demands.specs.Faults.{OtherVersion, BytesLeft, BlockOf, NoList, OtherEnd, PagesU}
 use Rattle.demands.specs.Sentences.{Sentence, _when_, First, alone, inside, listOwn, listSentences}
-use Rattle.demands.specs.Sentences.{termOwn, termSentences, termsOf, indexOwn, indexSentences, closing}
+use Rattle.demands.specs.Sentences.{disagreements, termOwn, termSentences, termsOf, indexOwn, indexSentences, closing}
 use Rattle.demands.proofs.FirstLaws.{Refuses, refuses-append, Tests, tests-lt, tests-le, tests-differ}
-use Rattle.demands.proofs.FirstLaws.{first-end, first-test, first-or, first-then}
+use Rattle.demands.proofs.FirstLaws.{first-end, first-most, first-test, first-or, first-then}
 
 -- a test of bytes, and what follows it
-test : (b : Bool) (R q : Refusal) (P : Type 0) (ps : List Sentence) → Tests b P → (b ≡ false → First (number q) ps)
+pub test : (b : Bool) (R q : Refusal) (P : Type 0) (ps : List Sentence) → Tests b P → (b ≡ false → First (number q) ps)
     → First (number (cond b R q)) (R when P ∷ ps)
 test b R q P ps t g = first-test Refusal number R q R P ps refl b t g
 
@@ -115,7 +114,7 @@ list-inside : (s : List ℕ) → First (number (parts.inside listHeader listRefu
 unfolding listRefusal
 list-inside s = inside-first listHeader listTests listOwn list-own (omega arith) s
 
-list-refuses : (s : List ℕ) → Refuses (inside listHeader listOwn s)
+list-refuses : (s : List ℕ) → Refuses 7 (inside listHeader listOwn s)
 list-refuses s = omega arith
 
 -- ---- a term
@@ -145,8 +144,7 @@ unfolding part
 part-accepted k s a = inside-parts listHeader listRefusal (after k s) a .passes
 
 term-disagree : (s : List ℕ) → listRefusal (countsOf s) ≡ Accepted → listRefusal (positionsOf s) ≡ Accepted
-    → First (number (cond (disagree s) Parts Accepted))
-    (Parts when CountsN s ∷ Parts when CountsU s ∷ Parts when PositionsN s ∷ Parts when PositionsU s ∷ [])
+    → First (number (cond (disagree s) Parts Accepted)) (disagreements s)
 unfolding disagree
 term-disagree s c p =
     let n = not (eqb (listN (countsOf s)) (listN (pagesOf s))) in
@@ -163,9 +161,9 @@ unfolding countsOf positionsOf
 term-own s =
     let l : List ℕ = listsOf s in
     test (not (eqb (getD s 4 0) version)) _ _ _ _ (tests-differ (getD s 4 0) version)
-    (λ a. first-then _ _ (inside listHeader listOwn l) _ (list-refuses l) (list-inside l)
-    (λ b. first-then _ _ (inside listHeader listOwn (after 1 l)) _ (list-refuses (after 1 l)) (list-inside (after 1 l))
-    (λ c. first-then _ _ (inside listHeader listOwn (after 2 l)) _ (list-refuses (after 2 l)) (list-inside (after 2 l))
+    (λ a. first-then 7 _ _ (inside listHeader listOwn l) _ (list-refuses l) (list-inside l)
+    (λ b. first-then 7 _ _ (inside listHeader listOwn (after 1 l)) _ (list-refuses (after 1 l)) (list-inside (after 1 l))
+    (λ c. first-then 7 _ _ (inside listHeader listOwn (after 2 l)) _ (list-refuses (after 2 l)) (list-inside (after 2 l))
     (λ d. test (ltb 0 (length (after 3 l))) _ _ _ _ (tests-lt 0 (length (after 3 l)))
     (λ e. term-disagree s (part-accepted 1 l c) (part-accepted 2 l d))))))
 
@@ -177,11 +175,18 @@ term-inside : (s : List ℕ) → First (number (parts.inside termHeader termRefu
 unfolding termRefusal
 term-inside s = inside-first termHeader termTests termOwn term-own (omega arith) s
 
-own-refuses : (s : List ℕ) → Refuses (termOwn s)
-own-refuses s = omega arith
+own-refuses : (s : List ℕ) → Refuses 7 (termOwn s)
+own-refuses s =
+    let l : List ℕ = listsOf s in
+    refuses-append 7
+    (Version when OtherVersion s ∷ inside listHeader listOwn l ++ inside listHeader listOwn (after 1 l))
+    (inside listHeader listOwn (after 2 l) ++ Layout when BytesLeft (after 3 l) ∷ disagreements s)
+    (omega arith) (omega arith)
 
-term-refuses : (s : List ℕ) → Refuses (inside termHeader termOwn s)
-term-refuses s = (omega arith, (omega arith, (omega arith, own-refuses (take (stated s) s))))
+term-refuses : (s : List ℕ) → Refuses 7 (inside termHeader termOwn s)
+term-refuses s =
+    let own = own-refuses (take (stated s) s) in
+    (omega arith, omega arith, (omega arith, omega arith, (omega arith, omega arith, own)))
 
 -- ---- terms one after the other
 
@@ -206,15 +211,15 @@ unfolding termsRefusal
 terms-first zero N s = test (ltb 0 (length s)) _ _ _ _ (tests-lt 0 (length s)) (λ e. first-end)
 terms-first (suc T) N s =
     let U : ℕ = listU (pagesOf (take (stated s) s)) in
-    rw (terms-then T N s) (first-then _ _ (inside termHeader termOwn s) _ (term-refuses s) (term-inside s)
+    rw (terms-then T N s) (first-then 7 _ _ (inside termHeader termOwn s) _ (term-refuses s) (term-inside s)
     (λ a. test (not (eqb U N)) _ _ _ _ (tests-differ U N) (λ b. terms-first T N (drop (stated s) s))))
 
-terms-refuse : (T N : ℕ) (s : List ℕ) → Refuses (termsOf T N s)
+terms-refuse : (T N : ℕ) (s : List ℕ) → Refuses 7 (termsOf T N s)
 terms-refuse zero N s = omega arith
 terms-refuse (suc T) N s =
     let rest : List ℕ = drop (stated s) s in
-    refuses-append (inside termHeader termOwn s) (Parts when PagesU N (take (stated s) s) ∷ termsOf T N rest)
-    (term-refuses s) (omega arith, terms-refuse T N rest)
+    refuses-append 7 (inside termHeader termOwn s) (Parts when PagesU N (take (stated s) s) ∷ termsOf T N rest)
+    (term-refuses s) (omega arith, omega arith, terms-refuse T N rest)
 
 -- ---- an index and its closing
 
@@ -235,10 +240,15 @@ pub index-first : (s : List ℕ) → First (number (indexRefusal s)) (indexSente
 unfolding indexRefusal
 index-first s = alone-first indexHeader indexTests indexOwn index-own s
 
-pub index-refuses : (s : List ℕ) → Refuses (indexSentences s)
+pub index-refuses : (s : List ℕ) → Refuses 7 (indexSentences s)
 index-refuses s =
     let rest = terms-refuse (indexT s) (indexN s) (drop indexHeader s) in
-    (omega arith, (omega arith, (omega arith, (omega arith, (omega arith, rest)))))
+    let own : Refuses 7 (indexOwn s) = (omega arith, omega arith, (omega arith, omega arith, (omega arith, omega arith, rest))) in
+    (omega arith, omega arith, (omega arith, omega arith, own))
+
+-- bytes are never refused with more than 7
+pub index-most : (s : List ℕ) → number (indexRefusal s) ≤ 7
+index-most s = first-most 7 (indexSentences s) (number (indexRefusal s)) (index-refuses s) (index-first s)
 
 pub close-first : (buffer : List ℕ) (used N T : ℕ)
     → First (number (closeRefusal buffer used N T)) (closing buffer used N T)

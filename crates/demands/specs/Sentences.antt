@@ -7,6 +7,7 @@
 --   inside h own s    the block at the front of what remains of a container: 1 and 2 as inside one, and its own
 --   listOwn s         3 to 6 of a list: "Order: 1, 2, 3, 4, 5, 6 in a list."
 --   listSentences s   the check of a list
+--   disagreements s   "parts disagree", the four that lie in a term
 --   termOwn s         of a term: 3, "then each part in order with all its checks, then bytes left over (5)",
 --                     "A term's own 7 comes after its 5"
 --   termSentences s   the check of a term
@@ -76,6 +77,10 @@ listOwn s =
 abbrev pub listSentences : List ℕ → List Sentence
 listSentences = alone listHeader listOwn
 
+abbrev pub disagreements : List ℕ → List Sentence
+disagreements s =
+    Parts when CountsN s ∷ Parts when CountsU s ∷ Parts when PositionsN s ∷ Parts when PositionsU s ∷ []
+
 abbrev pub termOwn : List ℕ → List Sentence
 termOwn s =
     Version when OtherVersion s
@@ -83,11 +88,7 @@ termOwn s =
     ++ inside listHeader listOwn (after 1 (listsOf s))
     ++ inside listHeader listOwn (after 2 (listsOf s))
     ++ Layout when BytesLeft (after 3 (listsOf s))
-    ∷ Parts when CountsN s
-    ∷ Parts when CountsU s
-    ∷ Parts when PositionsN s
-    ∷ Parts when PositionsU s
-    ∷ []
+    ∷ disagreements s
 
 abbrev pub termSentences : List ℕ → List Sentence
 termSentences = alone termHeader termOwn
