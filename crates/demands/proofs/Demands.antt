@@ -4,11 +4,11 @@
 use mathlib.Core.Bool.{true}
 use mathlib.Core.Logic.{_↔_}
 use mathlib.Core.Path.{_≡_, refl, sym, ap, _∙_}
-use mathlib.Core.List.{List, [], _∷_, append-nil}
+use mathlib.Core.List.{List, [], _∷_, _++_, append-nil}
 use Prim.Native.Nat.{ℕ, _+_, _*_, _^_, _≤_, _<_}
 use native.Mathlib.Omega.{arith}
 use borrow.Author.Tests.{lt-ltb}
-use lib.ListN.{length, getD, take, drop}
+use lib.ListN.{length, getD, take, drop, replicate, length-append}
 use Rattle.rules.specs.declared.Refusal.the-variants.{Accepted, Room}
 use Rattle.rules.specs.Bytes.{Bytes}
 use Rattle.rules.specs.Refusal.{number}
@@ -19,7 +19,8 @@ use Rattle.rules.specs.Write.{Made, laid, writeList}
 use Rattle.rules.specs.Term.{Word, termBlock, writeTerm}
 use Rattle.rules.specs.ReadTerm.{termRefusal}
 use Rattle.rules.specs.Index.{validCard, card, indexN, indexT, indexRefusal, closeIndex}
-use Rattle.rules.specs.Common.{common}
+use Rattle.rules.specs.Seek.{upperWords}
+use Rattle.rules.specs.Common.{rounds, common}
 use Rattle.rules.specs.Questions.{commonPages, byCommon, byPhrase, allBelow, goodQuestion, wellFormed, replies}
 use Rattle.rules.specs.Ask.{Replied, fitting, joined, reply}
 use Rattle.laws.proofs.RefusalLaws.{number-inj}
@@ -33,14 +34,15 @@ use Rattle.jundefola.specs.declared.HostAsked.{HostAsked}
 use Rattle.jundefola.specs.Host.{Told, HostListChecked, HostListWritten, HostTermChecked, HostTermWritten}
 use Rattle.jundefola.specs.Host.{HostIndexChecked, HostIndexClosed, HostAnswered}
 use Rattle.demands.specs.Asking.{ValidWord, Query, written, Good, pagesAt, named, pagesNamed, plain, plainAll}
-use Rattle.demands.specs.Asking.{upperRuns}
+use Rattle.demands.specs.Asking.{upperRuns, leadOn, othersOn, times, readingIt}
 use Rattle.demands.proofs.WriteLaws.{number-le, to-writable, from-writable, list-keeps, term-keeps, close-keeps}
 use Rattle.demands.proofs.WriteLaws.{close-size, list-writes, list-wrote, told-accepts, accepts-told}
 use Rattle.demands.proofs.WriteLaws.{told-refused, told-success}
 use Rattle.demands.proofs.AskLaws.{Reads, fits, reply-nothing, reply-room, reply-all, all-reply, reads}
 use Rattle.demands.proofs.AskLaws.{written-formed}
-use Rattle.demands.proofs.KindLaws.{states-T, may-ask, plain-answers, length-plain, common-told, common-lists}
-use Rattle.demands.proofs.KindLaws.{seeks-most, looks-most, counts-fit}
+use Rattle.demands.proofs.KindLaws.{length-lists, states-T, may-ask, plain-answers, length-plain, common-told}
+use Rattle.demands.proofs.KindLaws.{common-lists, seeks-most, seeks-same, looks-most, counts-fit}
+use Rattle.demands.proofs.SameLaws.{begins-length, begins-times, times-twice, runs-twice}
 use Rattle.demands.proofs.PlainLaws.{rank-in, rank-past, bound-at, bound-none, rank-length, bound-length}
 
 -- ---- 1. "Any bytes, lists and questions are answered and every call ends. Each refusal is one of document 01's
@@ -351,6 +353,11 @@ module _ (N : ℕ) (ts : List Word) (v : validCard N ts ≡ true)
   pub looks-bound : getD after 2 0 ≤ getD after 1 0 + upperRuns N pages
   looks-bound = rw (told-counts .0, told-counts .1) (looks-most N ts v terms some few below)
 
+  -- One word alone, named k times: each of its k cursors is sought for each of its m pages, and the lead once more.
+  pub named-again : (t : ℕ) → terms ≡ replicate (length terms) t
+      → getD after 1 0 ≡ length terms * length (pagesAt ts t) + 1
+  named-again t e = told-counts .0 ∙ seeks-same N ts v terms some few below t e
+
   -- Neither wraps in the 32-bit number that carries it.
   pub counts-carried : (common N pages .seeks < 2 ^ 32) × (common N pages .looks < 2 ^ 32)
   counts-carried = counts-fit N ts v terms some few below
@@ -364,7 +371,24 @@ pub common-in-run : (N : ℕ) (ts : List Word) (terms : List ℕ) → plain N ts
 unfolding plain
 common-in-run N ts terms = common-told N (pagesNamed ts terms)
 
--- A word named twice is two lists.
-pub named-twice : (ts : List Word) (t : ℕ) → pagesNamed ts (t ∷ (t ∷ [])) ≡ pagesAt ts t ∷ (pagesAt ts t ∷ [])
-unfolding pagesNamed
-named-twice ts t = refl
+-- A word named twice, anywhere in the question: the rule begins with a cursor for each place, two of them for that word,
+-- and the 64-bit words of its list stand twice in the bound of the looks.
+pub named-twice : (N : ℕ) (ts : List Word) (t : ℕ) (a b c : List ℕ)
+    → let terms = a ++ (t ∷ (b ++ (t ∷ c))) in
+    let ls = pagesNamed ts terms in
+    let others = pagesNamed ts (a ++ (b ++ c)) in
+    (common N ls ≡ rounds (length (leadOn ls .pages) + 1) N (leadOn ls) (othersOn ls) 0)
+    × (length (leadOn ls ∷ othersOn ls) ≡ length terms)
+    × (readingIt (pagesAt ts t) (leadOn ls ∷ othersOn ls) ≡ 2 + times (pagesAt ts t) others)
+    × (upperRuns N ls ≡ 2 * upperWords N (pagesAt ts t) + upperRuns N others)
+unfolding common
+named-twice N ts t a b c =
+    let terms : List ℕ = a ++ (t ∷ (b ++ (t ∷ c))) in
+    let ls : List (List ℕ) = pagesNamed ts terms in
+    let l = length-lists ts terms in
+    let some : 0 < length ls = omega (arith, length-append a (t ∷ (b ++ (t ∷ c)))) in (
+      refl,
+      begins-length ls some ∙ l,
+      begins-times (pagesAt ts t) ls some ∙ times-twice ts t a b c,
+      runs-twice N ts t a b c,
+    )

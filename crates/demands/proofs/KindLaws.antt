@@ -9,7 +9,7 @@ use native.Mathlib.Omega.{arith}
 use native.Mathlib.Decide.{ℕ-discrete}
 use borrow.Author.Tests.{ltb-true, le-leb, ne-eqb}
 use lib.Dec.{ltb}
-use lib.ListN.{length, getD}
+use lib.ListN.{length, getD, replicate}
 use Rattle.rules.specs.Limits.{limit}
 use Rattle.rules.specs.Runs.{wordsFor}
 use Rattle.rules.specs.List.{rising, zeros}
@@ -31,6 +31,7 @@ use Rattle.questions.proofs.FrontLaws.{answers-front}
 use Rattle.questions.proofs.GoodLaws.{good-pair, good-words, pair-parts, good-rest, words-parts}
 use Rattle.demands.specs.Asking.{Query, written, Good, wordAt, pagesAt, named, pagesNamed, plain, plainAll}
 use Rattle.demands.specs.Asking.{upperRuns}
+use Rattle.demands.proofs.SameLaws.{common-same, named-same}
 use Rattle.demands.proofs.AskLaws.{front-kind, front-args, front-behind, front-some}
 
 -- ---- the words that a question names
@@ -177,6 +178,13 @@ module _ (N : ℕ) (ts : List Word) (v : validCard N ts ≡ true) (terms : List 
         let l = length-lists ts terms in
         let s = laws.common-seeks N lists named-some (lists-rise N ts v terms below) j (omega arith) in
         rw (l, named-at ts terms j h) at s
+
+    -- one word, k times over
+    pub seeks-same : (t : ℕ) → terms ≡ replicate (length terms) t
+        → common N lists .seeks ≡ length terms * length (pagesAt ts t) + 1
+    seeks-same t e =
+        let s = common-same N lists (pagesAt ts t) named-some (lists-rise N ts v terms below) (named-same ts t terms e) in
+        s ∙ rw (length-lists ts terms)
 
     pub looks-most : common N lists .looks ≤ common N lists .seeks + upperRuns N lists
     looks-most = rw (upper-words N lists) (laws.common-looks N lists named-some (lists-rise N ts v terms below))

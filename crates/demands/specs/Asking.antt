@@ -12,15 +12,20 @@
 --                     are the step rule's
 --   plainAll N ts qs  the answer to each, in their order
 --   upperRuns N ls    the 64-bit words of the lists' upper runs, a list counted as often as it stands there
+--   leadOn ls, othersOn ls  the readers with which the step rule begins on the lists ls, each with a cursor of its own
+--   times xs ls       how many of the lists are xs
+--   readingIt xs rs   how many of the readers read the list xs
 use mathlib.Core.Bool.{true, cond}
 use mathlib.Core.Path.{_≡_}
 use mathlib.Core.List.{List, [], _∷_, _++_}
 use Prim.Native.Nat.{ℕ, _+_, _≤_}
 use lib.Dec.{eqb}
-use lib.ListN.{length, getD}
+use lib.ListN.{length, getD, take, drop}
 use Rattle.rules.specs.Limits.{limit}
+use Rattle.rules.specs.Bytes.{same}
 use Rattle.rules.specs.Term.{Word, next, places, validWord}
-use Rattle.rules.specs.Seek.{upperWords}
+use Rattle.rules.specs.Seek.{fresh, upperWords}
+use Rattle.rules.specs.Common.{Reader, leadOf, readersOf}
 use Rattle.rules.specs.Questions.{goodQuestion, byRank, byBound, byCommon, byPhrase}
 
 abbrev pub ValidWord : ℕ → Word → Type 0
@@ -66,3 +71,17 @@ plainAll N ts (q ∷ qs) = plain N ts q ∷ plainAll N ts qs
 unfoldable pub upperRuns : ℕ → List (List ℕ) → ℕ
 upperRuns N [] = 0
 upperRuns N (l ∷ ls) = upperWords N l + upperRuns N ls
+
+abbrev pub leadOn : List (List ℕ) → Reader
+leadOn ls = record { pages = getD ls (leadOf ls) []; cursor = fresh }
+
+abbrev pub othersOn : List (List ℕ) → List Reader
+othersOn ls = readersOf (take (leadOf ls) ls ++ drop (leadOf ls + 1) ls)
+
+unfoldable pub times : List ℕ → List (List ℕ) → ℕ
+times xs [] = 0
+times xs (l ∷ ls) = cond (same xs l) 1 0 + times xs ls
+
+unfoldable pub readingIt : List ℕ → List Reader → ℕ
+readingIt xs [] = 0
+readingIt xs (r ∷ rs) = cond (same xs (r .pages)) 1 0 + readingIt xs rs
