@@ -1,22 +1,22 @@
 -- Questions are well formed exactly where none of them is bad in document 01's words.
 use mathlib.Core.Bool.{Bool, true, false, not, _&&_, true≢false, false≢true}
-use mathlib.Core.Logic.{_⊎_, inl, inr}
+use mathlib.Core.Logic.{inl, inr}
 use mathlib.Core.Path.{_≡_, refl, sym, ap, _∙_}
 use mathlib.Core.List.{List, [], _∷_}
 use Prim.Native.Nat.{ℕ, zero, suc, _+_, _≤_, _<_}
 use native.Mathlib.Decide.{decLt}
 use native.Mathlib.Omega.{arith}
 use borrow.Author.Tests.{ltb-false, leb-true, leb-false, eqb-true, eqb-false}
-use lib.Dec.{ltb, leb, eqb}
-use lib.ListN.{length, getD, take, drop, length-take, length-drop}
+use lib.Dec.{leb, eqb}
+use lib.ListN.{length, getD, drop, length-take, length-drop}
 use lib.Seq.{drop-nil}
 use Rattle.rules.specs.Limits.{phraseLimit}
-use Rattle.rules.specs.Questions.{allBelow, goodQuestion, kindOf, countOf, argsOf, behind, wellFormed}
+use Rattle.rules.specs.Questions.{goodQuestion, kindOf, countOf, argsOf, behind, wellFormed}
 use Rattle.listlaws.proofs.RisingLaws.{and-parts}
 use Rattle.questions.specs.Formed.{pairGood, wordsGood, formed}
 use Rattle.questions.proofs.FrontLaws.{formed-front}
 use Rattle.questions.proofs.GoodLaws.{good-pair, good-words, good-none, good-other, pair-parts, words-parts}
-use Rattle.demands.specs.BadQuestions.{WrongCount, TermPast, Bad, questionAt, SomeBad}
+use Rattle.demands.specs.BadQuestions.{Bad, questionAt, SomeBad}
 use Rattle.demands.proofs.FirstLaws.{Tests}
 use Rattle.demands.proofs.FaultLaws.{tests-not, below-some, below-none}
 

@@ -1,16 +1,16 @@
 -- What the tests of document 01's definitions tell, in its words: of lists that a writer is handed, and of questions.
-use mathlib.Core.Bool.{Bool, true, false, cond, not, _&&_, true≢false, false≢true}
+use mathlib.Core.Bool.{Bool, true, false, cond, not, _&&_, true≢false}
 use mathlib.Core.Logic.{_⊎_, inl, inr}
-use mathlib.Core.Path.{_≡_, refl, sym, ap, _∙_}
+use mathlib.Core.Path.{_≡_, refl, ap}
 use mathlib.Core.List.{List, [], _∷_}
 use Prim.Native.Nat.{ℕ, zero, suc, _+_, _≤_, _<_}
 use native.Mathlib.Omega.{arith}
-use borrow.Author.Tests.{ltb-true, ltb-false, leb-true, leb-false, not-true, not-false}
+use borrow.Author.Tests.{ltb-true, ltb-false, leb-false, not-true, not-false}
 use lib.Dec.{ltb, leb, eqb}
 use lib.ListN.{length, getD, take, drop}
 use lib.Seq.{drop-drop}
 use Rattle.rules.specs.declared.Refusal.{Refusal}
-use Rattle.rules.specs.declared.Refusal.the-variants.{Limit, Room, Lists}
+use Rattle.rules.specs.declared.Refusal.the-variants.{Room}
 use Rattle.rules.specs.Refusal.{number}
 use Rattle.rules.specs.Limits.{limit}
 use Rattle.rules.specs.List.{rising, block}
@@ -118,28 +118,24 @@ pub tests-zero : (t : Word) → Tests (not (positive (t .counts))) (ZeroCount t)
 tests-zero t = tests-not (positive (t .counts)) (ZeroCount t) (zero-some (t .counts))
     (λ e o. zero-none (t .counts) e (o .0) (o .1) (o .2))
 
--- the positions on page number i, of the counts cs and the positions ps
-abbrev placesOn : ℕ → List ℕ → List ℕ → List ℕ
-placesOn i cs ps = take (getD cs i 0) (drop (total (take i cs)) ps)
-
-page-behind : (c : ℕ) (cs ps : List ℕ) (i : ℕ) → placesOn (suc i) (c ∷ cs) ps ≡ placesOn i cs (drop c ps)
+page-behind : (c : ℕ) (cs ps : List ℕ) (i : ℕ) → onPage (suc i) (c ∷ cs) ps ≡ onPage i cs (drop c ps)
 unfolding total
 page-behind c cs ps i = rw (drop-drop (total (take i cs)) c ps)
 
-page-some : (cs ps : List ℕ) → inOrderByPage cs ps ≡ false → (i : ℕ) × (i < length cs) × OutOfOrder (placesOn i cs ps)
+page-some : (cs ps : List ℕ) → inOrderByPage cs ps ≡ false → (i : ℕ) × (i < length cs) × OutOfOrder (onPage i cs ps)
 unfolding inOrderByPage total
 page-some [] ps e = absurd (true≢false e)
 page-some (c ∷ cs) ps e = go (page-some cs (drop c ps)) (inOrder 0 (take c ps)) refl
   where
-    go : (inOrderByPage cs (drop c ps) ≡ false → (i : ℕ) × (i < length cs) × OutOfOrder (placesOn i cs (drop c ps)))
+    go : (inOrderByPage cs (drop c ps) ≡ false → (i : ℕ) × (i < length cs) × OutOfOrder (onPage i cs (drop c ps)))
         → (b : Bool) → inOrder 0 (take c ps) ≡ b
-        → (i : ℕ) × (i < length (c ∷ cs)) × OutOfOrder (placesOn i (c ∷ cs) ps)
+        → (i : ℕ) × (i < length (c ∷ cs)) × OutOfOrder (onPage i (c ∷ cs) ps)
     go ih false f = (0, omega arith, tests-order (take c ps) .0 (ap not f))
     go ih true f =
         let a = ih (rw f at e) in
         (suc (a .0), omega (arith, a .1), rw (page-behind c cs ps (a .0)) (a .2))
 
-page-none : (cs ps : List ℕ) → inOrderByPage cs ps ≡ true → (i : ℕ) → i < length cs → OutOfOrder (placesOn i cs ps) → ⊥
+page-none : (cs ps : List ℕ) → inOrderByPage cs ps ≡ true → (i : ℕ) → i < length cs → OutOfOrder (onPage i cs ps) → ⊥
 unfolding inOrderByPage total
 page-none [] ps e i h o = omega arith
 page-none (c ∷ cs) ps e zero h o =

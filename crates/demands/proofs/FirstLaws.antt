@@ -40,6 +40,17 @@ abbrev pub None : List Sentence → Type 0
 None [] = Unit {0}
 None (p ∷ ps) = (p .holds → ⊥) × None ps
 
+-- a sentence of number k holds, and none before it
+abbrev pub Place : ℕ → List Sentence → Type 1
+Place k ps =
+    (before : List Sentence)
+    × (p : Sentence)
+    × (after : List Sentence)
+    × (ps ≡ before ++ (p ∷ after))
+    × None before
+    × p .holds
+    × (k ≡ number (p .refusal))
+
 -- 0 is given exactly when none holds
 zero-none : (n : ℕ) (ps : List Sentence) → Refuses n ps → First 0 ps → None ps
 unfolding First
@@ -60,6 +71,24 @@ unfolding First
 first-most n [] k r f = omega arith
 first-most n (p ∷ ps) k r (inl a) = omega (arith, r .1, a .1)
 first-most n (p ∷ ps) k r (inr a) = first-most n ps k (r .2) (a .1)
+
+-- another number is given exactly when a sentence with it holds and none before that one does
+place-of : (k : ℕ) (ps : List Sentence) → (k ≡ 0 → ⊥) → First k ps → Place k ps
+unfolding First
+place-of k [] n f = absurd (n f)
+place-of k (p ∷ ps) n (inl a) = ([], p, ps, refl, tt, a .0, a .1)
+place-of k (p ∷ ps) n (inr a) =
+    let q = place-of k ps n (a .1) in
+    (p ∷ q .0, q .1, q .2, ap (λ (l : List Sentence). p ∷ l) (q .3), (a .0, q .4), q .5, q .6)
+
+at-place : (k : ℕ) (before : List Sentence) (p : Sentence) (after : List Sentence) → None before → p .holds
+    → k ≡ number (p .refusal) → First k (before ++ (p ∷ after))
+unfolding First
+at-place k [] p after n h e = inl (h, e)
+at-place k (q ∷ before) p after n h e = inr (n .0, at-place k before p after (n .1) h e)
+
+pub first-place : (k : ℕ) (ps : List Sentence) → (k ≡ 0 → ⊥) → First k ps ↔ Place k ps
+first-place k ps n = (place-of k ps n, λ q. rw (q .3) (at-place k (q .0) (q .1) (q .2) (q .4) (q .5) (q .6)))
 
 -- the first of two lists of sentences: that of the one, or of the other where none of the one holds
 module _ (qs : List Sentence) (k : ℕ) where

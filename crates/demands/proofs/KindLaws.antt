@@ -183,8 +183,8 @@ module _ (N : ℕ) (ts : List Word) (v : validCard N ts ≡ true) (terms : List 
     pub seeks-same : (t : ℕ) → terms ≡ replicate (length terms) t
         → common N lists .seeks ≡ length terms * length (pagesAt ts t) + 1
     seeks-same t e =
-        let s = common-same N lists (pagesAt ts t) named-some (lists-rise N ts v terms below) (named-same ts t terms e) in
-        s ∙ rw (length-lists ts terms)
+        let r = lists-rise N ts v terms below in
+        common-same N lists (pagesAt ts t) named-some r (named-same ts t terms e) ∙ rw (length-lists ts terms)
 
     pub looks-most : common N lists .looks ≤ common N lists .seeks + upperRuns N lists
     looks-most = rw (upper-words N lists) (laws.common-looks N lists named-some (lists-rise N ts v terms below))

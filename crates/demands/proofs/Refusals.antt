@@ -1,8 +1,9 @@
 -- Refusals exactly when: of each exported call, the number that it gives is that of the first of document 01's
 -- sentences that holds, and 0 where none does. The sentences, in document 01's order, are in specs/Sentences.antt, and
--- what each says in specs/Faults.antt and specs/BadQuestions.antt. `first-exactly` (FirstLaws.antt) turns each theorem
--- into "the number is k exactly when", and `first-none` says it of 0. Like Demands.antt, the theorems are of any result
--- that the promise of the call allows, and of nothing else of the program.
+-- what each says in specs/Faults.antt and specs/BadQuestions.antt. FirstLaws.antt turns each theorem into "exactly
+-- when": `first-exactly` for any number, `first-none` for 0, and `first-place` for another, of which a sentence holds
+-- and none before it does. Like those of Demands.antt, the theorems are of any result that the promise of the call
+-- allows, and of nothing else of the program.
 use mathlib.Core.Bool.{Bool, true, false, not}
 use mathlib.Core.Logic.{_↔_, inl, inr}
 use mathlib.Core.Path.{_≡_, refl, ap, _∙_}
@@ -55,9 +56,9 @@ pub list-write-first : (U : ℕ) (xs room : List ℕ) (r : HostWritten) (after :
 list-write-first U xs room r after p =
     rw (is-refusal (writeList U xs room) r after p) (list-writing room U xs)
 
--- "Writer of a term ..: 4 if N is over; 10 if lengths disagree, a page is out of order or not below N, a count is 0, the
--- counts don't sum to the number of positions, or positions are out of order in a page; 4 if the positions' U is over;
--- 9."
+-- "Writer of a term ..: 4 if N is over; 10 if lengths disagree, a page is out of order or not below N, a count is 0,
+-- the counts don't sum to the number of positions, or positions are out of order in a page; 4 if the positions' U is
+-- over; 9."
 pub term-write-first : (N : ℕ) (t : Word) (room : List ℕ) (r : HostWritten) (after : List ℕ)
     → HostTermWritten N t room r after → First (r .refusal) (termWriting N t room)
 term-write-first N t room r after p =

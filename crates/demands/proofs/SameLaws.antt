@@ -2,9 +2,9 @@
 use mathlib.Core.Bool.{cond}
 use mathlib.Core.Path.{_≡_, refl, sym, ap, _∙_}
 use mathlib.Core.List.{List, [], _∷_, _++_, append-assoc}
-use Prim.Native.Nat.{ℕ, suc, _+_, _*_, _≤_, _<_}
+use Prim.Native.Nat.{ℕ, suc, _+_, _*_, _<_}
 use native.Mathlib.Omega.{arith}
-use lib.ListN.{length, getD, take, drop, replicate}
+use lib.ListN.{length, getD, drop, replicate}
 use Rattle.rules.specs.Bytes.{same}
 use Rattle.rules.specs.Term.{Word}
 use Rattle.rules.specs.Seek.{Found, none, page, seek, upperWords}
@@ -93,9 +93,11 @@ module _ (U : ℕ) where
       unfolding behindLead turnOf
       agrees =
           let p = turned-page U b lead others c i e in
-          let g = agree-all U c i (lead .pages) own-first others
-          (allReady-more U b c others a (sought-least U b lead k c i e)) s in
-          (ap (λ (t : Turned). t .turn) p ∙ ap (turnOf c i) (g .0), ap (λ (t : Turned). t .seeks) p ∙ omega (arith, g .1))
+          let r = allReady-more U b c others a (sought-least U b lead k c i e) in
+          let g = agree-all U c i (lead .pages) own-first others r s in (
+            ap (λ (t : Turned). t .turn) p ∙ ap (turnOf c i) (g .0),
+            ap (λ (t : Turned). t .seeks) p ∙ omega (arith, g .1),
+          )
 
       begins : from b (lead .pages) ≡ c ∷ from (c + 1) (lead .pages)
       begins =

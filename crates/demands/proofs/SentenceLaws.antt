@@ -2,19 +2,18 @@
 -- and its closing.
 use mathlib.Core.Bool.{Bool, true, false, cond, not, _||_, true≢false}
 use mathlib.Core.Path.{_≡_, refl, sym, ap, _∙_}
-use mathlib.Core.List.{List, [], _∷_, _++_}
-use Prim.Native.Nat.{ℕ, zero, suc, _≤_, _<_}
+use mathlib.Core.List.{List, _∷_, _++_}
+use Prim.Native.Nat.{ℕ, zero, suc, _≤_}
 use native.Mathlib.Omega.{arith}
-use borrow.Author.Tests.{ltb-false, le-ltb, eq-eqb, not-true, not-false, eqb-true, eqb-false}
-use lib.Dec.{ltb, leb, eqb, lit<}
+use borrow.Author.Tests.{ltb-false, le-ltb, eq-eqb, not-true, not-false}
+use lib.Dec.{ltb, leb, eqb}
 use lib.ListN.{length, getD, take, drop, length-take, take-append-drop}
 use Rattle.rules.specs.declared.Refusal.{Refusal}
 use Rattle.rules.specs.declared.Refusal.the-variants.{Accepted, Short, Length, Version, Limit, Layout, Runs, Parts}
-use Rattle.rules.specs.declared.Refusal.the-variants.{Room}
 use Rattle.rules.specs.Refusal.{number, accepted, andThen}
 use Rattle.rules.specs.Limits.{limit, termLimit, version, listHeader, termHeader, indexHeader, fourBytes}
 use Rattle.rules.specs.Bytes.{same}
-use Rattle.rules.specs.List.{rising, validList, size, block}
+use Rattle.rules.specs.List.{rising, size, block}
 use Rattle.rules.specs.ReadList.{stated, listU, listN, decode, isBlock, listRefusal}
 use Rattle.rules.specs.Term.{next}
 use Rattle.rules.specs.Parts as parts
@@ -29,7 +28,8 @@ use Rattle.listlaws.proofs.Theorems.{block-tells, accepted-block}
 use Rattle.cardlaws.proofs.TermsLaws.{terms-bad, terms-other, terms-next}
 use Rattle.demands.specs.Faults.{OtherVersion, BytesLeft, BlockOf, NoList, OtherEnd, PagesU}
 use Rattle.demands.specs.Sentences.{Sentence, _when_, First, alone, inside, listOwn, listSentences}
-use Rattle.demands.specs.Sentences.{disagreements, termOwn, termSentences, termsOf, indexOwn, indexSentences, closing}
+use Rattle.demands.specs.Sentences.{disagreements, termOwn, termSentences, termsOf, indexOwn}
+use Rattle.demands.specs.Sentences.{indexSentences, closing}
 use Rattle.demands.proofs.FirstLaws.{Refuses, refuses-append, Tests, tests-lt, tests-le, tests-differ}
 use Rattle.demands.proofs.FirstLaws.{first-end, first-most, first-test, first-or, first-then}
 
@@ -110,11 +110,15 @@ pub list-first : (s : List ℕ) → First (number (listRefusal s)) (listSentence
 unfolding listRefusal
 list-first s = alone-first listHeader listTests listOwn list-own s
 
-list-inside : (s : List ℕ) → First (number (parts.inside listHeader listRefusal s)) (inside listHeader listOwn s)
+-- at the front of what remains of a term
+abbrev inList : List ℕ → List Sentence
+inList = inside listHeader listOwn
+
+list-inside : (s : List ℕ) → First (number (parts.inside listHeader listRefusal s)) (inList s)
 unfolding listRefusal
 list-inside s = inside-first listHeader listTests listOwn list-own (omega arith) s
 
-list-refuses : (s : List ℕ) → Refuses 7 (inside listHeader listOwn s)
+list-refuses : (s : List ℕ) → Refuses 7 (inList s)
 list-refuses s = omega arith
 
 -- ---- a term
@@ -161,9 +165,9 @@ unfolding countsOf positionsOf
 term-own s =
     let l : List ℕ = listsOf s in
     test (not (eqb (getD s 4 0) version)) _ _ _ _ (tests-differ (getD s 4 0) version)
-    (λ a. first-then 7 _ _ (inside listHeader listOwn l) _ (list-refuses l) (list-inside l)
-    (λ b. first-then 7 _ _ (inside listHeader listOwn (after 1 l)) _ (list-refuses (after 1 l)) (list-inside (after 1 l))
-    (λ c. first-then 7 _ _ (inside listHeader listOwn (after 2 l)) _ (list-refuses (after 2 l)) (list-inside (after 2 l))
+    (λ a. first-then 7 _ _ (inList l) _ (list-refuses l) (list-inside l)
+    (λ b. first-then 7 _ _ (inList (after 1 l)) _ (list-refuses (after 1 l)) (list-inside (after 1 l))
+    (λ c. first-then 7 _ _ (inList (after 2 l)) _ (list-refuses (after 2 l)) (list-inside (after 2 l))
     (λ d. test (ltb 0 (length (after 3 l))) _ _ _ _ (tests-lt 0 (length (after 3 l)))
     (λ e. term-disagree s (part-accepted 1 l c) (part-accepted 2 l d))))))
 
@@ -178,10 +182,8 @@ term-inside s = inside-first termHeader termTests termOwn term-own (omega arith)
 own-refuses : (s : List ℕ) → Refuses 7 (termOwn s)
 own-refuses s =
     let l : List ℕ = listsOf s in
-    refuses-append 7
-    (Version when OtherVersion s ∷ inside listHeader listOwn l ++ inside listHeader listOwn (after 1 l))
-    (inside listHeader listOwn (after 2 l) ++ Layout when BytesLeft (after 3 l) ∷ disagreements s)
-    (omega arith) (omega arith)
+    refuses-append 7 (Version when OtherVersion s ∷ inList l ++ inList (after 1 l))
+    (inList (after 2 l) ++ Layout when BytesLeft (after 3 l) ∷ disagreements s) (omega arith) (omega arith)
 
 term-refuses : (s : List ℕ) → Refuses 7 (inside termHeader termOwn s)
 term-refuses s =
@@ -243,7 +245,8 @@ index-first s = alone-first indexHeader indexTests indexOwn index-own s
 pub index-refuses : (s : List ℕ) → Refuses 7 (indexSentences s)
 index-refuses s =
     let rest = terms-refuse (indexT s) (indexN s) (drop indexHeader s) in
-    let own : Refuses 7 (indexOwn s) = (omega arith, omega arith, (omega arith, omega arith, (omega arith, omega arith, rest))) in
+    let own : Refuses 7 (indexOwn s) =
+    (omega arith, omega arith, (omega arith, omega arith, (omega arith, omega arith, rest))) in
     (omega arith, omega arith, (omega arith, omega arith, own))
 
 -- bytes are never refused with more than 7

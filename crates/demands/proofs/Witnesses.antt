@@ -1,5 +1,5 @@
--- The premises of Demands.antt can be met: every input has a result that the promise allows, and S9's card, its
--- question and small rooms meet the others, by computation.
+-- The premises of Demands.antt and Refusals.antt can be met: every input has a result that the promise allows, and S9's
+-- card, its question and small rooms meet the others, by computation.
 use mathlib.Core.Bool.{true}
 use mathlib.Core.Path.{_≡_, refl}
 use mathlib.Core.List.{List, [], _∷_}
@@ -145,3 +145,44 @@ list-refused-met = refl
 pub close-done-met : HostIndexClosed s9 95 3 1 (record { refusal = 0; length = 95 }) s9
 unfolding closeIndex closeRefusal s9 accepted andThen be beAt bit runWord runBit field wordsFor words sized rising greatest width zeros upper lower afterZero pointer pointers lowerAt upperAt size runs body block same stated listU listN elements readList decode isBlock listRefusal laid next after part inside listsOf pagesOf countsOf positionsOf disagree termRefusal indexFront termsRefusal
 close-done-met = refl
+
+-- ---- a word named twice
+
+pub again-met : (t : ℕ) → t ∷ (t ∷ []) ≡ replicate 2 t
+again-met t = refl
+
+-- ---- numbers that the writer of a term, closing and a run of questions give
+
+abbrev refuses : ℕ → HostWritten
+refuses n = record { refusal = n; length = 0 }
+
+abbrev word : List ℕ → List ℕ → List ℕ → Word
+word pages counts positions = record { pages = pages; counts = counts; positions = positions }
+
+-- 4, each case of 10, 4 again and 9
+pub term-numbers-met : HostTermWritten 16777217 (word [] [] []) [] (refuses 4) []
+    × HostTermWritten 3 (word (1 ∷ []) [] []) [] (refuses 10) []
+    × HostTermWritten 3 (word (1 ∷ (1 ∷ [])) (1 ∷ (1 ∷ [])) (0 ∷ (0 ∷ []))) [] (refuses 10) []
+    × HostTermWritten 3 (word (3 ∷ []) (1 ∷ []) (0 ∷ [])) [] (refuses 10) []
+    × HostTermWritten 3 (word (1 ∷ []) (0 ∷ []) []) [] (refuses 10) []
+    × HostTermWritten 3 (word (1 ∷ []) (1 ∷ []) []) [] (refuses 10) []
+    × HostTermWritten 3 (word (1 ∷ []) (2 ∷ []) (4 ∷ (4 ∷ []))) [] (refuses 10) []
+    × HostTermWritten 3 (word (1 ∷ []) (1 ∷ []) (16777216 ∷ [])) [] (refuses 4) []
+    × HostTermWritten 3 s9Word [] (refuses 9) []
+unfolding writeTerm validWord rising positive total inOrder inOrderByPage next places placed raised stored termBlock sums sized be block body runs pointers pointer afterZero bit words wordsFor upper lower zeros width greatest s9Word
+term-numbers-met = (refl, refl, refl, refl, refl, refl, refl, refl, refl)
+
+-- 9, 1, 4 by N and by T, 5 for a byte left over, and 1 for a term that is not there
+pub close-numbers-met : HostIndexClosed [] 1 0 0 (refuses 9) []
+    × HostIndexClosed [] 0 0 0 (refuses 1) []
+    × HostIndexClosed (replicate 11 0) 11 16777217 0 (refuses 4) (replicate 11 0)
+    × HostIndexClosed (replicate 11 0) 11 0 4097 (refuses 4) (replicate 11 0)
+    × HostIndexClosed (replicate 12 0) 12 0 0 (refuses 5) (replicate 12 0)
+    × HostIndexClosed (replicate 11 0) 11 0 1 (refuses 1) (replicate 11 0)
+unfolding closeIndex closeRefusal termsRefusal inside accepted
+close-numbers-met = (refl, refl, refl, refl, refl, refl)
+
+-- a refused card
+pub card-refused-met : HostIndexChecked [] 1 × HostAnswered [] [] [] (reports 1 0 0) []
+unfolding indexRefusal ask put reply joined laid accepted
+card-refused-met = (refl, refl)

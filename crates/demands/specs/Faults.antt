@@ -26,7 +26,8 @@
 --   LengthsDisagree t 10: "lengths disagree", of pages and counts
 --   ZeroCount t       10: "a count is 0"
 --   OtherSum t        10: "the counts don't sum to the number of positions"
---   onPage i t        the positions on page number i: as many as its count, behind those of the pages before it
+--   onPage i cs ps    the positions on page number i, of counts cs and positions ps: as many as its count, behind those
+--                     of the pages before it
 --   PlacesDisorder t  10: "positions are out of order in a page"
 use mathlib.Core.Bool.{true}
 use mathlib.Core.Path.{_≡_}
@@ -109,8 +110,8 @@ ZeroCount t = (i : ℕ) × (i < length (t .counts)) × (getD (t .counts) i 0 ≡
 abbrev pub OtherSum : Word → Type 0
 OtherSum t = total (t .counts) ≡ length (t .positions) → ⊥
 
-abbrev pub onPage : ℕ → Word → List ℕ
-onPage i t = take (getD (t .counts) i 0) (drop (total (take i (t .counts))) (t .positions))
+abbrev pub onPage : ℕ → List ℕ → List ℕ → List ℕ
+onPage i cs ps = take (getD cs i 0) (drop (total (take i cs)) ps)
 
 abbrev pub PlacesDisorder : Word → Type 0
-PlacesDisorder t = (i : ℕ) × (i < length (t .counts)) × OutOfOrder (onPage i t)
+PlacesDisorder t = (i : ℕ) × (i < length (t .counts)) × OutOfOrder (onPage i (t .counts) (t .positions))

@@ -5,15 +5,12 @@
 --                     "The first one found is the answer."
 --   alone h own s     bytes given by themselves: 1 and 2, and their own further sentences
 --   inside h own s    the block at the front of what remains of a container: 1 and 2 as inside one, and its own
---   listOwn s         3 to 6 of a list: "Order: 1, 2, 3, 4, 5, 6 in a list."
---   listSentences s   the check of a list
---   disagreements s   "parts disagree", the four that lie in a term
---   termOwn s         of a term: 3, "then each part in order with all its checks, then bytes left over (5)",
---                     "A term's own 7 comes after its 5"
---   termSentences s   the check of a term
+--   listOwn s         a list behind its 1 and 2, and listSentences s its check: "Order: 1, 2, 3, 4, 5, 6 in a list."
+--   disagreements s   "parts disagree": those that a term tells by itself
+--   termOwn s         a term behind its 1 and 2, and termSentences s its check: "its own 1 to 4, then each part in order
+--                     with all its checks, then bytes left over (5). A term's own 7 comes after its 5"
 --   termsOf T N s     T terms and what is left behind them: "pages U against N is tested when that term has passed"
---   indexOwn s        of an index: 3 and 4, then its terms: "In a container its own 1 to 4, then each part in order"
---   indexSentences s  the check of an index
+--   indexOwn s        an index behind its 1 and 2, and indexSentences s its check: its own 3 and 4, then its terms
 --   listWriting U xs room  "Writer of a list": 4, 10, 9
 --   termWriting N t room   "Writer of a term": 4, 10, 4, 9
 --   closing buffer used N T  "Closing an index": 9, 1, 4, "then the terms as in reading"
