@@ -371,8 +371,8 @@ pub common-in-run : (N : ℕ) (ts : List Word) (terms : List ℕ) → plain N ts
 unfolding plain
 common-in-run N ts terms = common-told N (pagesNamed ts terms)
 
--- A word named twice, anywhere in the question: the rule begins with a cursor for each place, two of them on that word's
--- list, and the 64-bit words of the list stand twice in the bound of the looks.
+-- A word named twice, anywhere in the question: the rule begins with a cursor for each place, two of them on that
+-- word's list, and the 64-bit words of the list stand twice in the bound of the looks.
 pub named-twice : (N : ℕ) (ts : List Word) (t : ℕ) (a b c : List ℕ)
     → let terms = a ++ (t ∷ (b ++ (t ∷ c))) in
     let ls = pagesNamed ts terms in

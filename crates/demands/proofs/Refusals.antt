@@ -39,8 +39,8 @@ use Rattle.demands.proofs.AskLaws.{reads, reply-first}
 pub list-check-first : (s : List ℕ) (r : ℕ) → HostListChecked s r → First r (listSentences s)
 list-check-first s r p = rw p (list-first s)
 
--- "In a container its own 1 to 4, then each part in order with all its checks, then bytes left over (5). A term's own 7
--- comes after its 5;"
+-- "In a container its own 1 to 4, then each part in order with all its checks, then bytes left over (5). A term's own
+-- 7 comes after its 5;"
 pub term-check-first : (s : List ℕ) (r : ℕ) → HostTermChecked s r → First r (termSentences s)
 term-check-first s r p = rw p (term-first s)
 
@@ -64,8 +64,8 @@ pub term-write-first : (N : ℕ) (t : Word) (room : List ℕ) (r : HostWritten) 
 term-write-first N t room r after p =
     rw (is-refusal (writeTerm N t room) r after p) (term-writing room N t)
 
--- "Closing an index: .. 9 if the used length is above the buffer, 1 if it is below 11, 4 if the length doesn't fit four
--- bytes or N or T is over, then the terms as in reading."
+-- "Closing an index: .. 9 if the used length is above the buffer, 1 if it is below 11, 4 if the length doesn't fit
+-- four bytes or N or T is over, then the terms as in reading."
 pub close-index-first : (buffer : List ℕ) (used N T : ℕ) (r : HostWritten) (after : List ℕ)
     → HostIndexClosed buffer used N T r after → First (r .refusal) (closing buffer used N T)
 close-index-first buffer used N T r after p =

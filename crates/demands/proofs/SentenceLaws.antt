@@ -1,5 +1,5 @@
--- The refusals of bytes by document 01's definitions are the first of its sentences that hold: a list, a term, an index
--- and its closing.
+-- The refusals of bytes by document 01's definitions are the first of its sentences that hold: those of a list, of a
+-- term, of an index and of its closing.
 use mathlib.Core.Bool.{Bool, true, false, cond, not, _||_, true≢false}
 use mathlib.Core.Path.{_≡_, refl, sym, ap, _∙_}
 use mathlib.Core.List.{List, _∷_, _++_}

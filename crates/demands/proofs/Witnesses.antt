@@ -1,5 +1,5 @@
--- The premises of Demands.antt and Refusals.antt can be met: every input has a result that the promise allows, and S9's
--- card, its question and small rooms meet the others, by computation.
+-- The premises of Demands.antt and Refusals.antt can be met: every input has a result that the promise allows, and
+-- S9's card, its question and small rooms meet the others, by computation.
 use mathlib.Core.Bool.{true}
 use mathlib.Core.Path.{_≡_, refl}
 use mathlib.Core.List.{List, [], _∷_}

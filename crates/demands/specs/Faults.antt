@@ -26,8 +26,8 @@
 --   LengthsDisagree t 10: "lengths disagree", of pages and counts
 --   ZeroCount t       10: "a count is 0"
 --   OtherSum t        10: "the counts don't sum to the number of positions"
---   onPage i cs ps    the positions on page number i, of counts cs and positions ps: as many as its count, behind those
---                     of the pages before it
+--   onPage i cs ps    the positions on page number i, of counts cs and positions ps: as many as its count, behind
+--                     those of the pages before it
 --   PlacesDisorder t  10: "positions are out of order in a page"
 use mathlib.Core.Bool.{true}
 use mathlib.Core.Path.{_≡_}

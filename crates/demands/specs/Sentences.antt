@@ -7,8 +7,8 @@
 --   inside h own s    the block at the front of what remains of a container: 1 and 2 as inside one, and its own
 --   listOwn s         a list behind its 1 and 2, and listSentences s its check: "Order: 1, 2, 3, 4, 5, 6 in a list."
 --   disagreements s   "parts disagree": those that a term tells by itself
---   termOwn s         a term behind its 1 and 2, and termSentences s its check: "its own 1 to 4, then each part in order
---                     with all its checks, then bytes left over (5). A term's own 7 comes after its 5"
+--   termOwn s         a term behind its 1 and 2, and termSentences s its check: "its own 1 to 4, then each part in
+--                     order with all its checks, then bytes left over (5). A term's own 7 comes after its 5"
 --   termsOf T N s     T terms and what is left behind them: "pages U against N is tested when that term has passed"
 --   indexOwn s        an index behind its 1 and 2, and indexSentences s its check: its own 3 and 4, then its terms
 --   listWriting U xs room  "Writer of a list": 4, 10, 9
