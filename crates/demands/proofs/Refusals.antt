@@ -1,21 +1,23 @@
 -- Refusals exactly when: of each exported call, the number that it gives is that of the first of document 01's
--- sentences that holds, and 0 where none does. The sentences, in document 01's order, are in specs/Sentences.antt, and
--- what each says in specs/Faults.antt and specs/BadQuestions.antt. FirstLaws.antt turns each theorem into "exactly
--- when": `first-exactly` for any number, `first-none` for 0, and `first-place` for another, of which a sentence holds
--- and none before it does. Like those of Demands.antt, the theorems are of any result that the promise of the call
--- allows, and of nothing else of the program.
+-- sentences that holds, and 0 where none does; a check's promise says this and no more. The sentences, in document
+-- 01's order, are in specs/Sentences.antt, and what each says in specs/Faults.antt and specs/BadQuestions.antt.
+-- FirstLaws.antt turns each theorem into "exactly when": `first-exactly` for any number, `first-none` for 0, and
+-- `first-place` for another, of which a sentence holds and none before it does. Like those of Demands.antt, the
+-- theorems are of any result that the promise of the call allows, and of nothing else of the program.
 use mathlib.Core.Bool.{Bool, true, false, not}
 use mathlib.Core.Logic.{_↔_, inl, inr}
-use mathlib.Core.Path.{_≡_, refl, ap, _∙_}
+use mathlib.Core.Path.{_≡_, refl, sym, ap, _∙_}
 use mathlib.Core.List.{List, [], _∷_, _++_}
 use Prim.Native.Nat.{ℕ, _<_}
 use native.Mathlib.Omega.{arith}
 use lib.ListN.{length}
 use Rattle.rules.specs.declared.Refusal.the-variants.{Question, Room}
 use Rattle.rules.specs.Refusal.{number}
+use Rattle.rules.specs.ReadList.{listRefusal}
 use Rattle.rules.specs.Write.{writeList}
 use Rattle.rules.specs.Term.{Word, writeTerm}
-use Rattle.rules.specs.Index.{indexT, closeIndex}
+use Rattle.rules.specs.ReadTerm.{termRefusal}
+use Rattle.rules.specs.Index.{indexT, indexRefusal, closeIndex}
 use Rattle.rules.specs.Questions.{wellFormed, replies}
 use Rattle.rules.specs.Ask.{joined}
 use Rattle.jundefola.specs.declared.HostWritten.{HostWritten}
@@ -25,8 +27,8 @@ use Rattle.jundefola.specs.Host.{HostIndexChecked, HostIndexClosed, HostAnswere
 use Rattle.demands.specs.BadQuestions.{SomeBad}
 use Rattle.demands.specs.Sentences.{Sentence, _when_, First, listSentences, termSentences, indexSentences}
 use Rattle.demands.specs.Sentences.{listWriting, termWriting, closing, asking}
-use Rattle.demands.proofs.FirstLaws.{None, first-unique, first-none, first-most, first-stay, first-skip}
-use Rattle.demands.proofs.FirstLaws.{first-append}
+use Rattle.demands.proofs.FirstLaws.{None, first-unique, first-exactly, first-none, first-most}
+use Rattle.demands.proofs.FirstLaws.{first-stay, first-skip, first-append}
 use Rattle.demands.proofs.WriteLaws.{is-refusal, close-gives}
 use Rattle.demands.proofs.SentenceLaws.{list-first, term-first, index-first, close-first, index-refuses}
 use Rattle.demands.proofs.FaultLaws.{list-writing, term-writing}
@@ -35,18 +37,24 @@ use Rattle.demands.proofs.AskLaws.{reads, reply-first}
 
 -- ---- the checks
 
+-- a check that gives q, the first's number, gives r exactly when that is the first's number
+checked : (ps : List Sentence) (q r : ℕ) → First q ps → (r ≡ q) ↔ First r ps
+checked ps q r f =
+    let e = first-exactly ps q f r in
+    (λ p. e .0 (sym p), λ g. sym (e .1 g))
+
 -- "Order: 1, 2, 3, 4, 5, 6 in a list."
-pub list-check-first : (s : List ℕ) (r : ℕ) → HostListChecked s r → First r (listSentences s)
-list-check-first s r p = rw p (list-first s)
+pub list-check-first : (s : List ℕ) (r : ℕ) → HostListChecked s r ↔ First r (listSentences s)
+list-check-first s r = checked (listSentences s) (number (listRefusal s)) r (list-first s)
 
 -- "In a container its own 1 to 4, then each part in order with all its checks, then bytes left over (5). A term's own
 -- 7 comes after its 5;"
-pub term-check-first : (s : List ℕ) (r : ℕ) → HostTermChecked s r → First r (termSentences s)
-term-check-first s r p = rw p (term-first s)
+pub term-check-first : (s : List ℕ) (r : ℕ) → HostTermChecked s r ↔ First r (termSentences s)
+term-check-first s r = checked (termSentences s) (number (termRefusal s)) r (term-first s)
 
 -- "pages U against N is tested when that term has passed. The first one found is the answer."
-pub index-check-first : (s : List ℕ) (r : ℕ) → HostIndexChecked s r → First r (indexSentences s)
-index-check-first s r p = rw p (index-first s)
+pub index-check-first : (s : List ℕ) (r : ℕ) → HostIndexChecked s r ↔ First r (indexSentences s)
+index-check-first s r = checked (indexSentences s) (number (indexRefusal s)) r (index-first s)
 
 -- ---- the writers and closing
 
@@ -102,14 +110,14 @@ module _ (s qs room : List ℕ) (r : HostAsked) (after : List ℕ) (p : HostAnsw
     is-given j f = first-unique (asking s qs room) (r .refusal) j ask-first f
 
     passed : k ≡ 0 → None (indexSentences s)
-    passed z = first-none 7 (indexSentences s) (index-refuses s) .0 (rw z at (index-check-first s k c))
+    passed z = first-none 7 (indexSentences s) (index-refuses s) .0 (rw z at (index-check-first s k .0 c))
 
     -- a number above the card's own comes from the sentences behind them, and the card was accepted
     behind-card : 7 < r .refusal → (k ≡ 0) × First (r .refusal) later
     behind-card h = elim (first-append later (r .refusal) 7 (indexSentences s) (index-refuses s) .0 ask-first) [
       | inl a ↦ absurd (omega (arith, first-most 7 (indexSentences s) (r .refusal) (index-refuses s) (a .0)))
       | inr a ↦ (
-        first-unique (indexSentences s) k 0 (index-check-first s k c)
+        first-unique (indexSentences s) k 0 (index-check-first s k .0 c)
             (first-none 7 (indexSentences s) (index-refuses s) .1 (a .0)),
         a .1,
       )
@@ -117,7 +125,7 @@ module _ (s qs room : List ℕ) (r : HostAsked) (after : List ℕ) (p : HostAnsw
 
     -- A refused card's number is the check's own.
     pub ask-card : (k ≡ 0 → ⊥) → r .refusal ≡ k
-    ask-card n = is-given k (first-stay later k (indexSentences s) n (index-check-first s k c))
+    ask-card n = is-given k (first-stay later k (indexSentences s) n (index-check-first s k .0 c))
 
     -- 8 exactly when the card is accepted and some question is bad.
     pub ask-question : (r .refusal ≡ number Question) ↔ ((k ≡ 0) × SomeBad (indexT s) qs)
