@@ -1,7 +1,8 @@
--- What the tests of document 01's definitions tell, in its words: of lists that a writer is handed, and of questions.
+-- What the tests of lists that a writer is handed tell, in document 01's words; and that a writer's refusal is the
+-- first of its sentences that holds.
 use mathlib.Core.Bool.{Bool, true, false, cond, not, _&&_, true≢false}
-use mathlib.Core.Logic.{_⊎_, inl, inr}
-use mathlib.Core.Path.{_≡_, refl, ap}
+use mathlib.Core.Logic.{_↔_, _⊎_, inl, inr}
+use mathlib.Core.Path.{_≡_, refl, sym, ap, _∙_}
 use mathlib.Core.List.{List, [], _∷_}
 use Prim.Native.Nat.{ℕ, zero, suc, _+_, _≤_, _<_}
 use native.Mathlib.Omega.{arith}
@@ -13,12 +14,13 @@ use Rattle.rules.specs.declared.Refusal.{Refusal}
 use Rattle.rules.specs.declared.Refusal.the-variants.{Room}
 use Rattle.rules.specs.Refusal.{number}
 use Rattle.rules.specs.Limits.{limit}
-use Rattle.rules.specs.List.{rising, block}
+use Rattle.rules.specs.List.{rising, validList, block}
 use Rattle.rules.specs.Write.{Made, refused, stored, writeList}
 use Rattle.rules.specs.Term.{Word, total, next, places, positive, inOrder, inOrderByPage, validWord, termBlock}
 use Rattle.rules.specs.Term.{writeTerm}
 use Rattle.rules.specs.Questions.{allBelow}
 use Rattle.listlaws.proofs.RisingLaws.{and-parts, and-assoc}
+use Rattle.listlaws.proofs.ValidLaws.{valid-parts, valid-from}
 use Rattle.termlaws.proofs.OrderLaws.{order-parts}
 use Rattle.demands.specs.Faults.{OutOfOrder, NotBelow, ZeroCount, onPage, PlacesDisorder}
 use Rattle.demands.specs.Sentences.{Sentence, _when_, First, listWriting, termWriting}
@@ -93,6 +95,24 @@ rising-both lo U (x ∷ xs) = rw (rising-both (x + 1) U xs)
     turn true b true d = refl
     turn true true false d = refl
     turn true false false d = refl
+
+passes : (b : Bool) (P : Type 0) → Tests (not b) P → (P → ⊥) → b ≡ true
+passes true P t n = refl
+passes false P t n = absurd (n (t .0 refl))
+
+-- so a valid list is one that is in order and below a U within its limit
+pub valid-is : (U : ℕ) (xs : List ℕ)
+    → (validList U xs ≡ true) ↔ ((U ≤ limit) × (OutOfOrder xs → ⊥) × (NotBelow U xs → ⊥))
+valid-is U xs = (
+  λ v.
+      let p = valid-parts U xs v in
+      let q = and-parts (inOrder 0 xs) (allBelow U xs) (sym (rising-both 0 U xs) ∙ p .1) in
+      (p .0, tests-order xs .1 (ap not (q .0)), tests-below U xs .1 (ap not (q .1))),
+  λ p.
+      let o = passes (inOrder 0 xs) (OutOfOrder xs) (tests-order xs) (p .1) in
+      let b = passes (allBelow U xs) (NotBelow U xs) (tests-below U xs) (p .2) in
+      valid-from U xs (p .0) (rising-both 0 U xs ∙ rw (o, b)),
+)
 
 -- ---- the counts and positions of a word
 

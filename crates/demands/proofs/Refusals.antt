@@ -8,11 +8,13 @@ use mathlib.Core.Bool.{Bool, true, false, not}
 use mathlib.Core.Logic.{_↔_, inl, inr}
 use mathlib.Core.Path.{_≡_, refl, sym, ap, _∙_}
 use mathlib.Core.List.{List, [], _∷_, _++_}
-use Prim.Native.Nat.{ℕ, _<_}
+use Prim.Native.Nat.{ℕ, _≤_, _<_}
 use native.Mathlib.Omega.{arith}
 use lib.ListN.{length}
 use Rattle.rules.specs.declared.Refusal.the-variants.{Question, Room}
 use Rattle.rules.specs.Refusal.{number}
+use Rattle.rules.specs.Limits.{limit}
+use Rattle.rules.specs.List.{validList}
 use Rattle.rules.specs.ReadList.{listRefusal}
 use Rattle.rules.specs.Write.{writeList}
 use Rattle.rules.specs.Term.{Word, writeTerm}
@@ -24,6 +26,7 @@ use Rattle.jundefola.specs.declared.HostWritten.{HostWritten}
 use Rattle.jundefola.specs.declared.HostAsked.{HostAsked}
 use Rattle.jundefola.specs.Host.{HostListChecked, HostListWritten, HostTermChecked, HostTermWritten}
 use Rattle.jundefola.specs.Host.{HostIndexChecked, HostIndexClosed, HostAnswered}
+use Rattle.demands.specs.Faults.{OutOfOrder, NotBelow}
 use Rattle.demands.specs.BadQuestions.{SomeBad}
 use Rattle.demands.specs.Sentences.{Sentence, _when_, First, listSentences, termSentences, indexSentences}
 use Rattle.demands.specs.Sentences.{listWriting, termWriting, closing, asking}
@@ -31,7 +34,7 @@ use Rattle.demands.proofs.FirstLaws.{None, first-unique, first-exactly,
 use Rattle.demands.proofs.FirstLaws.{first-stay, first-skip, first-append}
 use Rattle.demands.proofs.WriteLaws.{is-refusal, close-gives}
 use Rattle.demands.proofs.SentenceLaws.{list-first, term-first, index-first, close-first, index-refuses}
-use Rattle.demands.proofs.FaultLaws.{list-writing, term-writing}
+use Rattle.demands.proofs.FaultLaws.{valid-is, list-writing, term-writing}
 use Rattle.demands.proofs.BadLaws.{tests-bad}
 use Rattle.demands.proofs.AskLaws.{reads, reply-first}
 
@@ -55,6 +58,11 @@ term-check-first s r = checked (termSentences s) (number (termRefusal s)) r (ter
 -- "pages U against N is tested when that term has passed. The first one found is the answer."
 pub index-check-first : (s : List ℕ) (r : ℕ) → HostIndexChecked s r ↔ First r (indexSentences s)
 index-check-first s r = checked (indexSentences s) (number (indexRefusal s)) r (index-first s)
+
+-- The valid lists of which 6 and 7 speak: in order, and below a U within its limit.
+pub valid-plainly : (U : ℕ) (xs : List ℕ)
+    → (validList U xs ≡ true) ↔ ((U ≤ limit) × (OutOfOrder xs → ⊥) × (NotBelow U xs → ⊥))
+valid-plainly = valid-is
 
 -- ---- the writers and closing
 
