@@ -1,0 +1,141 @@
+"""Sentences about counts and cursors in all crates: where they are made, moved, kept, summed up and told."""
+from reading import flow, tree
+from reading.compare import compared
+
+# every place at which a field `seeks` or `looks` is read or given
+COUNTS = {
+    "seek::Cursor::new": ["seeks: 0", "looks: 0"],
+    "seek::seek": ["c.looks", "seeks: c.seeks + 1", "c.seeks", "looks: looks"],
+    "query::totals": ["c.seeks", "c.looks", "seeks: seeks", "looks: looks"],
+    "bycommon::put_common": ["listed.seeks", "listed.looks"],
+    "seeks::show_seek": ["c.looks"],  # the small program that prints single seeks
+}
+# the structs that hold counts, and the query, with the places at which they are made
+MADE = {
+    "seek::Cursor": ["seek::Cursor::new", "seek::seek"],
+    "query::Query": ["query::Query::new"],
+    "query::Listed": ["query::totals"],
+}
+# every place from which a function is called that makes, moves or sums up cursors
+CALLS = {
+    "seek::seek": ["query::seek_in", "seeks::show_seek"],
+    "seek::Cursor::new": ["query::Query::new", "seeks::show_seek"],
+    "query::Query::new": ["query::list_common", "kinds::by_bound", "phrases::list_starts"],
+    "query::seek_in": ["query::scan_lists"],
+    "query::scan_lists": ["query::list_common", "query::next_common"],
+    "query::next_common": ["kinds::by_bound", "phrases::list_starts"],  # kinds 2 and 4, which tell no counts
+    "query::totals": ["query::list_common"],
+    # pages are counted first where the room may be too small for them
+    "query::list_common": ["bycommon::by_common", "bycommon::put_common"],
+    "bycommon::put_common": ["bycommon::by_common", "bycommon::by_common"],
+    "bycommon::by_common": ["ask::answer_one"],
+}
+# what `seek_in` is given and gives back: the query, and the cursor in hand
+IN_HAND = ("q", "hand")
+TURNS = (tree.If, tree.Match, tree.Loop, tree.For, tree.Leave)
+# functions that take each of their steps once
+STRAIGHT = ["seek::seek", "query::seek_in"]
+
+
+def counts_where_named(program):
+    """In all crates a count is read or given only at the places of the table: `seek` alone adds to seeks, and no
+    struct but the cursor and the sums has a count."""
+    found = {}
+    for f in program.functions.values():
+        for node in tree.every((tree.Field, tree.Given), f.body):
+            if node.name in ("seeks", "looks"):
+                found.setdefault(f.path, []).append(str(node))
+    yield from compared("a count stands in", found, COUNTS)
+    for name, fields in program.structs.items():
+        if {"seeks", "looks"} & set(fields) and name not in MADE:
+            yield f"{name}: it has fields for counts"
+
+
+def made_where_named(program):
+    """In all crates cursors, queries and sums of counts are made only at the places of the table."""
+    found = {}
+    for f in program.functions.values():
+        for made in tree.every(tree.Made, f.body):
+            found.setdefault(program.meaning(f.crate, made.type), []).append(f.path)
+    yield from compared("made in", {name: found.get(name, []) for name in MADE}, MADE)
+
+
+def called_where_named(program):
+    """In all crates the seek, and what makes, moves or sums up cursors, is called only at the places of the table."""
+    found = {}
+    for f in program.functions.values():
+        for callee, _ in program.calls(f):
+            found.setdefault(callee, []).append(f.path)
+    yield from compared("called in", {name: found.get(name, []) for name in CALLS}, CALLS)
+
+
+def steps_once(program):
+    """`seek` and `seek_in` have no branch and no loop: each of their steps is taken once."""
+    for path in STRAIGHT:
+        for node in tree.every(TURNS, program.function(path).body):
+            yield f"{path}: `{node}`"
+
+
+def cursor_kept(program):
+    """`seek_in` gives the cursor in hand to the seek, and puts in its place what the seek gave back."""
+    f = program.function("query::seek_in")
+    changes = tree.every(tree.Assign, f.body)
+    seeks = [call for callee, call in program.calls(f) if callee == "seek::seek"]
+    if len(changes) != 1 or len(seeks) != 1:
+        yield f"{f.path}: {len(changes)} changes and {len(seeks)} seeks"
+        return
+    change, given = changes[0], str(seeks[0].arguments[2])
+    if change.sign != "=" or flow.origin(program, f, change.value) != "seek::seek()":
+        yield f"{f.path}: `{change}` is not what the seek gave back"
+    if given != str(change.target) or str(f.body.value) != flow.root(change.target):
+        yield f"{f.path}: the seek is given `{given}`, `{change.target}` is changed, `{f.body.value}` given back"
+
+
+def query_kept(program):
+    """The loop of seeks puts the cursor that a seek gave back into the slot that it came from, before anything else,
+    and changes the query in no other way; nothing else in any crate changes a query's cursors."""
+    for f in program.functions.values():
+        stores = [change for change in tree.every(tree.Assign, f.body)
+                  if any(field.name == "cursors" for field in tree.every(tree.Field, change.target))]
+        if f.path != "query::scan_lists":
+            yield from (f"{f.path}: `{store}` changes a query's cursors" for store in stores)
+        elif len(stores) == 1:
+            yield from round_wrong(program, f, stores[0])
+        else:
+            yield f"{f.path}: it stores cursors at {len(stores)} places"
+
+
+def round_wrong(program, f, store):
+    """What is wrong with a round of the loop of seeks, which ends in that store."""
+    slot, query = str(store.target), flow.root(store.target)
+    changes = [change for change in tree.every(tree.Assign, f.body) if flow.root(change.target) == query]
+    told = [(str(change.target), flow.origin(program, f, change.value)) for change in changes]
+    if told != [(place, f"query::seek_in().{field}") for place, field in zip((query, slot), IN_HAND)]:
+        yield f"{f.path}: the query is changed by {', '.join(f'`{change}`' for change in changes)}"
+    starts = [str(let) for let in tree.every(tree.Let, f.body) if let.name == query]
+    first = [name for name in f.of_type("Query") if len(flow.mentions(name, f.body)) == 1]
+    if starts not in [[f"let mut {query} = {name}"] for name in first]:
+        yield f"{f.path}: the query that is given is used for more than to start the loop"
+    yield from between_wrong(program, f, store, changes)
+
+
+def between_wrong(program, f, store, changes):
+    """What is wrong between taking a cursor out of its slot and storing it there: the seek is given that cursor with
+    the query, and all steps are plain ones."""
+    steps = [block.statements for block in tree.every(tree.Block, f.body) if store in block.statements][0]
+    taken = [i for i, step in enumerate(steps) if isinstance(step, tree.Let) and str(step.value) == str(store.target)]
+    if len(taken) != 1:
+        yield f"{f.path}: `{store.target}` is taken {len(taken)} times in the round that stores it"
+        return
+    steps = steps[taken[0]:steps.index(store)]
+    for step in steps:
+        plain = isinstance(step, tree.Let) or step in changes
+        if not plain or tree.every(TURNS + (tree.Block,), step):
+            yield f"{f.path}: `{step}` between a seek and the storing of its cursor"
+    given = [[(node.name, str(node.value)) for node in tree.every(tree.Given, step)] for step in steps
+             if flow.origin(program, f, getattr(step, "value", step)) == "query::seek_in()"]
+    if given != [list(zip(IN_HAND, (flow.root(store.target), steps[0].name)))]:
+        yield f"{f.path}: the seek in that round is not given the query and the cursor of `{store.target}`"
+
+
+SENTENCES = [counts_where_named, made_where_named, called_where_named, steps_once, cursor_kept, query_kept]

@@ -1,0 +1,111 @@
+"""Sentences about the card's bytes on the way of kind 3: every place at which a byte of them is read."""
+from typing import NamedTuple
+
+from reading import flow, tree
+from reading.compare import compared
+from sentences.written import WRITTEN
+
+KIND_3 = "bycommon::by_common"
+
+
+class Read(NamedTuple):
+    """What a function reads, in terms of what it is given; what that is; and the fact that it asks of its callers, by
+    which the place is what it is said to be. Where it asks nothing here, it gets no bytes but those that it may read,
+    or the word is counted."""
+    texts: list
+    what: str
+    asks: str = ""
+
+
+# every read of bytes that kind 3 reaches
+READS = {
+    "bits::read_u32": Read(["s[at]", "s[at + 1]", "s[at + 2]", "s[at + 3]"], "the bytes of a number"),
+    "bits::read_u64": Read(["read_u32(s, at)", "read_u32(s, at + 4)"], "the halves of a number"),
+    "bits::run_word": Read(["read_u64(s, at + 8 * k)"], "the word that is asked for"),
+    "wordlists::list_in": Read(
+        ["bits::read_u32(card, at)"], "the length of a term",
+        "⌜ (indexRefusal (now card) ≡ Accepted) × TermThere (now card) at × (k < 3) ⌝"),
+    "parts::block_start": Read(
+        ["bits::read_u32(rest, 0)"], "the lengths of the blocks before one", "⌜ Walkable from k (now s) ⌝"),
+    "parts::block_place": Read(
+        ["bits::read_u32(s, block_start(s, from, k))"], "the length of a block", "⌜ Walkable from k (now s) ⌝"),
+    "openlists::length_of": Read(
+        ["bits::read_u32(part_of(card, places, i), 9)"], "n in a list's header",
+        "⌜ (i < 8) × PlaceOk (now card) (now places) i ⌝"),
+    "readlist::shape_at": Read(
+        ["bits::read_u32(block, 5)", "bits::read_u32(block, 9)"], "U and n in a list's header",
+        "⌜ listRefusal (now block) ≡ Accepted ⌝"),
+    "readlist::pointer_in": Read(
+        ["bits::read_u32(block, 9 + 4 * i)"], "pointer number i",
+        "⌜ Open (now block) (shapeIn (now block)) × (i ≤ pointersIn (shapeIn (now block))) ⌝"),
+    "seek::low_part": Read(
+        ["bits::run_word(&s[g.lower..g.upper], 0, rank * g.w / 64)",
+         "bits::run_word(&s[g.lower..g.upper], 0, rank * g.w / 64 + 1)"], "words of the lower run"),
+    "seek::look": Read(["bits::run_word(s, upper, k)"], "the word of the upper run that is counted"),
+}
+# what may be given the card between its check and the kinds of questions
+KINDS = ["ask::answer_one", KIND_3, "kinds::by_bound", "kinds::by_rank", "phrases::by_phrase"]
+
+
+def card_goes_to_kinds(program):
+    """Between the check of the card and the kinds of questions nothing is done with the card but hand it on."""
+    for path in ["ask::answer_all", "ask::answer_one"]:
+        f = program.function(path)
+        for use in flow.Bytes(program, f).uses():
+            if use.what != "handed" or program.callee(f, use.node) not in KINDS:
+                yield f"{path}: `{use.node}`: the bytes `{use.bytes}` are {use.what}"
+
+
+def bytes_are_followed(program):
+    """From kind 3 on, through all crates, bytes are cut, named, handed to functions of the crates and given back, and
+    nothing else is done with them but read them and take their length."""
+    for f in program.reached(KIND_3):
+        held = flow.Bytes(program, f)
+        for name in held.twice():
+            yield f"{f.path}: the bytes {name} are bound more than once"
+        for use in held.uses():
+            outside = use.what == "handed" and program.callee(f, use.node) not in program.functions
+            if use.what == "other" or outside:
+                yield f"{f.path}: `{use.node}`: the bytes `{use.bytes}` are not followed"
+
+
+def reads_in(program, f):
+    """The reads of bytes in a function: a byte, or a call of crate bits that is given bytes."""
+    return [use.node for use in flow.Bytes(program, f).uses() if use.what == "byte"
+            or use.what == "handed" and program.callee(f, use.node).startswith("bits::")]
+
+
+def reads_found(program):
+    """Every read of bytes that kind 3 reaches, in terms of what its function is given."""
+    found = {f.path: [str(flow.followed(node, flow.named(f))) for node in reads_in(program, f)]
+             for f in program.reached(KIND_3)}
+    return {path: texts for path, texts in found.items() if texts}
+
+
+def reads_where_named(program):
+    """From kind 3 on, through all crates, bytes are read only at the places of the table, by functions that ask of
+    their callers what the table says."""
+    yield from compared("it reads", reads_found(program), {path: read.texts for path, read in READS.items()})
+    for path, read in READS.items():
+        if read.asks and program.function(path).requires != [read.asks]:
+            yield f"{path}: it asks `{' '.join(program.function(path).requires)}`, and not `{read.asks}`"
+
+
+def reads_settled(program):
+    """Each of these reads is made once in a call and at a place that is settled by what its function is given; but for
+    the walk over lengths, which stands as it is written in the test."""
+    for f in program.reached(KIND_3):
+        for node in reads_in(program, f):
+            if f.path not in WRITTEN and not flow.settled(f, node):
+                yield f"{f.path}: `{node}` is in a loop, or its place can change"
+
+
+def tell(program):
+    """Prints every read that was found, with what the table says of it."""
+    print(f"counts: kind 3 reaches {len(program.reached(KIND_3))} functions, and bytes are read in these alone:")
+    for path, texts in reads_found(program).items():
+        what = READS[path].what if path in READS else "not in the table"
+        print(f"counts:   {path}: {', '.join(texts)}: {what}")
+
+
+SENTENCES = [card_goes_to_kinds, bytes_are_followed, reads_where_named, reads_settled]

@@ -1,0 +1,81 @@
+"""Small functions that stand word for word as they are written here, contracts apart."""
+from reading.source import read
+
+# what hands out a word and counts it
+LOOK = """
+fn look(s: &[u8], upper: usize, k: usize, looks: &mut u32) -> u64 {
+    *looks += 1;
+    bits::run_word(s, upper, k)
+}
+"""
+# the plain sums of the cursors' counts, and what they are summed up of
+SUMS = """
+fn totals(q: Query, found: usize) -> Listed {
+    let mut seeks = 0;
+    let mut looks = 0;
+    let mut i = 0;
+    while i < 8 {
+        let c = q.cursors[i];
+        seeks += c.seeks;
+        looks += c.looks;
+        i += 1;
+    }
+    Listed { found, seeks, looks }
+}
+pub fn list_common(card: &[u8], shapes: &[u32], k: usize, bound: usize, room: &mut [u32]) -> Listed {
+    let r = scan_lists(card, shapes, Query::new(), k, bound, true, room);
+    totals(r.q, r.found)
+}
+"""
+# how kind 3 tells them; pages are counted first where the room may be too small for them
+TOLD = """
+fn put_common(card: &[u8], shapes: &[u32], k: usize, room: &mut [u32]) -> usize {
+    let listed = query::list_common(card, shapes, k, 0, &mut room[3..]);
+    room[0] = (listed.found + 2) as u32;
+    room[1] = listed.seeks;
+    room[2] = listed.looks;
+    listed.found + 3
+}
+pub fn by_common(card: &[u8], terms: &[u32], room: &mut [u32]) -> usize {
+    let k = terms.len();
+    let mut shapes = [0u32; 64];
+    wordlists::open_pages(card, terms, &mut shapes);
+    if query::number(&shapes, 0, 7) + 3 <= room.len() {
+        return put_common(card, &shapes, k, room);
+    }
+    let mut none = [0u32; 0];
+    let counted = query::list_common(card, &shapes, k, 0, &mut none);
+    if room.len() < counted.found + 3 {
+        return 0;
+    }
+    put_common(card, &shapes, k, room)
+}
+"""
+# the one loop besides the seek's in which kind 3 reads bytes: from block to block, by their lengths
+WALK = """
+pub fn block_start(s: &[u8], from: usize, k: usize) -> usize {
+    let mut rest = &s[from..];
+    let mut i = 0;
+    while i < k {
+        let size = bits::read_u32(rest, 0) as usize;
+        rest = &rest[size..];
+        i += 1;
+    }
+    s.len() - rest.len()
+}
+"""
+WRITTEN = {f.path: f for crate, text in [("seek", LOOK), ("query", SUMS), ("bycommon", TOLD), ("parts", WALK)]
+           for f in read(crate, text).functions.values()}
+
+
+def stands_as_written(program):
+    """What hands out a word and adds a look, what sums up the counts, what tells them, and the walk over the lengths
+    of blocks stand word for word as the test has them: a look is one word, counts are summed plainly and told as they
+    are."""
+    for path, written in WRITTEN.items():
+        found = program.function(path)
+        if str(found) != str(written):
+            yield f"{path}: it is `{found}`, and not `{written}`"
+
+
+SENTENCES = [stands_as_written]
