@@ -16,7 +16,7 @@ MADE = {
     "query::Query": ["query::Query::new"],
     "query::Listed": ["query::totals"],
 }
-# every place from which a function is called that makes, moves or sums up cursors
+# every place from which a function is called that makes, moves or sums up cursors, or that answers by them
 CALLS = {
     "seek::seek": ["query::seek_in", "seeks::show_seek"],
     "seek::Cursor::new": ["query::Query::new", "seeks::show_seek"],
@@ -29,6 +29,7 @@ CALLS = {
     "query::list_common": ["bycommon::by_common", "bycommon::put_common"],
     "bycommon::put_common": ["bycommon::by_common", "bycommon::by_common"],
     "bycommon::by_common": ["ask::answer_one"],
+    "ask::answer_one": ["ask::answer_all"],
 }
 # what `seek_in` is given and gives back: the query, and the cursor in hand
 IN_HAND = ("q", "hand")
