@@ -21,8 +21,8 @@ pub struct Other<'a> {
 
 /// What came of one comparison.
 pub struct Compared {
-    /// The refusal that the plain program gives, 0 if none.
-    pub refusal: u32,
+    /// What the plain program gives.
+    pub plain: Outcome,
     /// A case file that shows the difference, if there is one.
     pub difference: Option<String>,
 }
@@ -32,14 +32,13 @@ impl Other<'_> {
     pub fn compare(&self, stored: &Stored) -> Option<Compared> {
         let given = self.outcome(&stored.case)?;
         let plain = plain_outcome(&stored.case);
-        let refusal = plain.refusal();
-        let as_stored = stored.gives.as_ref().is_none_or(|gives| *gives == plain);
-        let same = as_stored && given.as_ref() == Ok(&plain);
-        let difference = (!same).then(|| difference_text(stored, &plain, &given));
-        Some(Compared {
-            refusal,
-            difference,
-        })
+        Some(compared(stored, plain, given))
+    }
+
+    /// The same for a case whose plain outcome has been worked out.
+    pub fn compare_decided(&self, stored: &Stored, plain: Outcome) -> Option<Compared> {
+        let given = self.outcome(&stored.case)?;
+        Some(compared(stored, plain, given))
     }
 
     fn outcome(&self, case: &Case) -> Option<Result<Outcome, String>> {
@@ -50,6 +49,13 @@ impl Other<'_> {
             _ => run_call(self.calls, case).map(Ok),
         }
     }
+}
+
+fn compared(stored: &Stored, plain: Outcome, given: Result<Outcome, String>) -> Compared {
+    let as_stored = stored.gives.as_ref().is_none_or(|gives| *gives == plain);
+    let same = as_stored && given.as_ref() == Ok(&plain);
+    let difference = (!same).then(|| difference_text(stored, &plain, &given));
+    Compared { plain, difference }
 }
 
 /// What the plain program gives for a case.

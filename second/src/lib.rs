@@ -3,10 +3,12 @@
 
 pub mod case;
 pub mod compare;
+pub mod full_size;
 pub mod gen;
 pub mod host_calls;
 pub mod long_closing;
 pub mod plain;
+pub mod sights;
 pub mod stored;
 pub mod tally;
 pub mod text;

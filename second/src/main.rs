@@ -4,7 +4,10 @@
 #[cfg(not(feature = "self"))]
 mod host;
 mod options;
+mod pace;
 mod session;
+mod work_files;
+mod worker;
 
 use options::{Options, Task};
 use std::process::ExitCode;

@@ -1,28 +1,34 @@
 //! The command line.
 
+use second::gen::full_size::SHAPES;
 use std::fmt;
 use std::path::PathBuf;
 
 /// What the command line takes.
 pub const USAGE: &str = "\
-usage: second [--seed S] [--calls C] [--runs R] [--program PATH]
-              [--threads K] [--out FOLDER] [--replay FILE | --case JOB]
+usage: second [--seed S] [--calls C] [--cards F] [--runs R] [--program PATH]
+              [--minutes M] [--threads K] [--out FOLDER]
+              [--replay FILE | --case JOB]
 
   --seed S        the seed of the cases (default 1)
   --calls C       seeded host calls to compare (default 200000)
+  --cards F       cards of full size to make calls with (default 6)
   --runs R        seeded runs of the program to compare (default 1000)
   --program PATH  the program whose printed text is compared
+  --minutes M     begin no new job after so many minutes (default: no bound)
   --threads K     threads at work (default: as many as there are cores)
   --out FOLDER    where differences are written (default target/differences)
   --replay FILE   compare the cases of a case file only
-  --case JOB      compare one job only, such as call:17 or run:4, and write
-                  its case file before it is tried";
+  --case JOB      compare one job only, such as call:17, full:3 or run:4, and
+                  write its case file before it is tried";
 
 /// One piece of work, numbered so that it can be done again.
 #[derive(Clone, Copy, Debug, PartialEq, Eq)]
 pub enum Job {
     /// A stored edge or a small change to one.
     Stored(usize),
+    /// A call with a card of full size.
+    Full(u64),
     /// A seeded host call.
     Call(u64),
     /// A seeded run of the program.
@@ -33,6 +39,7 @@ impl fmt::Display for Job {
     fn fmt(&self, f: &mut fmt::Formatter) -> fmt::Result {
         match self {
             Job::Stored(number) => write!(f, "stored:{number}"),
+            Job::Full(number) => write!(f, "full:{number}"),
             Job::Call(number) => write!(f, "call:{number}"),
             Job::Run(number) => write!(f, "run:{number}"),
         }
@@ -44,6 +51,7 @@ impl Job {
         let (kind, number) = text.split_once(':')?;
         match kind {
             "stored" => number.parse().ok().map(Job::Stored),
+            "full" => number.parse().ok().map(Job::Full),
             "call" => number.parse().ok().map(Job::Call),
             "run" => number.parse().ok().map(Job::Run),
             _ => None,
@@ -69,10 +77,14 @@ pub struct Options {
     pub seed: u64,
     /// Seeded host calls.
     pub calls: u64,
+    /// Cards of full size.
+    pub cards: u64,
     /// Seeded runs of the program.
     pub runs: u64,
     /// The program, if it is compared.
     pub program: Option<PathBuf>,
+    /// The minutes after which no new job is begun.
+    pub minutes: Option<u64>,
     /// Threads at work.
     pub threads: usize,
     /// Where differences are written.
@@ -87,8 +99,10 @@ impl Options {
         let mut options = Options {
             seed: 1,
             calls: 200_000,
+            cards: SHAPES,
             runs: 1_000,
             program: None,
+            minutes: None,
             threads: std::thread::available_parallelism().map_or(1, usize::from),
             out: PathBuf::from("target/differences"),
             task: Task::Compare,
@@ -105,6 +119,8 @@ impl Options {
         match name {
             "--seed" => self.seed = number(name, value)?,
             "--calls" => self.calls = number(name, value)?,
+            "--cards" => self.cards = number(name, value)?,
+            "--minutes" => self.minutes = Some(number(name, value)?),
             "--runs" => self.runs = number(name, value)?,
             "--threads" => self.threads = number::<usize>(name, value)?.max(1),
             "--program" => self.program = Some(PathBuf::from(value)),

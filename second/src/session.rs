@@ -1,41 +1,51 @@
 //! The work of one start: all jobs on all threads, one job, or a case file.
 
 use crate::options::{Job, Options};
+use crate::pace::Pace;
+use crate::work_files::{write_case, Scratch};
+use crate::worker::Worker;
 use second::case::Kind;
 use second::compare::{Compared, Other};
+use second::full_size::{FullCard, CALLS};
 use second::gen::{calls, files};
 use second::host_calls::HostCalls;
 use second::long_closing;
 use second::stored;
 use second::tally::Tally;
 use second::text::{case_text, read_cases, Stored};
-use std::fs::{self, File};
-use std::os::unix::fs::FileExt;
-use std::path::{Path, PathBuf};
+use std::fs;
+use std::path::Path;
 use std::sync::atomic::{AtomicU64, Ordering};
-use std::time::Instant;
 
 /// The most differences that are written as files.
 const GREATEST_DIFFERENCES: u64 = 20;
 
-/// The number of the next job and of the differences, shared by all threads.
-struct Shared<'a> {
-    options: &'a Options,
+/// What a thread takes at a time.
+pub enum Work {
+    /// One job.
+    One(Job),
+    /// All calls of the card of full size of this number.
+    Card(u64),
+}
+
+/// The number of the next work and of the differences, shared by all threads.
+pub struct Shared<'a> {
+    /// The command line.
+    pub options: &'a Options,
     side: &'a dyn HostCalls,
     stored: Vec<Stored>,
+    pace: Pace,
     next: AtomicU64,
     differences: AtomicU64,
 }
 
-/// Compares stored edges, seeded calls and program runs. Gives whether all
-/// was equal and everything that can occur was seen.
+/// Compares stored edges, cards of full size, program runs and seeded calls.
+/// Gives whether all was equal and everything that must be seen was seen.
 pub fn compare_all(options: &Options, side: &dyn HostCalls) -> Result<bool, String> {
     let shared = Shared::new(options, side)?;
-    let began = Instant::now();
     let mut tally = shared.work_on_all_threads()?;
     shared.compare_long_closings(&mut tally);
-    let seconds = began.elapsed().as_secs_f64();
-    Ok(shared.report(&tally, seconds))
+    Ok(shared.report(&tally))
 }
 
 impl<'a> Shared<'a> {
@@ -44,47 +54,72 @@ impl<'a> Shared<'a> {
         let edges = stored::edges()?;
         let changes = stored::small_changes(&edges);
         let mut stored: Vec<Stored> = edges.into_iter().map(|(_, stored)| stored).collect();
-        stored.extend(changes.into_iter().map(|case| Stored { case, gives: None }));
+        stored.extend(changes.into_iter().map(Stored::seeded));
         Ok(Shared {
             options,
             side,
             stored,
+            pace: Pace::start(options.minutes),
             next: AtomicU64::new(0),
             differences: AtomicU64::new(0),
         })
     }
 
-    /// The job of this number: stored edges, then calls, then runs.
-    fn job(&self, number: u64) -> Option<Job> {
-        let stored = self.stored.len() as u64;
+    /// The next work, unless none is left or the time is up.
+    pub fn next_work(&self) -> Option<Work> {
+        if self.pace.is_over() {
+            return None;
+        }
+        let number = self.next.fetch_add(1, Ordering::Relaxed);
+        self.pace.tell(number, self.differences());
+        self.work(number)
+    }
+
+    /// The work of this number: stored edges, cards, runs, then calls.
+    fn work(&self, number: u64) -> Option<Work> {
         let runs = match self.options.program {
             Some(_) => self.options.runs,
             None => 0,
         };
-        if number < stored {
-            Some(Job::Stored(number as usize))
-        } else if number < stored + self.options.calls {
-            Some(Job::Call(number - stored))
-        } else if number < stored + self.options.calls + runs {
-            Some(Job::Run(number - stored - self.options.calls))
-        } else {
-            None
+        let stored = |number| Work::One(Job::Stored(number as usize));
+        let sections: [(u64, &dyn Fn(u64) -> Work); 4] = [
+            (self.stored.len() as u64, &stored),
+            (self.options.cards, &Work::Card),
+            (runs, &|number| Work::One(Job::Run(number))),
+            (self.options.calls, &|number| Work::One(Job::Call(number))),
+        ];
+        let mut place = number;
+        for (length, work) in sections {
+            if place < length {
+                return Some(work(place));
+            }
+            place -= length;
         }
+        None
     }
 
-    fn case_of(&self, job: Job) -> Option<Stored> {
-        let seeded = |case| Stored { case, gives: None };
-        match job {
-            Job::Stored(number) => self.stored.get(number).cloned(),
-            Job::Call(number) => Some(seeded(calls::call(self.options.seed, number))),
-            Job::Run(number) => Some(seeded(files::run(self.options.seed, number))),
-        }
+    /// The case of a job.
+    pub fn case_of(&self, job: Job) -> Option<Stored> {
+        let seed = self.options.seed;
+        Some(match job {
+            Job::Stored(number) => self.stored.get(number)?.clone(),
+            Job::Full(number) => {
+                let card = FullCard::of(seed, number / CALLS);
+                Stored::seeded(card.call(number % CALLS).case)
+            }
+            Job::Call(number) => Stored::seeded(calls::call(seed, number)),
+            Job::Run(number) => Stored::seeded(files::run(seed, number)),
+        })
+    }
+
+    fn differences(&self) -> u64 {
+        self.differences.load(Ordering::Relaxed)
     }
 
     /// Does every job, and adds up what the threads have counted.
     fn work_on_all_threads(&self) -> Result<Tally, String> {
         std::thread::scope(|scope| {
-            let start = |worker| scope.spawn(move || self.work(worker));
+            let start = |number| scope.spawn(move || Worker::work(self, number));
             let workers: Vec<_> = (0..self.options.threads).map(start).collect();
             let ended: Vec<_> = workers.into_iter().map(|worker| worker.join()).collect();
             let mut tally = Tally::default();
@@ -93,24 +128,6 @@ impl<'a> Shared<'a> {
             }
             Ok(tally)
         })
-    }
-
-    /// Takes jobs until none is left.
-    fn work(&self, worker: usize) -> Result<Tally, String> {
-        let under_way = UnderWay::new(&self.options.out, worker)?;
-        let scratch = Scratch::new(worker)?;
-        let other = self.other(&scratch);
-        let mut tally = Tally::default();
-        while let Some(job) = self.job(self.next.fetch_add(1, Ordering::Relaxed)) {
-            under_way.note(job)?;
-            let stored = self.case_of(job).ok_or("no such job")?;
-            if let Some(compared) = other.compare(&stored) {
-                tally.count(&stored.case, compared.refusal);
-                self.note_difference(&job.to_string(), &compared)?;
-            }
-        }
-        under_way.end()?;
-        Ok(tally)
     }
 
     fn compare_long_closings(&self, tally: &mut Tally) {
@@ -124,7 +141,8 @@ impl<'a> Shared<'a> {
         }
     }
 
-    fn other(&self, scratch: &Scratch) -> Other<'_> {
+    /// What the plain program is compared with.
+    pub fn other(&self, scratch: &Scratch) -> Other<'_> {
         Other {
             calls: self.side,
             program: self.options.program.as_deref(),
@@ -132,7 +150,8 @@ impl<'a> Shared<'a> {
         }
     }
 
-    fn note_difference(&self, name: &str, compared: &Compared) -> Result<(), String> {
+    /// Counts a difference, if there is one, and writes the first few as files.
+    pub fn note_difference(&self, name: &str, compared: &Compared) -> Result<(), String> {
         let Some(text) = &compared.difference else {
             return Ok(());
         };
@@ -144,17 +163,18 @@ impl<'a> Shared<'a> {
         Ok(())
     }
 
-    fn report(&self, tally: &Tally, seconds: f64) -> bool {
+    fn report(&self, tally: &Tally) -> bool {
         print!("{}", tally.report());
-        let calls = tally.calls();
-        let runs = tally.of_kind(Kind::Program);
-        println!(
-            "seed {}: {calls} calls and {runs} program runs compared in {seconds:.1} s",
-            self.options.seed
-        );
+        let (calls, runs) = (tally.calls(), tally.of_kind(Kind::Program));
+        let (seed, seconds) = (self.options.seed, self.pace.seconds());
+        println!("seed {seed}: {calls} calls and {runs} program runs compared in {seconds:.1} s");
+        let begun = self.next.load(Ordering::Relaxed);
+        if self.work(begun).is_some() {
+            println!("the time was up after {begun} jobs");
+        }
         let unseen = tally.unseen(self.options.program.is_some());
         unseen.iter().for_each(|line| println!("not seen: {line}"));
-        let differences = self.differences.load(Ordering::Relaxed);
+        let differences = self.differences();
         println!("differences: {differences}");
         differences == 0 && unseen.is_empty()
     }
@@ -189,59 +209,11 @@ fn compare_cases(shared: &Shared, name: &str, cases: &[Stored]) -> Result<bool, 
                 } else {
                     "different"
                 };
-                println!("{kind}: refusal {}, {equal}", compared.refusal);
+                println!("{kind}: refusal {}, {equal}", compared.plain.refusal());
                 shared.note_difference(&format!("{name}-{number}"), &compared)?;
             }
             None => println!("{kind}: left out, as no --program is given"),
         }
     }
-    Ok(shared.differences.load(Ordering::Relaxed) == 0)
-}
-
-fn write_case(folder: &Path, name: &str, text: &str) -> Result<PathBuf, String> {
-    let path = folder.join(format!("{}.txt", name.replace(':', "-")));
-    fs::write(&path, text).map_err(|e| format!("{}: {e}", path.display()))?;
-    Ok(path)
-}
-
-/// A small file that names the job under way, for when a call never returns.
-struct UnderWay {
-    path: PathBuf,
-    file: File,
-}
-
-impl UnderWay {
-    fn new(folder: &Path, worker: usize) -> Result<UnderWay, String> {
-        let path = folder.join(format!("under-way-{worker}"));
-        let file = File::create(&path).map_err(|e| format!("{}: {e}", path.display()))?;
-        Ok(UnderWay { path, file })
-    }
-
-    fn note(&self, job: Job) -> Result<(), String> {
-        let line = format!("{:<30}\n", job.to_string());
-        let written = self.file.write_all_at(line.as_bytes(), 0);
-        written.map_err(|e| format!("{}: {e}", self.path.display()))
-    }
-
-    fn end(self) -> Result<(), String> {
-        fs::remove_file(&self.path).map_err(|e| format!("{}: {e}", self.path.display()))
-    }
-}
-
-/// A folder of this worker's own for the program's files, gone at the end.
-struct Scratch(PathBuf);
-
-impl Scratch {
-    fn new(worker: usize) -> Result<Scratch, String> {
-        let name = format!("jundefola-second-{}-{worker}", std::process::id());
-        let folder = std::env::temp_dir().join(name);
-        fs::create_dir_all(&folder).map_err(|e| format!("{}: {e}", folder.display()))?;
-        Ok(Scratch(folder))
-    }
-}
-
-impl Drop for Scratch {
-    fn drop(&mut self) {
-        let _ = fs::remove_dir_all(&self.0);
-    }
+    Ok(shared.differences() == 0)
 }

@@ -1,31 +1,34 @@
 //! The count of what has been compared and seen.
 
-use crate::case::{Case, Kind};
+use crate::case::{Case, Kind, Outcome};
 use crate::gen::lists::GREATEST_WIDTH;
 use crate::plain::list::Shape;
+use crate::sights::{sights, Sight};
 use std::fmt::Write;
 
 /// One more than the greatest number of refusal.
 const REFUSALS: usize = 11;
 
-/// How often each refusal and each low width was seen.
+/// How often each refusal, each low width and each sight was seen.
 #[derive(Clone, Debug, Default, PartialEq, Eq)]
 pub struct Tally {
     seen: [[u64; REFUSALS]; Kind::ALL.len()],
     widths: [u64; GREATEST_WIDTH as usize + 1],
-    pointers: u64,
+    sights: [u64; Sight::ALL.len()],
 }
 
 impl Tally {
     /// Counts a case that has been compared.
-    pub fn count(&mut self, case: &Case, refusal: u32) {
-        self.count_kind(case.kind(), refusal);
-        if let (Case::WriteList { bound, list, .. }, 0) = (case, refusal) {
+    pub fn count(&mut self, case: &Case, plain: &Outcome) {
+        self.count_kind(case.kind(), plain.refusal());
+        if let (Case::WriteList { bound, list, .. }, 0) = (case, plain.refusal()) {
             if !list.is_empty() {
                 let shape = Shape::of(*bound, list.len());
                 self.widths[shape.width as usize] += 1;
-                self.pointers += u64::from(shape.pointers() > 0);
             }
+        }
+        for sight in sights(case, plain) {
+            self.sights[sight as usize] += 1;
         }
     }
 
@@ -40,7 +43,7 @@ impl Tally {
             add_each(own, &more);
         }
         add_each(&mut self.widths, &other.widths);
-        self.pointers += other.pointers;
+        add_each(&mut self.sights, &other.sights);
     }
 
     /// The cases of a kind.
@@ -72,15 +75,17 @@ impl Tally {
                 lines.push(format!("no list of low width {width} was written"));
             }
         }
-        if self.pointers == 0 {
-            lines.push("no list with pointers was written".to_string());
+        for sight in Sight::ALL {
+            if self.sights[sight as usize] == 0 {
+                lines.push(sight.name());
+            }
         }
         lines
     }
 
-    /// The table of calls and refusals, then the widths.
+    /// The table of calls and refusals, then the widths and the sights.
     pub fn report(&self) -> String {
-        let mut text = format!("{:<12}{:>9}", "call", "compared");
+        let mut text = format!("{:<12}{:>11}", "call", "compared");
         (0..REFUSALS).for_each(|refusal| put(&mut text, &refusal.to_string()));
         text.push('\n');
         for kind in Kind::ALL {
@@ -97,7 +102,9 @@ impl Tally {
             "lists written of low width 0 to {last}: {}\n",
             widths.join(" ")
         );
-        text += &format!("lists written with pointers: {}\n", self.pointers);
+        for sight in Sight::ALL {
+            text += &format!("{}: {}\n", sight.name(), self.sights[sight as usize]);
+        }
         text
     }
 }
@@ -109,11 +116,11 @@ fn add_each(own: &mut [u64], more: &[u64]) {
 }
 
 fn put(text: &mut String, cell: &str) {
-    write!(text, "{cell:>8}").expect("text takes text");
+    write!(text, "{cell:>10}").expect("text takes text");
 }
 
 fn put_row(text: &mut String, kind: Kind, compared: u64, seen: &[u64]) {
-    write!(text, "{:<12}{compared:>9}", kind.name()).expect("text takes text");
+    write!(text, "{:<12}{compared:>11}", kind.name()).expect("text takes text");
     for (refusal, times) in seen.iter().enumerate() {
         match kind.can_occur().contains(&(refusal as u32)) {
             true => put(text, &times.to_string()),
@@ -127,17 +134,75 @@ fn put_row(text: &mut String, kind: Kind, compared: u64, seen: &[u64]) {
 mod tests {
     use super::*;
 
+    /// A tally that has seen everything once.
+    fn everything_once() -> Tally {
+        Tally {
+            seen: [[1; REFUSALS]; Kind::ALL.len()],
+            widths: [1; GREATEST_WIDTH as usize + 1],
+            sights: [1; Sight::ALL.len()],
+        }
+    }
+
     #[test]
-    fn what_can_occur_and_was_not_seen_is_named() {
+    fn a_tally_that_has_seen_everything_lacks_nothing() {
+        assert_eq!(everything_once().unseen(true), Vec::<String>::new());
+    }
+
+    #[test]
+    fn a_tally_without_one_sight_lacks_it() {
+        for sight in Sight::ALL {
+            let mut tally = everything_once();
+            tally.sights[sight as usize] = 0;
+            assert_eq!(tally.unseen(true), [sight.name()]);
+        }
+    }
+
+    #[test]
+    fn a_tally_without_one_width_lacks_it() {
+        for width in 0..=GREATEST_WIDTH {
+            let mut tally = everything_once();
+            tally.widths[width as usize] = 0;
+            let line = format!("no list of low width {width} was written");
+            assert_eq!(tally.unseen(true), [line]);
+        }
+    }
+
+    #[test]
+    fn a_tally_without_one_refusal_that_can_occur_lacks_it() {
+        for kind in Kind::ALL {
+            for refusal in 0..REFUSALS as u32 {
+                let mut tally = everything_once();
+                tally.seen[kind as usize][refusal as usize] = 0;
+                let lacks = kind.can_occur().contains(&refusal);
+                assert_eq!(tally.unseen(true).len(), usize::from(lacks));
+            }
+        }
+    }
+
+    #[test]
+    fn what_is_counted_is_not_lacked_any_more() {
         let mut tally = Tally::default();
-        let case = Case::CheckList { block: Vec::new() };
-        let before = tally.unseen(false);
-        assert!(before.contains(&"check_list never gave 1".to_string()));
-        assert!(!before.iter().any(|line| line.starts_with("program")));
-        tally.count(&case, 1);
+        let line = "check_list never gave 1".to_string();
+        assert!(tally.unseen(false).contains(&line));
         assert!(!tally
             .unseen(false)
-            .contains(&"check_list never gave 1".to_string()));
+            .iter()
+            .any(|line| line.starts_with("program")));
+        let case = Case::CheckList { block: Vec::new() };
+        tally.count(&case, &Outcome::Checked { refusal: 1 });
+        assert!(!tally.unseen(false).contains(&line));
         assert_eq!(tally.calls(), 1);
+    }
+
+    #[test]
+    fn two_tallies_add_up() {
+        let mut tally = everything_once();
+        tally.add(&everything_once());
+        let everything_twice = Tally {
+            seen: [[2; REFUSALS]; Kind::ALL.len()],
+            widths: [2; GREATEST_WIDTH as usize + 1],
+            sights: [2; Sight::ALL.len()],
+        };
+        assert_eq!(tally, everything_twice);
     }
 }

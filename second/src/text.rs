@@ -18,6 +18,13 @@ pub struct Stored {
     pub gives: Option<Outcome>,
 }
 
+impl Stored {
+    /// A case of which it is not said what it gives.
+    pub fn seeded(case: Case) -> Stored {
+        Stored { case, gives: None }
+    }
+}
+
 /// Reads every case of a file, or tells what is wrong with the text.
 pub fn read_cases(text: &str) -> Result<Vec<Stored>, String> {
     let lines = whole_lines(text);

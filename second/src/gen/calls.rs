@@ -1,14 +1,14 @@
 //! One host call with everything it is lent.
 
-use super::cards::{self, Card};
+use super::cards::{self, Card, Word};
 use super::random::Random;
 use super::raw::{RawCard, RawList, RawTerm};
 use super::{damage, faulty_inputs, lists, questions, rooms};
 use crate::case::Case;
 use crate::plain::ask::reply;
 use crate::plain::index::INDEX_HEADER;
-use crate::plain::list::LIST_HEADER;
-use crate::plain::term::TERM_HEADER;
+use crate::plain::list::{List, LIST_HEADER};
+use crate::plain::term::{Term, TERM_HEADER};
 
 /// The case of this number for this seed.
 pub fn call(seed: u64, number: u64) -> Case {
@@ -26,7 +26,12 @@ pub fn call(seed: u64, number: u64) -> Case {
 }
 
 fn write_list(random: &mut Random) -> Case {
-    let mut list = lists::list(random);
+    let list = lists::list(random);
+    write_list_of(random, list)
+}
+
+/// Writing of this list, spoiled in some cases.
+pub fn write_list_of(random: &mut Random, mut list: List) -> Case {
     let needed = list.block().len();
     if random.once_in(4) {
         for _ in 0..damage::faults(random) {
@@ -42,7 +47,12 @@ fn write_list(random: &mut Random) -> Case {
 }
 
 fn check_list(random: &mut Random) -> Case {
-    let mut raw = RawList::of(&lists::list(random));
+    let raw = RawList::of(&lists::list(random));
+    check_list_of(random, raw)
+}
+
+/// The check of this list's block, damaged in most cases.
+pub fn check_list_of(random: &mut Random, mut raw: RawList) -> Case {
     let damaged = !random.once_in(4);
     let mut byte_faults = 0;
     if damaged {
@@ -62,7 +72,12 @@ fn check_list(random: &mut Random) -> Case {
 }
 
 fn write_term(random: &mut Random) -> Case {
-    let (mut card_pages, mut word) = cards::page_count_and_word(random);
+    let (card_pages, word) = cards::page_count_and_word(random);
+    write_term_of(random, card_pages, word)
+}
+
+/// Writing of this word's term, spoiled in some cases.
+pub fn write_term_of(random: &mut Random, mut card_pages: u32, mut word: Word) -> Case {
     let needed = word.term(card_pages).block().len();
     match random.from_to(0, 9) {
         0..=2 => {
@@ -85,7 +100,11 @@ fn write_term(random: &mut Random) -> Case {
 
 fn check_term(random: &mut Random) -> Case {
     let (card_pages, word) = cards::page_count_and_word(random);
-    let mut term = word.term(card_pages);
+    check_term_of(random, word.term(card_pages))
+}
+
+/// The check of this term's block, damaged in most cases.
+pub fn check_term_of(random: &mut Random, mut term: Term) -> Case {
     if random.once_in(4) {
         damage::disagree(random, &mut term);
     }
@@ -109,8 +128,7 @@ fn check_term(random: &mut Random) -> Case {
 }
 
 /// The pieces of a card, some of them damaged.
-fn damaged_pieces(random: &mut Random, card: &Card) -> RawCard {
-    let mut raw = RawCard::of(card);
+fn damaged_pieces(random: &mut Random, card: &Card, mut raw: RawCard) -> RawCard {
     for _ in 0..damage::faults(random) {
         if random.once_in(3) && !card.words.is_empty() {
             let place = random.place(card.words.len());
@@ -126,23 +144,29 @@ fn damaged_pieces(random: &mut Random, card: &Card) -> RawCard {
     raw
 }
 
-/// The bytes of a card that is damaged in some way.
-pub fn damaged_card(random: &mut Random, card: &Card) -> Vec<u8> {
+/// The bytes of a card in these pieces that is damaged in some way.
+pub fn damaged_card(random: &mut Random, card: &Card, raw: RawCard) -> Vec<u8> {
     if random.once_in(3) {
-        let mut bytes = RawCard::of(card).bytes();
+        let mut bytes = raw.bytes();
         for _ in 0..damage::faults(random) {
             damage::damage_bytes(random, &mut bytes);
         }
         return bytes;
     }
-    damaged_pieces(random, card).bytes()
+    damaged_pieces(random, card, raw).bytes()
 }
 
 fn check_index(random: &mut Random) -> Case {
     let card = cards::card(random);
+    let raw = RawCard::of(&card);
+    check_index_of(random, &card, raw)
+}
+
+/// The check of this card, which is in these pieces, damaged in most cases.
+pub fn check_index_of(random: &mut Random, card: &Card, raw: RawCard) -> Case {
     let mut bytes = match random.once_in(4) {
-        true => RawCard::of(&card).bytes(),
-        false => damaged_card(random, &card),
+        true => raw.bytes(),
+        false => damaged_card(random, card, raw),
     };
     if random.once_in(60) {
         bytes.truncate(random.place(INDEX_HEADER));
@@ -152,10 +176,15 @@ fn check_index(random: &mut Random) -> Case {
 
 fn close_index(random: &mut Random) -> Case {
     let card = cards::card(random);
-    let raw = match random.once_in(2) {
-        true => RawCard::of(&card),
-        false => damaged_pieces(random, &card),
-    };
+    let raw = RawCard::of(&card);
+    close_index_of(random, &card, raw)
+}
+
+/// The closing of this card, which is in these pieces, damaged in half the cases.
+pub fn close_index_of(random: &mut Random, card: &Card, mut raw: RawCard) -> Case {
+    if !random.once_in(2) {
+        raw = damaged_pieces(random, card, raw);
+    }
     let mut buffer = rooms::bytes(random, INDEX_HEADER);
     buffer.extend(raw.term_bytes());
     let mut used = buffer.len();
@@ -221,11 +250,13 @@ fn ask(random: &mut Random) -> Case {
         true => questions::bad_questions(random, &card),
         false => questions::questions(random, &card),
     };
+    let raw = RawCard::of(&card);
     let bytes = match random.once_in(7) {
-        true => damaged_card(random, &card),
-        false => RawCard::of(&card).bytes(),
+        true => damaged_card(random, &card, raw),
+        false => raw.bytes(),
     };
-    let size = answer_room(random, &bytes, &questions);
+    let answers = reply(&bytes, &questions, usize::MAX).answers;
+    let size = answer_room(random, &answers);
     Case::Ask {
         card: bytes,
         questions,
@@ -234,8 +265,7 @@ fn ask(random: &mut Random) -> Case {
 }
 
 /// A room for answers, measured by all of them or by the first few.
-fn answer_room(random: &mut Random, card: &[u8], questions: &[u32]) -> usize {
-    let answers = reply(card, questions, usize::MAX).answers;
+pub fn answer_room(random: &mut Random, answers: &[Vec<u32>]) -> usize {
     let counted = match random.once_in(3) {
         true => random.place(answers.len() + 1),
         false => answers.len(),

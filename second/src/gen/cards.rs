@@ -41,7 +41,8 @@ impl Word {
             .expect("the generator makes valid words")
     }
 
-    fn stand(&mut self, page: u32, positions: &[u32]) {
+    /// Lets the word stand on one more page, at these positions.
+    pub fn stand(&mut self, page: u32, positions: &[u32]) {
         self.pages.push(page);
         self.counts.push(positions.len() as u32);
         self.positions.extend(positions);
@@ -139,11 +140,15 @@ fn of_empty_words(random: &mut Random) -> Card {
     Card { pages, words }
 }
 
-/// Pages of running text over a few words, so that phrases occur.
 fn of_text(random: &mut Random) -> Card {
     let pages = random.from_to(1, 24);
     let vocabulary = random.from_to(1, 7) as usize;
     let longest = random.pick(&[3, 12, 40]);
+    text(random, pages, vocabulary, longest)
+}
+
+/// Pages of running text over a few words, so that phrases occur.
+pub fn text(random: &mut Random, pages: u32, vocabulary: usize, longest: u32) -> Card {
     let mut words = vec![Word::nowhere(); vocabulary];
     for page in 0..pages {
         let mut places = vec![Vec::new(); vocabulary];
@@ -196,7 +201,7 @@ fn pages_of_some_density(random: &mut Random, pages: u32) -> Vec<u32> {
 }
 
 /// The same pages with a few left out and a few added.
-fn nearly(random: &mut Random, before: &[u32], pages: u32) -> Vec<u32> {
+pub fn nearly(random: &mut Random, before: &[u32], pages: u32) -> Vec<u32> {
     let mut on: Vec<u32> = before.to_vec();
     on.retain(|_| !random.once_in(8));
     for _ in 0..random.from_to(0, 4) {
@@ -207,11 +212,15 @@ fn nearly(random: &mut Random, before: &[u32], pages: u32) -> Vec<u32> {
     on
 }
 
-/// Lists whose last pointer is the run's end while a bound can still lie
-/// behind it, with a sparse word on the last pages to seek there.
 fn of_run_ends(random: &mut Random) -> Card {
     let width = random.from_to(1, 5);
     let whole = (256 * random.from_to(1, 3)) << width;
+    run_ends(random, width, whole)
+}
+
+/// Lists whose last pointer is the run's end while a bound can still lie
+/// behind it, with a sparse word on the last pages to seek there.
+pub fn run_ends(random: &mut Random, width: u32, whole: u32) -> Card {
     let pages = whole + random.from_to(1, (1 << width) - 1);
     let mut words = Vec::new();
     for _ in 0..random.from_to(1, 3) {

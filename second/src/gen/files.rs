@@ -29,7 +29,7 @@ fn card_file(random: &mut Random, card: &Card) -> FileGiven {
         0 => unreadable(random),
         1 => FileGiven::Bytes(Vec::new()),
         2 => FileGiven::Bytes(of_size_near_limit(random, RawCard::of(card).bytes())),
-        3..=12 => FileGiven::Bytes(damaged_card(random, card)),
+        3..=12 => FileGiven::Bytes(damaged_card(random, card, RawCard::of(card))),
         _ => FileGiven::Bytes(RawCard::of(card).bytes()),
     }
 }

@@ -58,7 +58,7 @@ pub fn spread(random: &mut Random, bound: u32, count: u32) -> List {
 
 /// So many numbers, each set of them as likely as any other.
 pub fn uniform(random: &mut Random, bound: u32, count: u32) -> Vec<u32> {
-    if u64::from(count) * 4 < u64::from(bound) {
+    if u64::from(count) * 32 < u64::from(bound) {
         let draw = |random: &mut Random| random.from_to(0, bound - 1);
         return distinct(random, count, draw);
     }
@@ -99,7 +99,8 @@ fn clustered(random: &mut Random, bound: u32, count: u32) -> Vec<u32> {
     numbers
 }
 
-fn evenly(bound: u32, count: u32) -> Vec<u32> {
+/// So many numbers at equal distances.
+pub fn evenly(bound: u32, count: u32) -> Vec<u32> {
     let place = |i| (u64::from(i) * u64::from(bound) / u64::from(count)) as u32;
     (0..count).map(place).collect()
 }

@@ -5,6 +5,7 @@ pub mod cards;
 pub mod damage;
 pub mod faulty_inputs;
 pub mod files;
+pub mod full_size;
 pub mod lists;
 pub mod questions;
 pub mod random;

@@ -39,6 +39,28 @@ pub fn bad_questions(random: &mut Random, card: &Card) -> Vec<u32> {
     numbers
 }
 
+/// The ranks and bounds of each word that a tour asks for.
+const TOUR_STOPS: u32 = 16;
+
+/// Ranks and bounds of each of these words, then common pages and a phrase of
+/// each of them with a rare word, of the first two and of all.
+pub fn tour(random: &mut Random, card: &Card, terms: &[u32], rare: u32) -> Vec<u32> {
+    let mut numbers = Vec::new();
+    for term in terms {
+        for _ in 0..TOUR_STOPS {
+            numbers.extend([1, 2, *term, any_rank(random, card, *term)]);
+            numbers.extend([2, 2, *term, any_bound(random, card, *term)]);
+        }
+        numbers.extend(of_terms(3, vec![*term, rare]));
+        numbers.extend(of_terms(4, vec![rare, *term]));
+    }
+    for together in [&terms[..2], terms] {
+        numbers.extend(of_terms(3, together.to_vec()));
+        numbers.extend(of_terms(4, together.to_vec()));
+    }
+    numbers
+}
+
 /// One good question.
 fn question(random: &mut Random, card: &Card) -> Vec<u32> {
     match random.from_to(1, 9) {

@@ -23,6 +23,36 @@ impl Reply {
             answers: Vec::new(),
         }
     }
+
+    /// The answers in turn up to the first that does not fit whole.
+    fn fitting(answers: impl Iterator<Item = Vec<u32>>, room: usize) -> Reply {
+        let mut reply = Reply::refused(0);
+        let mut left = room;
+        for answer in answers {
+            if answer.len() > left {
+                reply.refusal = refusal::ROOM;
+                break;
+            }
+            left -= answer.len();
+            reply.answers.push(answer);
+        }
+        reply
+    }
+
+    /// What is left of a reply that had all the room it needs when it has so much.
+    pub fn cut_to(self, room: usize) -> Reply {
+        match self.refusal {
+            0 => Reply::fitting(self.answers.into_iter(), room),
+            _ => self,
+        }
+    }
+
+    /// Writes the answers into the room; gives refusal, number answered, room used.
+    pub fn put(&self, room: &mut [u32]) -> (u32, usize, usize) {
+        let numbers = self.answers.concat();
+        room[..numbers.len()].copy_from_slice(&numbers);
+        (self.refusal, self.answers.len(), numbers.len())
+    }
 }
 
 /// A question of good form, with its terms looked up.
@@ -35,22 +65,23 @@ enum Question<'a> {
 
 /// Answers the questions in turn, as long as they fit in so many numbers.
 pub fn reply(card: &[u8], questions: &[u32], room: usize) -> Reply {
-    let terms = match check_index(card) {
-        Ok(terms) => terms,
-        Err(refusal) => return Reply::refused(refusal),
-    };
-    match all_questions(&terms, questions) {
-        Some(questions) => answer_all(&questions, room),
+    match check_index(card) {
+        Ok(terms) => reply_over(&terms, questions, room),
+        Err(refusal) => Reply::refused(refusal),
+    }
+}
+
+/// The same over the terms of a card that has been accepted.
+pub fn reply_over(terms: &[Term], questions: &[u32], room: usize) -> Reply {
+    match all_questions(terms, questions) {
+        Some(questions) => Reply::fitting(questions.iter().map(answer), room),
         None => Reply::refused(refusal::QUESTION),
     }
 }
 
-/// Writes the answers into the room; gives refusal, number answered, room used.
+/// Asks a card and writes the answers that fit into the room.
 pub fn ask(card: &[u8], questions: &[u32], room: &mut [u32]) -> (u32, usize, usize) {
-    let reply = reply(card, questions, room.len());
-    let numbers = reply.answers.concat();
-    room[..numbers.len()].copy_from_slice(&numbers);
-    (reply.refusal, reply.answers.len(), numbers.len())
+    reply(card, questions, room.len()).put(room)
 }
 
 fn all_questions<'a>(terms: &'a [Term], numbers: &[u32]) -> Option<Vec<Question<'a>>> {
@@ -85,26 +116,6 @@ fn named_terms<'a>(terms: &'a [Term], numbers: &[u32]) -> Option<Vec<&'a Term>> 
         .iter()
         .map(|number| terms.get(*number as usize))
         .collect()
-}
-
-fn answer_all(questions: &[Question], room: usize) -> Reply {
-    let mut left = room;
-    let mut answers = Vec::new();
-    for question in questions {
-        let answer = answer(question);
-        if answer.len() > left {
-            return Reply {
-                refusal: refusal::ROOM,
-                answers,
-            };
-        }
-        left -= answer.len();
-        answers.push(answer);
-    }
-    Reply {
-        refusal: 0,
-        answers,
-    }
 }
 
 /// One answer: how many numbers follow, then those numbers.

@@ -118,6 +118,18 @@ mod tests {
         assert_eq!(fresh_seek(&list, 512), (None, 0));
     }
 
+    #[test]
+    fn a_seek_in_a_packed_list_walks_far() {
+        let packed = |count| List {
+            bound: 1 << 24,
+            elements: (0..count).collect(),
+        };
+        let found = fresh_seek(&packed(1 << 16), 65_535);
+        assert_eq!(found, (Some(65_535), 1_028));
+        let none = fresh_seek(&packed(1 << 20), (1 << 20) + 1);
+        assert_eq!(none, (None, 15_360));
+    }
+
     /// The seek as a walk over the block's bits, its pointers read from it.
     fn walked(list: &List, from: Option<usize>, bound: u32) -> (Option<u32>, u32) {
         let block = list.block();

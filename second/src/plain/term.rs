@@ -8,7 +8,7 @@ use super::{refusal, GREATEST_BOUND};
 pub const TERM_HEADER: usize = 44;
 
 /// Bytes before a term's first list.
-const TERM_OPENING: usize = 5;
+pub const TERM_OPENING: usize = 5;
 
 /// The three lists of a term block.
 #[derive(Clone, Debug, PartialEq, Eq)]

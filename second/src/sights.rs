@@ -1,0 +1,310 @@
+//! The edges and limits of document 01 that a compared case has shown.
+
+use crate::case::{Case, Outcome};
+use crate::gen::full_size::LONG;
+use crate::plain::bytes::{next_part, number_at};
+use crate::plain::index::INDEX_HEADER;
+use crate::plain::list::{Shape, LIST_HEADER};
+use crate::plain::term::{TERM_HEADER, TERM_OPENING};
+use crate::plain::{GREATEST_BOUND, GREATEST_TERMS, GREATEST_WORDS};
+
+/// The pointers of a list that has many of them.
+pub const MANY_POINTERS: usize = 256;
+
+/// Something that a whole run must have seen.
+#[derive(Clone, Copy, Debug, PartialEq, Eq)]
+pub enum Sight {
+    /// A written list has pointers.
+    WrittenPointers,
+    /// A written list has many pointers.
+    WrittenManyPointers,
+    /// A written list has its last pointer at the run's end.
+    WrittenPointerAtEnd,
+    /// A written list has the greatest U.
+    WrittenGreatestBound,
+    /// A question of kind 1 was answered.
+    AtRank,
+    /// A question of kind 2 was answered.
+    AtBound,
+    /// A question of kind 3 was answered.
+    Common,
+    /// A question of kind 4 was answered.
+    Phrase,
+    /// A question of kind 3 with eight words was answered.
+    CommonOfEight,
+    /// A question of kind 4 with eight words was answered.
+    PhraseOfEight,
+    /// A card with the greatest T answered a question.
+    GreatestTerms,
+    /// A card with the greatest N answered a question.
+    GreatestPages,
+    /// A question was answered over pages with many pointers.
+    AskedManyPointers,
+    /// A question was answered over pages with the last pointer at the run's end.
+    AskedPointerAtEnd,
+    /// A question was answered over a list of full size.
+    AskedLong,
+}
+
+impl Sight {
+    /// Every sight, in the order of the report.
+    pub const ALL: [Sight; 15] = [
+        Sight::WrittenPointers,
+        Sight::WrittenManyPointers,
+        Sight::WrittenPointerAtEnd,
+        Sight::WrittenGreatestBound,
+        Sight::AtRank,
+        Sight::AtBound,
+        Sight::Common,
+        Sight::Phrase,
+        Sight::CommonOfEight,
+        Sight::PhraseOfEight,
+        Sight::GreatestTerms,
+        Sight::GreatestPages,
+        Sight::AskedManyPointers,
+        Sight::AskedPointerAtEnd,
+        Sight::AskedLong,
+    ];
+
+    /// What is counted, as the report names it.
+    pub fn name(self) -> String {
+        match self {
+            Sight::WrittenPointers => "lists written with pointers".into(),
+            Sight::WrittenManyPointers => {
+                format!("lists written with {MANY_POINTERS} or more pointers")
+            }
+            Sight::WrittenPointerAtEnd => "lists written with a pointer at the run's end".into(),
+            Sight::WrittenGreatestBound => "lists written with U at its limit".into(),
+            Sight::AtRank => "questions of kind 1 answered".into(),
+            Sight::AtBound => "questions of kind 2 answered".into(),
+            Sight::Common => "questions of kind 3 answered".into(),
+            Sight::Phrase => "questions of kind 4 answered".into(),
+            Sight::CommonOfEight => "questions of kind 3 with 8 words answered".into(),
+            Sight::PhraseOfEight => "questions of kind 4 with 8 words answered".into(),
+            Sight::GreatestTerms => "questions answered on a card with T at its limit".into(),
+            Sight::GreatestPages => "questions answered on a card with N at its limit".into(),
+            Sight::AskedManyPointers => {
+                format!("questions answered on a list with {MANY_POINTERS} or more pointers")
+            }
+            Sight::AskedPointerAtEnd => {
+                "questions answered on a list with a pointer at the run's end".into()
+            }
+            Sight::AskedLong => format!("questions answered on a list of {LONG} or more pages"),
+        }
+    }
+}
+
+/// What a case has shown, by what the plain program gives for it.
+pub fn sights(case: &Case, plain: &Outcome) -> Vec<Sight> {
+    match (case, plain) {
+        (Case::WriteList { .. }, Outcome::Written { length, after, .. }) if *length > 0 => {
+            of_written(&ListBlock(&after.room[..*length]))
+        }
+        (
+            Case::Ask {
+                card, questions, ..
+            },
+            Outcome::Asked { answered, .. },
+        ) if *answered > 0 => of_answered(card, questions, *answered),
+        _ => Vec::new(),
+    }
+}
+
+/// The sights of those that hold.
+fn holding(all: &[(bool, Sight)]) -> impl Iterator<Item = Sight> + '_ {
+    all.iter()
+        .filter(|(holds, _)| *holds)
+        .map(|(_, sight)| *sight)
+}
+
+fn of_written(list: &ListBlock) -> Vec<Sight> {
+    let sights = [
+        (list.pointers() > 0, Sight::WrittenPointers),
+        (list.pointers() >= MANY_POINTERS, Sight::WrittenManyPointers),
+        (list.has_pointer_at_end(), Sight::WrittenPointerAtEnd),
+        (list.bound() == GREATEST_BOUND, Sight::WrittenGreatestBound),
+    ];
+    holding(&sights).collect()
+}
+
+/// The sights of the first questions, so many, over an accepted card.
+fn of_answered(card: &[u8], questions: &[u32], answered: usize) -> Vec<Sight> {
+    let pages = page_lists(card);
+    let greatest_terms = pages.len() == GREATEST_TERMS as usize;
+    let greatest_pages = number_at(card, 5) == GREATEST_BOUND;
+    let mut sights = Vec::new();
+    let mut rest = questions;
+    for _ in 0..answered {
+        let (question, after) = rest.split_at(2 + rest[1] as usize);
+        rest = after;
+        sights.extend(of_question(question));
+        let named = words_of(question).iter();
+        let lists: Vec<&ListBlock> = named.map(|word| &pages[*word as usize]).collect();
+        sights.extend(of_asked(&lists));
+        sights.extend(holding(&[
+            (greatest_terms, Sight::GreatestTerms),
+            (greatest_pages, Sight::GreatestPages),
+        ]));
+    }
+    sights
+}
+
+/// The words that a good question names.
+fn words_of(question: &[u32]) -> &[u32] {
+    match question[0] {
+        1 | 2 => &question[2..3],
+        _ => &question[2..],
+    }
+}
+
+fn of_question(question: &[u32]) -> Vec<Sight> {
+    let eight_words = words_of(question).len() == GREATEST_WORDS;
+    match (question[0], eight_words) {
+        (1, _) => vec![Sight::AtRank],
+        (2, _) => vec![Sight::AtBound],
+        (3, false) => vec![Sight::Common],
+        (3, true) => vec![Sight::Common, Sight::CommonOfEight],
+        (_, false) => vec![Sight::Phrase],
+        (_, true) => vec![Sight::Phrase, Sight::PhraseOfEight],
+    }
+}
+
+fn of_asked(lists: &[&ListBlock]) -> Vec<Sight> {
+    let any = |holds: &dyn Fn(&ListBlock) -> bool| lists.iter().any(|list| holds(list));
+    let sights = [
+        (
+            any(&|list| list.pointers() >= MANY_POINTERS),
+            Sight::AskedManyPointers,
+        ),
+        (
+            any(&|list| list.has_pointer_at_end()),
+            Sight::AskedPointerAtEnd,
+        ),
+        (any(&|list| list.count() >= LONG), Sight::AskedLong),
+    ];
+    holding(&sights).collect()
+}
+
+/// The block of a valid list.
+struct ListBlock<'a>(&'a [u8]);
+
+impl ListBlock<'_> {
+    fn bound(&self) -> u32 {
+        number_at(self.0, 5)
+    }
+
+    fn count(&self) -> u32 {
+        number_at(self.0, 9)
+    }
+
+    fn shape(&self) -> Option<Shape> {
+        let count = self.count() as usize;
+        (count > 0).then(|| Shape::of(self.bound(), count))
+    }
+
+    fn pointers(&self) -> usize {
+        self.shape().map_or(0, Shape::pointers)
+    }
+
+    fn has_pointer_at_end(&self) -> bool {
+        let Some(shape) = self.shape() else {
+            return false;
+        };
+        let last = shape.pointers().checked_sub(1);
+        let run_end = self.count() as usize + shape.zeros;
+        last.is_some_and(|last| number_at(self.0, LIST_HEADER + 4 * last) as usize == run_end)
+    }
+}
+
+/// The pages of each word of an accepted card.
+fn page_lists(card: &[u8]) -> Vec<ListBlock<'_>> {
+    let mut lists = Vec::new();
+    let mut rest = &card[INDEX_HEADER..];
+    while let Ok(term) = next_part(&mut rest, TERM_HEADER) {
+        let pages = next_part(&mut &term[TERM_OPENING..], LIST_HEADER);
+        lists.push(ListBlock(pages.expect("the card is accepted")));
+    }
+    lists
+}
+
+#[cfg(test)]
+mod tests {
+    use super::*;
+    use crate::compare::plain_outcome;
+    use crate::gen::cards::{Card, Word};
+    use crate::gen::raw::RawCard;
+
+    fn shown(case: &Case) -> Vec<Sight> {
+        sights(case, &plain_outcome(case))
+    }
+
+    fn written(bound: u32, list: Vec<u32>) -> Vec<Sight> {
+        let room = vec![0; 4_000_000];
+        shown(&Case::WriteList { bound, list, room })
+    }
+
+    #[test]
+    fn a_written_list_shows_its_pointers_and_its_bound() {
+        assert_eq!(written(255, (0..255).collect()), []);
+        assert_eq!(written(300, (0..300).collect()), [Sight::WrittenPointers]);
+        let to_the_end = [Sight::WrittenPointers, Sight::WrittenPointerAtEnd];
+        assert_eq!(written(256, (0..256).collect()), to_the_end);
+        let many = [Sight::WrittenPointers, Sight::WrittenManyPointers];
+        assert_eq!(written(65_537, (0..65_537).collect()), many);
+        let greatest = [Sight::WrittenGreatestBound];
+        assert_eq!(written(GREATEST_BOUND, vec![7]), greatest);
+        assert_eq!(written(GREATEST_BOUND, Vec::new()), greatest);
+        assert_eq!(written(GREATEST_BOUND + 1, Vec::new()), []);
+    }
+
+    /// What is shown by a question to a card whose words all stand on these pages.
+    fn asked(pages: u32, on: &[u32], words: usize, questions: &[u32], room: usize) -> Vec<Sight> {
+        let mut word = Word::nowhere();
+        on.iter().for_each(|page| word.stand(*page, &[0]));
+        let words = vec![word; words];
+        shown(&Case::Ask {
+            card: RawCard::of(&Card { pages, words }).bytes(),
+            questions: questions.to_vec(),
+            room: vec![0; room],
+        })
+    }
+
+    #[test]
+    fn an_answered_question_shows_its_kind_and_its_words() {
+        let of_kind = |questions: &[u32]| asked(9, &[3], 2, questions, 99);
+        assert_eq!(of_kind(&[1, 2, 0, 0]), [Sight::AtRank]);
+        assert_eq!(of_kind(&[2, 2, 1, 4]), [Sight::AtBound]);
+        assert_eq!(of_kind(&[3, 2, 1, 0]), [Sight::Common]);
+        assert_eq!(of_kind(&[4, 1, 1]), [Sight::Phrase]);
+        let eight = [Sight::Common, Sight::CommonOfEight];
+        assert_eq!(of_kind(&[3, 8, 0, 0, 0, 0, 0, 0, 0, 1]), eight);
+        let eight = [Sight::Phrase, Sight::PhraseOfEight];
+        assert_eq!(of_kind(&[4, 8, 0, 0, 0, 0, 0, 0, 0, 1]), eight);
+        assert_eq!(of_kind(&[5, 1, 0]), []);
+        assert_eq!(asked(9, &[3], 1, &[4, 1, 0], 2), []);
+        assert_eq!(
+            asked(9, &[3], 1, &[1, 2, 0, 0, 4, 1, 0], 2),
+            [Sight::AtRank]
+        );
+    }
+
+    #[test]
+    fn an_answered_question_shows_its_card_and_its_lists() {
+        let at_rank = |pages, on: &[u32], words| {
+            let mut sights = asked(pages, on, words, &[1, 2, 0, 0], 2);
+            assert_eq!(sights.remove(0), Sight::AtRank);
+            sights
+        };
+        assert_eq!(at_rank(1, &[0], 4_095), []);
+        assert_eq!(at_rank(1, &[0], 4_096), [Sight::GreatestTerms]);
+        assert_eq!(at_rank(GREATEST_BOUND, &[0], 1), [Sight::GreatestPages]);
+        let all: Vec<u32> = (0..LONG).collect();
+        assert_eq!(at_rank(256, &all[..256], 1), [Sight::AskedPointerAtEnd]);
+        assert_eq!(
+            at_rank(65_537, &all[..65_537], 1),
+            [Sight::AskedManyPointers]
+        );
+        let long = [Sight::AskedManyPointers, Sight::AskedLong];
+        assert_eq!(at_rank(LONG + 1, &all, 1), long);
+    }
+}
