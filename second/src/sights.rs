@@ -42,13 +42,15 @@ pub enum Sight {
     AskedManyPointers,
     /// A question was answered over pages with the last pointer at the run's end.
     AskedPointerAtEnd,
+    /// A bound was asked for whose seek begins at the run's end.
+    SeekAtEnd,
     /// A question was answered over a list of full size.
     AskedLong,
 }
 
 impl Sight {
     /// Every sight, in the order of the report.
-    pub const ALL: [Sight; 15] = [
+    pub const ALL: [Sight; 16] = [
         Sight::WrittenPointers,
         Sight::WrittenManyPointers,
         Sight::WrittenPointerAtEnd,
@@ -63,6 +65,7 @@ impl Sight {
         Sight::GreatestPages,
         Sight::AskedManyPointers,
         Sight::AskedPointerAtEnd,
+        Sight::SeekAtEnd,
         Sight::AskedLong,
     ];
 
@@ -89,6 +92,7 @@ impl Sight {
             Sight::AskedPointerAtEnd => {
                 "questions answered on a list with a pointer at the run's end".into()
             }
+            Sight::SeekAtEnd => "bounds answered whose seek begins at the run's end".into(),
             Sight::AskedLong => format!("questions answered on a list of {LONG} or more pages"),
         }
     }
@@ -141,7 +145,9 @@ fn of_answered(card: &[u8], questions: &[u32], answered: usize) -> Vec<Sight> {
         let named = words_of(question).iter();
         let lists: Vec<&ListBlock> = named.map(|word| &pages[*word as usize]).collect();
         sights.extend(of_asked(&lists));
+        let at_end = question[0] == 2 && lists[0].seek_begins_at_end(question[3]);
         sights.extend(holding(&[
+            (at_end, Sight::SeekAtEnd),
             (greatest_terms, Sight::GreatestTerms),
             (greatest_pages, Sight::GreatestPages),
         ]));
@@ -213,6 +219,14 @@ impl ListBlock<'_> {
         let last = shape.pointers().checked_sub(1);
         let run_end = self.count() as usize + shape.zeros;
         last.is_some_and(|last| number_at(self.0, LIST_HEADER + 4 * last) as usize == run_end)
+    }
+
+    /// Whether a fresh seek for this bound goes by a pointer to the run's end.
+    fn seek_begins_at_end(&self, bound: u32) -> bool {
+        let has_all_zeros_before = |shape: Shape| (bound >> shape.width) as usize == shape.zeros;
+        self.has_pointer_at_end()
+            && bound < self.bound()
+            && self.shape().is_some_and(has_all_zeros_before)
     }
 }
 
@@ -286,6 +300,17 @@ mod tests {
             asked(9, &[3], 1, &[1, 2, 0, 0, 4, 1, 0], 2),
             [Sight::AtRank]
         );
+    }
+
+    #[test]
+    fn a_bound_behind_the_last_pointer_shows_a_seek_at_the_runs_end() {
+        let even: Vec<u32> = (0..256).map(|i| 2 * i).collect();
+        let at_bound = |bound| asked(513, &even, 1, &[2, 2, 0, bound], 3);
+        let pointer_at_end = [Sight::AtBound, Sight::AskedPointerAtEnd];
+        assert_eq!(at_bound(511), pointer_at_end);
+        assert_eq!(at_bound(513), pointer_at_end);
+        let seek_at_end = [Sight::AtBound, Sight::AskedPointerAtEnd, Sight::SeekAtEnd];
+        assert_eq!(at_bound(512), seek_at_end);
     }
 
     #[test]
