@@ -2,11 +2,10 @@
 use mathlib.Core.Bool.{Bool, true, false, cond, not, _||_}
 use mathlib.Core.Path.{_≡_, refl, sym, ap, _∙_}
 use mathlib.Core.List.{List}
-use Prim.Native.Nat.{ℕ, suc, _-_, _≤_, _<_}
+use Prim.Native.Nat.{ℕ, suc, _≤_, _<_}
 use borrow.Author.Tests.{lt-ltb, le-ltb}
 use lib.Dec.{ltb, eqb}
-use lib.ListN.{length, take, drop, length-drop}
-use lib.Seq.{take-length}
+use lib.ListN.{length, take, drop}
 use Rattle.rules.specs.declared.Refusal.{Refusal}
 use Rattle.rules.specs.declared.Refusal.the-variants.{Accepted, Limit, Layout, Parts}
 use Rattle.rules.specs.Refusal.{accepted, andThen}
@@ -92,7 +91,3 @@ pub index-then : (s : List ℕ) → indexRefusal s ≡ andThen (headRefusal inde
 unfolding indexRefusal
 index-then s =
     head-then indexHeader s (limited (indexN s) (indexT s) (termsRefusal (indexT s) (indexN s) (drop indexHeader s)))
-
--- all that is behind the first n bytes, as a part
-pub part-behind : (n : ℕ) (s : List ℕ) → take (length s - n) (drop n s) ≡ drop n s
-part-behind n s = rw (← length-drop n s) (take-length (drop n s))

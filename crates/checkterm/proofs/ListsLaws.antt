@@ -7,7 +7,7 @@ use Prim.Native.Nat.{ℕ, zero, suc, _+_, _-_, _≤_, _<_}
 use native.Mathlib.Omega.{arith}
 use borrow.Author.Tests.{lt-ltb, le-ltb, eq-eqb, ne-eqb}
 use lib.Dec.{eqb, lit<}
-use lib.ListN.{length, getD, drop, length-drop}
+use lib.ListN.{length, getD, drop, length-append}
 use Rattle.rules.specs.declared.Refusal.{Refusal}
 use Rattle.rules.specs.declared.Refusal.the-variants.{Accepted, Layout, Parts}
 use Rattle.rules.specs.Refusal.{andThen}
@@ -16,10 +16,9 @@ use Rattle.rules.specs.ReadList.{stated, listU, listN, decode, listRefusal}
 use Rattle.rules.specs.Term.{next}
 use Rattle.rules.specs.Parts.{after, part, inside}
 use Rattle.rules.specs.ReadTerm.{listsOf, pagesOf, countsOf, positionsOf, disagree, termRefusal}
-use Rattle.laws.specs.Blocks.{blockAt}
 use Rattle.laws.proofs.RefusalLaws.{andThen-next, andThen-assoc, andThen-both}
 use Rattle.laws.proofs.HeadLaws.{head-then}
-use Rattle.laws.proofs.PartLaws.{after-at, inside-parts, inside-lies}
+use Rattle.laws.proofs.PartLaws.{part-after, inside-parts, inside-lies}
 use Rattle.listlaws.proofs.ValidLaws.{valid-parts}
 use Rattle.listlaws.proofs.Theorems.{accepted-block}
 use Rattle.termlaws.proofs.OrderLaws.{rising-order}
@@ -114,14 +113,14 @@ disagree-parts s p c q e f g = rw (e, f, g)
 
 -- the last list ends before the bytes do, or where they end
 module _ (s : List ℕ) where
-  left-over : length (after 3 (listsOf s)) ≡ length s - blockAt 5 3 s
-  unfolding listsOf
-  left-over = rw (after-at 5 s 3) (length-drop (blockAt 5 3 s) s)
+  left-over : length (part 2 (listsOf s)) + length (after 3 (listsOf s)) ≡ length (after 2 (listsOf s))
+  left-over = sym (length-append (part 2 (listsOf s)) (after 3 (listsOf s))) ∙ ap length (part-after 2 (listsOf s))
 
-  pub rest-more : blockAt 5 3 s < length s → restRefusal s ≡ Layout
+  pub rest-more : length (part 2 (listsOf s)) < length (after 2 (listsOf s)) → restRefusal s ≡ Layout
   rest-more h = rw (lt-ltb 0 (length (after 3 (listsOf s))) (omega (arith, left-over)))
 
-  pub rest-none : length s ≤ blockAt 5 3 s → restRefusal s ≡ cond (disagree s) Parts Accepted
+  pub rest-none : length (after 2 (listsOf s)) ≤ length (part 2 (listsOf s))
+      → restRefusal s ≡ cond (disagree s) Parts Accepted
   rest-none h = rw (le-ltb 0 (length (after 3 (listsOf s))) (omega (arith, left-over)))
 
 -- the lists one after the other, and then r

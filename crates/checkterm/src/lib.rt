@@ -80,13 +80,13 @@ fn check_rest(block: &[u8]) -> Refusal
     requires { ⌜ ListsIn (now block) ⌝ }
     ensures { λ r. ⌜ r ≡ restRefusal (now (block .entry)) ⌝ }
 {
-    let last = parts::block_place(block, 5, 2);
-    if last.to < block.len() {
+    let rest = parts::blocks_from(block, 5, 2);
+    let positions = parts::part_at(rest, 0);
+    if positions.len() < rest.len() {
         return Refusal::Layout;
     }
     let pages = parts::block_of(block, 5, 0);
     let counts = parts::block_of(block, 5, 1);
-    let positions = parts::block_of(block, 5, 2);
     if disagree(pages, counts, positions) {
         return Refusal::Parts;
     }

@@ -1,10 +1,10 @@
 -- Laws of finding: the blocks of what is accepted can be walked, and a term
 -- found is the block of its word, whatever the terms before it hold.
-use mathlib.Core.Path.{_≡_, refl, _∙_}
+use mathlib.Core.Path.{_≡_, sym, _∙_}
 use mathlib.Core.List.{List}
 use Prim.Native.Nat.{ℕ, zero, suc, _+_, _≤_, _<_}
 use native.Mathlib.Omega.{arith}
-use lib.ListN.{length}
+use lib.ListN.{length, take, drop}
 use Rattle.rules.specs.declared.Refusal.the-variants.{Accepted}
 use Rattle.rules.specs.Bytes.{Bytes, beAt}
 use Rattle.rules.specs.Term.{termBlock}
@@ -12,12 +12,13 @@ use Rattle.rules.specs.ReadTerm.{pagesOf, countsOf, positionsOf, termRefusal}
 use Rattle.rules.specs.Index.{indexN, indexT, termPart, wordOf, indexRefusal}
 use Rattle.laws.specs.Blocks.{blockAt, Lies}
 use Rattle.laws.proofs.ByteLaws.{Alike}
+use Rattle.laws.proofs.PartLaws.{part-at}
 use Rattle.termlaws.proofs.Theorems.{accepted-lists}
 use Rattle.cardlaws.specs.Cards.{termAt}
 use Rattle.cardlaws.proofs.Theorems.{accepted-term, accepted-part}
-use Rattle.parts.specs.Places.{Held, Walkable, Placed}
+use Rattle.parts.specs.Places.{Held, Walkable}
 use Rattle.parts.proofs.PlaceLaws.{part-depends}
-use Rattle.findterm.specs.Starts.{Starts}
+use Rattle.findterm.specs.Starts.{Starts, TermAt}
 
 -- a block that lies in bytes states four bytes or more, and ends within them
 lies-walks : (h p : ℕ) (s b : List ℕ) → 4 ≤ h → Lies h p s b → (4 ≤ beAt 4 s p) × (p + beAt 4 s p ≤ length s)
@@ -35,17 +36,13 @@ term-walks s a k h (suc (suc zero)) l =
     lies-walks 13 (blockAt 5 2 s) s (positionsOf s) (omega arith) (accepted-lists s a .positions-at)
 term-walks s a k h (suc (suc (suc i))) l = absurd (omega arith)
 
--- a term that starts at byte `at` lies within the index, and has its place from there on
+-- a term that starts at byte `at` lies within the index, and is its part from there on
 pub start-held : (s : List ℕ) (t at : ℕ) → indexRefusal s ≡ Accepted → Starts s t at → Held at s
 start-held s t at a o = rw (o .start) (index-walks s a t (o .below) t (omega arith))
 
-pub start-placed : (s : List ℕ) (t at : ℕ) → indexRefusal s ≡ Accepted → Starts s t at
-    → Placed 11 t s (record { from = at; to = at + beAt 4 s at })
-start-placed s t at a o = record {
-  starts = o .start;
-  ends = refl;
-  within = start-held s t at a o .1;
-}
+pub start-part : (s : List ℕ) (at : ℕ) → TermAt s at (take (beAt 4 s at) (drop at s))
+unfolding termPart
+start-part s at t o = rw (o .start) (sym (part-at 11 s t))
 
 -- A term found is the block of its word.
 pub found-block : (s : List ℕ) → Bytes s → indexRefusal s ≡ Accepted → (t : ℕ) → t < indexT s → (r : List ℕ)

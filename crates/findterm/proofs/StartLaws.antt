@@ -1,16 +1,20 @@
--- Laws of finding a question's terms: the least term from a number on, the starts put for a term, and the walk that goes on.
+-- Laws of finding a question's terms: the least term from a number on, the starts put for a term, and the walk that
+-- goes on.
 use mathlib.Core.Path.{_≡_, refl, sym, ap, _∙_}
 use mathlib.Core.List.{List}
-use Prim.Native.Nat.{ℕ, zero, suc, _+_, _-_, _^_, _≤_, _<_}
-use native.Mathlib.Nat.{add-zero}
+use Prim.Native.Nat.{ℕ, _+_, _-_, _^_, _≤_, _<_}
 use native.Mathlib.Decide.{ℕ-discrete, decLt}
 use native.Mathlib.Omega.{arith}
-use lib.ListN.{length, getD, set, length-set}
+use lib.ListN.{length, getD, take, drop, set, length-set}
 use lib.Seq.{getD-set-same, getD-set-other}
-use Rattle.rules.specs.Index.{indexT}
+use Rattle.rules.specs.declared.Refusal.the-variants.{Accepted}
+use Rattle.rules.specs.Parts.{after}
+use Rattle.rules.specs.Index.{indexT, indexRefusal}
 use Rattle.laws.specs.Blocks.{blockAt}
 use Rattle.parts.specs.Places.{Walkable}
+use Rattle.parts.proofs.PlaceLaws.{part-behind, after-on, walk-rest, after-length}
 use Rattle.findterm.specs.Starts.{Starts, Below, LeastOf, LeastFrom, PutOf, Put}
+use Rattle.findterm.proofs.FindLaws.{index-walks}
 
 -- ---- the least term from a number on
 
@@ -18,13 +22,18 @@ module _ (ts : List ℕ) (n t r : ℕ) (l : LeastOf ts n t r) where
   pub least-taken : t ≤ getD ts n 0 → getD ts n 0 < r → LeastOf ts (n + 1) t (getD ts n 0)
   least-taken h g = record {
     onward = h;
-    least = λ i b o. elim (ℕ-discrete i n) [ yes e ↦ rw e (omega arith) | no e ↦ omega (arith, l .least i (omega arith) o) ];
+    within = omega (arith, l .within);
+    least = λ i b o. elim (ℕ-discrete i n) [
+      | yes e ↦ rw e (omega arith)
+      | no e ↦ omega (arith, l .least i (omega arith) o)
+    ];
     among = λ o. (n, omega arith, refl);
   }
 
   pub least-kept : (t ≤ getD ts n 0 → r ≤ getD ts n 0) → LeastOf ts (n + 1) t r
   least-kept h = record {
     onward = l .onward;
+    within = l .within;
     least = λ i b o. elim (ℕ-discrete i n) [ yes e ↦ rw e (h (rw e at o)) | no e ↦ l .least i (omega arith) o ];
     among = λ o. let x = l .among o in (x .0, omega (arith, x .1), x .2);
   }
@@ -54,22 +63,15 @@ module _ (ts : List ℕ) (n t at : ℕ) (ps after : List ℕ) (p : PutOf ts n t 
 
 -- ---- the walk that goes on
 
-pub blockAt-on : (h k n : ℕ) (s : List ℕ) → blockAt (blockAt h k s) n s ≡ blockAt h (k + n) s
-unfolding blockAt
-blockAt-on h k zero s = ap (λ (m : ℕ). blockAt h m s) (sym (add-zero k))
-blockAt-on h k (suc n) s =
-    let e : suc (k + n) ≡ k + suc n = omega arith in
-    rw (blockAt-on h k n s) (ap (λ (m : ℕ). blockAt h m s) e)
-
 module _ (s : List ℕ) (t next : ℕ) (h : t ≤ next) where
   on-is : t + (next - t) ≡ next
   on-is = omega arith
 
-  pub walk-on : Walkable 11 next s → Walkable (blockAt 11 t s) (next - t) s
-  walk-on w i l = rw (blockAt-on 11 t i s) (w (t + i) (omega arith))
+  pub walk-on : Walkable 11 next s → Walkable 0 (next - t) (after t (drop 11 s))
+  walk-on w = walk-rest 11 t (next - t) s (rw on-is w)
 
-  pub walked-on : blockAt (blockAt 11 t s) (next - t) s ≡ blockAt 11 next s
-  walked-on = blockAt-on 11 t (next - t) s ∙ ap (λ (m : ℕ). blockAt 11 m s) on-is
+  pub walked-on : after (next - t) (after t (drop 11 s)) ≡ after next (drop 11 s)
+  walked-on = after-on t (next - t) (drop 11 s) ∙ ap (λ (m : ℕ). after m (drop 11 s)) on-is
 
 -- those of the terms ts that are below n start at their numbers of ps
 abbrev pub AllStart : List ℕ → List ℕ → ℕ → List ℕ → Type 0
@@ -90,37 +92,56 @@ starts-more s ts ps after t at next a p o l i h b =
     before : (x : ℕ) → (x ≡ t → ⊥) → x < next → (t + 1 ≤ x → next ≤ x) → x < t
     before x e b f = elim (decLt x t) [ yes g ↦ g | no g ↦ absurd (omega (arith, f (beyond x e g))) ]
 
--- the walk stands at term t, the terms below the next one have their starts, and the next one, if any, is of the card
-pub record Finding (s ts ps : List ℕ) (n t at next : ℕ) : Type 0 where
+-- what is left of the card starts at term t, the terms below the next one have their starts, and the next one, if any,
+-- is of the card
+pub record Finding (s ts ps : List ℕ) (n t : ℕ) (rest : List ℕ) (next : ℕ) : Type 0 where
   pub room : length ps ≡ n
-  pub start : at ≡ blockAt 11 t s
+  pub left : rest ≡ after t (drop 11 s)
   pub onward : t ≤ next
   pub on-card : next < 2 ^ 32 → next < indexT s
   pub found : AllStart s ts next ps
 
-module _ (s ts : List ℕ) (b : Below s ts) where
+module _ (s ts : List ℕ) (a : indexRefusal s ≡ Accepted) (b : Below s ts) where
   -- the least of the card's terms is one of them
   least-below : (t r : ℕ) → LeastFrom ts t r → r < 2 ^ 32 → r < indexT s
   least-below t r l o = let x = l .among o in rw (x .2) at (b (x .0) (x .1))
 
-  pub finding-first : (ps : List ℕ) (next : ℕ) → LeastFrom ts 0 next → Finding s ts ps (length ps) 0 11 next
-  unfolding blockAt
+  pub finding-first : (ps : List ℕ) (next : ℕ) → LeastFrom ts 0 next
+      → Finding s ts ps (length ps) 0 (take (length s - 11) (drop 11 s)) next
+  unfolding after
   finding-first ps next l = record {
     room = refl;
-    start = refl;
+    left = part-behind 11 s;
     onward = omega arith;
     on-card = least-below 0 next l;
     found = λ i h g. absurd (omega (arith, l .least i h (omega arith)));
   }
 
-  module _ (ps after : List ℕ) (n t at next : ℕ) (f : Finding s ts ps n t at next) (h : next < 2 ^ 32) where
-    pub finding-more : (to then : ℕ) → to ≡ blockAt at (next - t) s → Put ts next to ps after
-        → LeastFrom ts (next + 1) then → Finding s ts after n next to then
-    finding-more to then e p l =
-        let start : to ≡ blockAt 11 next s = e ∙ rw (f .start) (walked-on s t next (f .onward)) in record {
-          room = p .same ∙ f .room;
-          start = start;
-          onward = omega (arith, l .onward);
-          on-card = least-below (next + 1) then l;
-          found = starts-more s ts ps after next to then (f .found) p (record { below = f .on-card h; start = start }) l;
-        }
+  module _ (ps : List ℕ) (n t : ℕ) (rest : List ℕ) (next : ℕ) (f : Finding s ts ps n t rest next)
+      (h : next < 2 ^ 32) where
+    walks : Walkable 11 next s
+    walks = index-walks s a next (f .on-card h)
+
+    pub finding-walks : Walkable 0 (next - t) rest
+    finding-walks = rw (f .left) (walk-on s t next (f .onward) walks)
+
+    module _ (new : List ℕ) (e : new ≡ after (next - t) (drop 0 rest)) where
+      left-next : new ≡ after next (drop 11 s)
+      left-next = e ∙ rw (f .left) (walked-on s t next (f .onward))
+
+      -- the next term starts where what is left of the card does
+      pub start-next : blockAt 11 next s + length new ≡ length s
+      start-next = rw left-next (after-length 11 next s walks)
+
+      pub finding-more : (qs : List ℕ) (then : ℕ) → Put ts next (length s - length new) ps qs
+          → LeastFrom ts (next + 1) then → Finding s ts qs n next new then
+      finding-more qs then p l =
+          let start : length s - length new ≡ blockAt 11 next s = omega (arith, start-next) in record {
+            room = p .same ∙ f .room;
+            left = left-next;
+            onward = omega (arith, l .onward);
+            on-card = least-below (next + 1) then l;
+            found =
+                starts-more s ts ps qs next (length s - length new) then (f .found) p
+                (record { below = f .on-card h; start = start }) l;
+          }

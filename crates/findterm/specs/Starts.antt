@@ -1,6 +1,8 @@
 -- Where the terms of an index start.
 --
 --   Starts s t at       term number t of the index s starts at byte `at`
+--   TermThere s at      some term of it does
+--   TermAt s at b       the bytes b are the part of s that is the term which starts at byte `at`
 --   Below s ts          each of the terms ts is a term of s
 --   Found s ts ps       each of the terms ts starts at its number of ps
 --   LeastOf ts n t r    r is the least at or above t of the first n terms of ts, or 2 ^ 32 where there is none
@@ -11,12 +13,19 @@ use mathlib.Core.Path.{_≡_}
 use mathlib.Core.List.{List}
 use Prim.Native.Nat.{ℕ, _^_, _≤_, _<_}
 use lib.ListN.{length, getD}
-use Rattle.rules.specs.Index.{indexT}
+use Rattle.rules.specs.Index.{indexT, termPart}
 use Rattle.laws.specs.Blocks.{blockAt}
 
 pub record Starts (s : List ℕ) (t at : ℕ) : Type 0 where
   pub below : t < indexT s
   pub start : at ≡ blockAt 11 t s
+
+pub record TermThere (s : List ℕ) (at : ℕ) : Type 0 where
+  pub number : ℕ
+  pub starts : Starts s number at
+
+abbrev pub TermAt : List ℕ → ℕ → List ℕ → Type 0
+TermAt s at b = (t : ℕ) → Starts s t at → b ≡ termPart t s
 
 abbrev pub Below : List ℕ → List ℕ → Type 0
 Below s ts = (i : ℕ) → i < length ts → getD ts i 0 < indexT s
@@ -26,6 +35,7 @@ Found s ts ps = (i : ℕ) → i < length ts → Starts s (getD ts i 0) (getD ps 
 
 pub record LeastOf (ts : List ℕ) (n t r : ℕ) : Type 0 where
   pub onward : t ≤ r
+  pub within : r ≤ 2 ^ 32
   pub least : (i : ℕ) → i < n → t ≤ getD ts i 0 → r ≤ getD ts i 0
   pub among : r < 2 ^ 32 → (i : ℕ) × (i < n) × (getD ts i 0 ≡ r)
 

@@ -5,12 +5,10 @@ ghost use mathlib.Core.Path.{_≡_};
 ghost use Prim.Native.Nat.{_^_, _≤_, _<_};
 ghost use lib.ListN.{length};
 ghost use Rattle.rules.specs.declared.Refusal.the-variants.{Accepted};
-ghost use Rattle.rules.specs.Parts.{part};
+ghost use Rattle.rules.specs.Parts.{after, part};
 ghost use Rattle.rules.specs.ReadTerm.{listsOf, pagesOf, countsOf, positionsOf, termRefusal};
 ghost use Rattle.rules.specs.Index.{indexT, termPart, indexRefusal};
-ghost use Rattle.parts.specs.Places.{Placed};
-ghost use Rattle.findterm.specs.Starts.{Below, Found, LeastFrom, Put};
-use parts::Place;
+ghost use Rattle.findterm.specs.Starts.{TermThere, TermAt, Below, Found, LeastFrom, Put};
 
 // ---- terms of an index
 
@@ -65,24 +63,33 @@ pub fn find_terms(card: &[u8], terms: &[u32], starts: &mut [usize])
     ensures { λ _. ⌜ Found (now (card .entry)) (now (terms .entry)) (now (starts .exit)) ⌝ }
 {
     let mut t = 0;
-    let mut at = 11;
+    let mut rest = &card[11..];
     let mut next = least_from(terms, 0);
     while next < NONE {
-        at = parts::block_start(card, at, next - t);
+        let left = parts::blocks_from(rest, 0, next - t);
+        rest = left;
         t = next;
-        put_start(terms, t, at, starts);
+        put_start(terms, t, card.len() - rest.len(), starts);
         next = least_from(terms, t + 1);
     }
 }
 
+// The term that starts at byte `at`.
+pub fn term_at(card: &[u8], at: usize) -> &[u8]
+    requires { ⌜ (indexRefusal (now card) ≡ Accepted) × TermThere (now card) at ⌝ }
+    ensures { λ r. ⌜ TermAt (now (card .entry)) at (now r) ⌝ }
+{
+    parts::part_at(card, at)
+}
+
 // ---- lists of a term
 
-// The place of list number k: pages, counts, positions.
-pub fn list_place(term: &[u8], k: usize) -> Place
+// The bytes from list number k on: pages, counts, positions.
+pub fn lists_from(term: &[u8], k: usize) -> &[u8]
     requires { ⌜ (termRefusal (now term) ≡ Accepted) × (k < 3) ⌝ }
-    ensures { λ r. ⌜ Placed 5 k (now (term .entry)) r ⌝ }
+    ensures { λ r. ⌜ now r ≡ after k (listsOf (now (term .entry))) ⌝ }
 {
-    parts::block_place(term, 5, k)
+    parts::blocks_from(term, 5, k)
 }
 
 // List number k.
@@ -90,7 +97,7 @@ pub fn list_of(term: &[u8], k: usize) -> &[u8]
     requires { ⌜ (termRefusal (now term) ≡ Accepted) × (k < 3) ⌝ }
     ensures { λ r. ⌜ now r ≡ part k (listsOf (now (term .entry))) ⌝ }
 {
-    parts::block_of(term, 5, k)
+    parts::part_at(lists_from(term, k), 0)
 }
 
 pub fn pages_of(term: &[u8]) -> &[u8]

@@ -1,53 +1,70 @@
--- The pages of one word, opened: the numbers of its list in the first slot.
-use mathlib.Core.Bool.{true}
-use mathlib.Core.Path.{_≡_, refl}
+-- One list opened by itself: its numbers in the first slot.
+use mathlib.Core.Path.{_≡_, refl, ap, _∙_}
 use mathlib.Core.List.{List, [], _∷_}
-use Prim.Native.Nat.{ℕ, zero, suc, _<_}
+use Prim.Native.Nat.{ℕ, zero, suc, _-_, _<_}
 use native.Mathlib.Omega.{arith}
 use lib.ListN.{length}
-use lib.Seq.{paste}
+use lib.Seq.{paste, take-length}
 use Rattle.rules.specs.declared.Refusal.the-variants.{Accepted}
-use Rattle.rules.specs.ReadList.{listU, listN, listRefusal}
-use Rattle.rules.specs.Index.{indexT, indexRefusal}
+use Rattle.rules.specs.ReadList.{listU, listN, decode, listRefusal}
 use Rattle.rules.specs.Common.{leadFrom, leadOf}
 use Rattle.shape.specs.Shape.{shapeOf}
-use Rattle.query.specs.Lists.{span}
-use Rattle.questions.specs.Formed.{wordsGood}
-use Rattle.openlists.specs.Places.{placePart, placedIn, numbersOf, shapeAt, sourceOf, Slots}
-use Rattle.openlists.proofs.SlotLaws.{slots-none, slots-more, slots-opened}
-use Rattle.wordlists.specs.Lying.{listOf, Lying, AllLying}
-use Rattle.wordlists.specs.Opened.{OpenedPages}
-use Rattle.wordlists.proofs.OpenLaws.{pages-places, pages-alike, pages-opened}
-use Rattle.openwords.specs.Slots.{bytesOf}
-use Rattle.kinds.proofs.BoundLaws.{word-good}
+use Rattle.query.specs.Lists.{span, pagesAt}
+use Rattle.openlists.specs.Places.{bytesOf, placePart, placedIn, numbersOf, shapeAt, sourceOf}
+use Rattle.openlists.specs.Places.{PlaceOk, Places, Alike, Slots}
+use Rattle.openlists.proofs.SlotLaws.{slots-none, slots-more, slot-part, slots-opened}
+use Rattle.kinds.specs.Alone.{OpenedAlone}
 
-module _ (s : List ℕ) (t from to : ℕ) (a : indexRefusal s ≡ Accepted) (h : t < indexT s)
-    (l : Lying s (listOf s t 0) from to) where
-  -- its place, as the first of eight
+-- all of the bytes
+pub all-bytes : (b : List ℕ) → bytesOf b 0 (length b) ≡ b
+all-bytes b =
+    let e : length b - 0 ≡ length b = omega arith in
+    rw e (take-length b)
+
+module _ (b : List ℕ) (a : listRefusal b ≡ Accepted) where
+  -- its place, from its first byte to its last
   abbrev places : List ℕ
-  places = from ∷ (to ∷ (0 ∷ (0 ∷ (0 ∷ (0 ∷ (0 ∷ (0 ∷ (0 ∷ (0 ∷ (0 ∷ (0 ∷ (0 ∷ (0 ∷ (0 ∷ (0 ∷ [])))))))))))))))
+  places = 0 ∷ (length b ∷ [])
 
-  good : wordsGood (indexT s) (t ∷ []) ≡ true
-  good = word-good (indexT s) t h
+  there : Places b places 1
+  unfolding placePart
+  there = record {
+    some = omega arith;
+    few = omega arith;
+    each = each;
+  }
+    where
+      each : (i : ℕ) → i < 1 → PlaceOk b places i
+      each zero h = record {
+        room = omega arith;
+        starts = omega arith;
+        ends = omega arith;
+        accepted = rw (all-bytes b) a;
+      }
+      each (suc i) h = absurd (omega arith)
 
-  lies : AllLying s (t ∷ []) 0 1 places
-  lies zero g = l
-  lies (suc i) g = absurd (omega arith)
+  alike : Alike b places 1
+  alike zero h = refl
+  alike (suc i) h = absurd (omega arith)
 
   abbrev numbers : List ℕ
-  numbers = numbersOf from to (shapeOf (listU (bytesOf s from to)) (listN (bytesOf s from to)))
-
-  first-slot : (sh : List ℕ) → length sh ≡ 64 → Slots s places 0 1 (paste sh 0 numbers 8)
-  unfolding sourceOf shapeAt placePart
-  first-slot sh e = slots-more s places 0 sh 0 (omega arith) (slots-none s places 0 sh e)
+  numbers = numbersOf 0 (length b) (shapeOf (listU (bytesOf b 0 (length b))) (listN (bytesOf b 0 (length b))))
 
   -- a list alone leads
-  leads : 0 ≡ leadOf (placedIn s places 1)
+  leads : 0 ≡ leadOf (placedIn b places 1)
   unfolding placedIn span leadOf leadFrom
   leads = refl
 
-  pub alone-opened : (sh : List ℕ) → length sh ≡ 64 → OpenedPages s (t ∷ []) (paste sh 0 numbers 8)
-  alone-opened sh e =
-      pages-opened s (t ∷ []) places a good refl lies (paste sh 0 numbers 8)
-      (slots-opened s places 0 1 (pages-places s (t ∷ []) places a good refl lies) (omega arith) (paste sh 0 numbers 8)
-      (first-slot sh e) (pages-alike s (t ∷ []) places a good refl lies) leads)
+  module _ (sh : List ℕ) (e : length sh ≡ 64) where
+    first-slot : Slots b places 0 1 (paste sh 0 numbers 8)
+    unfolding sourceOf shapeAt placePart
+    first-slot = slots-more b places 0 sh 0 (omega arith) (slots-none b places 0 sh e)
+
+    pub alone-opened : OpenedAlone b (paste sh 0 numbers 8)
+    unfolding pagesAt placePart sourceOf
+    alone-opened = record {
+      lists = slots-opened b places 0 1 there (omega arith) (paste sh 0 numbers 8) first-slot alike leads .lists;
+      pages =
+          ap decode (slot-part b places 0 1 there (omega arith) (paste sh 0 numbers 8) first-slot 0 (omega arith)
+          ∙ all-bytes b);
+    }

@@ -1,34 +1,26 @@
 -- The first page at or above a bound, found as the next common page of one list.
-use mathlib.Core.Bool.{true}
 use mathlib.Core.Path.{_≡_, sym, ap, _∙_}
 use mathlib.Core.List.{List, [], _∷_}
 use Prim.Native.Nat.{ℕ, _-_, _<_}
 use native.Mathlib.Omega.{arith}
-use borrow.Author.Tests.{lt-ltb}
-use lib.ListN.{getD}
 use Rattle.rules.specs.Seek.{none, page}
-use Rattle.rules.specs.Common.{leadFrom, leadOf}
-use Rattle.rules.specs.Questions.{firstFrom, allBelow, numbered, pagesIn as pagesBy, listsIn, byBound}
+use Rattle.rules.specs.ReadList.{decode}
+use Rattle.rules.specs.Questions.{firstFrom, numbered, byBound}
 use Rattle.seeklaws.proofs.FirstLaws.{firstAt-self}
-use Rattle.commonlaws.specs.Readers.{pagesOf, leadPages}
+use Rattle.commonlaws.specs.Readers.{pagesOf}
 use Rattle.commonlaws.proofs.SharedLaws.{first-page}
 use Rattle.commonlaws.proofs.NextLaws.{next-first, alone-first}
 use Rattle.seek.specs.Cursors.{spentMark}
 use Rattle.query.specs.declared.Turn.{Turn}
-use Rattle.query.specs.Lists.{span, pagesAt, pagesIn, boundIn}
+use Rattle.query.specs.Lists.{span, pagesAt, boundIn}
 use Rattle.query.specs.Queries.{newQuery, readerAt, leadIn, othersIn, nextFor, Apt, Turned}
 use Rattle.query.proofs.ListLaws.{list-rises}
 use Rattle.query.proofs.RunLaws.{lead-ready, others-ready, came}
 use Rattle.query.proofs.NewLaws.{new-running}
 use Rattle.query.proofs.TurnLaws.{turned-none, turned-page}
-use Rattle.questions.specs.Formed.{wordsGood}
-use Rattle.wordlists.specs.Opened.{OpenedPages}
+use Rattle.kinds.specs.Alone.{OpenedAlone}
 use Rattle.kinds.specs.Ranks.{rankBy}
 use Rattle.kinds.proofs.RankLaws.{turned-ranked}
-
-pub word-good : (T t : ℕ) → t < T → wordsGood T (t ∷ []) ≡ true
-unfolding wordsGood allBelow
-word-good T t h = rw (lt-ltb t T h)
 
 by-none : (xs : List ℕ) (b : ℕ) → firstFrom b 0 xs ≡ none → byBound xs b ≡ 0 ∷ []
 unfolding byBound numbered
@@ -38,40 +30,34 @@ by-page : (xs : List ℕ) (b c i : ℕ) → firstFrom b 0 xs ≡ page c i → by
 unfolding byBound numbered
 by-page xs b c i e = rw (e, byBound)
 
-module _ (s : List ℕ) (t : ℕ) (r : List ℕ) (o : OpenedPages s (t ∷ []) r) where
-  -- the one list is the word's
-  alone : pagesAt s r 0 ≡ pagesBy s t
-  unfolding pagesIn span leadPages leadOf leadFrom listsIn
-  alone = ap (λ (x : List (List ℕ)). getD x 0 []) (o .pages)
+module _ (s r : List ℕ) (o : OpenedAlone s r) (b : ℕ) (u : Turn) (n : Turned s r 1 newQuery b u) where
+  apt : Apt s r 1 newQuery b
+  apt = new-running s r 1 (o .lists) b .apt
 
-  module _ (b : ℕ) (u : Turn) (n : Turned s r 1 newQuery b u) where
-    apt : Apt s r 1 newQuery b
-    apt = new-running s r 1 (o .lists) b .apt
+  found-first : nextFor s r 1 newQuery b .found ≡ firstFrom b 0 (decode s)
+  unfolding span readerAt pagesOf
+  found-first =
+      next-first (boundIn r) (leadIn s r newQuery) (othersIn s r 1 newQuery) b (lead-ready s r 1 newQuery b apt)
+      (others-ready s r 1 newQuery b apt)
+      ∙ alone-first (boundIn r) (pagesAt s r 0) (list-rises s r 0 (o .lists .each 0 (o .lists .some))) b
+      ∙ ap (firstFrom b 0) (o .pages)
 
-    found-first : nextFor s r 1 newQuery b .found ≡ firstFrom b 0 (pagesBy s t)
-    unfolding span readerAt pagesOf
-    found-first =
-        next-first (boundIn r) (leadIn s r newQuery) (othersIn s r 1 newQuery) b (lead-ready s r 1 newQuery b apt)
-        (others-ready s r 1 newQuery b apt)
-        ∙ alone-first (boundIn r) (pagesAt s r 0) (list-rises s r 0 (o .lists .each 0 (o .lists .some))) b
-        ∙ ap (firstFrom b 0) alone
+  pub bound-none : u .mark ≡ spentMark → byBound (decode s) b ≡ 0 ∷ []
+  bound-none m = by-none (decode s) b (sym found-first ∙ turned-none s r 1 newQuery b apt u n m)
 
-    pub bound-none : u .mark ≡ spentMark → byBound (pagesBy s t) b ≡ 0 ∷ []
-    bound-none m = by-none (pagesBy s t) b (sym found-first ∙ turned-none s r 1 newQuery b apt u n m)
+  pub bound-marked : (u .mark ≡ spentMark → ⊥) → 0 < u .mark
+  bound-marked m = omega (arith, turned-page s r 1 newQuery b apt u n m .2)
 
-    pub bound-marked : (u .mark ≡ spentMark → ⊥) → 0 < u .mark
-    bound-marked m = omega (arith, turned-page s r 1 newQuery b apt u n m .2)
-
-    pub bound-some : (u .mark ≡ spentMark → ⊥) → byBound (pagesBy s t) b
-        ≡ 2 ∷ ((u .mark - 1) ∷ (rankBy r (u .q) 0 ∷ []))
-    bound-some m =
-        let p = turned-page s r 1 newQuery b apt u n m in
-        let k = turned-ranked s r 1 newQuery b apt u n m 0 (omega arith) in
-        let d : u .mark - 1 ≡ p .0 = omega (arith, p .2) in
-        let hit = rw (p .3) at (came s r 1 newQuery b apt .ends) in
-        let f = first-page (p .0) (pagesAt s r 0) (p .0) (p .1) (unfold readerAt in (hit .first)) in
-        let g =
-        firstAt-self 0 (boundIn r) (pagesAt s r 0) (list-rises s r 0 (o .lists .each 0 (o .lists .some)))
-        (rankBy r (u .q) 0) (k .within) in
-        let e : p .1 ≡ rankBy r (u .q) 0 = sym (f .0) ∙ rw (k .there, d) at g in
-        rw (d, ← e) (by-page (pagesBy s t) b (p .0) (p .1) (sym found-first ∙ p .3))
+  pub bound-some : (u .mark ≡ spentMark → ⊥) → byBound (decode s) b
+      ≡ 2 ∷ ((u .mark - 1) ∷ (rankBy r (u .q) 0 ∷ []))
+  bound-some m =
+      let p = turned-page s r 1 newQuery b apt u n m in
+      let k = turned-ranked s r 1 newQuery b apt u n m 0 (omega arith) in
+      let d : u .mark - 1 ≡ p .0 = omega (arith, p .2) in
+      let hit = rw (p .3) at (came s r 1 newQuery b apt .ends) in
+      let f = first-page (p .0) (pagesAt s r 0) (p .0) (p .1) (unfold readerAt in (hit .first)) in
+      let g =
+      firstAt-self 0 (boundIn r) (pagesAt s r 0) (list-rises s r 0 (o .lists .each 0 (o .lists .some)))
+      (rankBy r (u .q) 0) (k .within) in
+      let e : p .1 ≡ rankBy r (u .q) 0 = sym (f .0) ∙ rw (k .there, d) at g in
+      rw (d, ← e) (by-page (decode s) b (p .0) (p .1) (sym found-first ∙ p .3))

@@ -1,7 +1,6 @@
 // Answers of one list: its element of a rank, and its first element at or above a bound.
 
 ghost use mathlib.Core.Path.{_≡_};
-ghost use mathlib.Core.List.{[], _∷_};
 ghost use Prim.Native.Nat.{_<_};
 ghost use lib.ListN.{length};
 ghost use Rattle.rules.specs.declared.Refusal.the-variants.{Accepted};
@@ -10,7 +9,7 @@ ghost use Rattle.rules.specs.ReadTerm.{pagesOf};
 ghost use Rattle.rules.specs.Index.{indexT, termPart, indexRefusal};
 ghost use Rattle.rules.specs.Questions.{pagesIn, byRank, byBound};
 ghost use Rattle.questions.specs.Wrote.{Wrote};
-ghost use Rattle.wordlists.specs.Opened.{OpenedPages};
+ghost use Rattle.kinds.specs.Alone.{OpenedAlone};
 ghost use Rattle.kinds.specs.Ranks.{rankBy, OnElement};
 use query::Query;
 use seek::SPENT;
@@ -70,16 +69,12 @@ pub fn rank_in(shapes: &[u32], q: Query, i: usize) -> usize
     c.bit as usize - ((c.mark as usize - 1) >> query::number(shapes, i, 3))
 }
 
-// Opens the pages of word t as the first list; its place is handed on, and not put down in numbers to be read again.
-fn open_alone(card: &[u8], t: usize, shapes: &mut [u32])
-    requires { ⌜ (indexRefusal (now card) ≡ Accepted) × (t < indexT (now card)) × (length (now shapes) ≡ 64) ⌝ }
-    ensures { λ _. ⌜ OpenedPages (now (card .entry)) (t ∷ []) (now (shapes .exit)) ⌝ }
+// Opens a list of pages as the one list of a query over its own bytes.
+fn open_alone(pages: &[u8], shapes: &mut [u32])
+    requires { ⌜ (listRefusal (now pages) ≡ Accepted) × (length (now shapes) ≡ 64) ⌝ }
+    ensures { λ _. ⌜ OpenedAlone (now (pages .entry)) (now (shapes .exit)) ⌝ }
 {
-    let term = parts::block_place(card, 11, t);
-    let from = term.from;
-    let to = term.to;
-    let list = findterm::list_place(&card[from..to], 0);
-    let numbers = openwords::numbers_at(card, from + list.from, from + list.to);
+    let numbers = openlists::numbers_at(pages, 0, pages.len());
     openlists::put_list(shapes, 0, numbers);
 }
 
@@ -88,9 +83,10 @@ pub fn by_bound(card: &[u8], t: u32, bound: usize, room: &mut [u32]) -> usize
     requires { ⌜ (indexRefusal (now card) ≡ Accepted) × (t < indexT (now card)) ⌝ }
     ensures { λ r. ⌜ Wrote (byBound (pagesIn (now (card .entry)) t) bound) (now (room .entry)) r (now (room .exit)) ⌝ }
 {
+    let pages = pages_in(card, t as usize);
     let mut shapes = [0u32; 64];
-    open_alone(card, t as usize, &mut shapes);
-    let turn = query::next_common(card, &shapes, Query::new(), 1, bound);
+    open_alone(pages, &mut shapes);
+    let turn = query::next_common(pages, &shapes, Query::new(), 1, bound);
     if turn.mark == SPENT {
         return put(&[0], room);
     }

@@ -1,5 +1,8 @@
--- Places of lists in a card, two numbers each, in a question's order; and where each list stands once the lead is first.
+-- Places of lists in a card, two numbers each, in a question's order; and where each list stands once the lead is
+-- first.
 --
+--   bytesOf s from to   the bytes of the card s from byte `from` up to byte `to`
+--   Within s from to    they lie in it, and their place fits 32 bits
 --   placePart s ps i    the bytes of the card s from number 0 to number 1 of place i
 --   placePages s ps i   the pages of the list there
 --   placedIn s ps k     those of the first k places
@@ -15,7 +18,7 @@
 use mathlib.Core.Bool.{cond}
 use mathlib.Core.Path.{_≡_}
 use mathlib.Core.List.{List, [], _∷_}
-use Prim.Native.Nat.{ℕ, _+_, _-_, _*_, _≤_, _<_}
+use Prim.Native.Nat.{ℕ, _+_, _-_, _*_, _^_, _≤_, _<_}
 use lib.Dec.{eqb, leb, ltb}
 use lib.ListN.{length, getD, take, drop}
 use Rattle.rules.specs.declared.Refusal.the-variants.{Accepted}
@@ -31,8 +34,16 @@ fromOf ps i = getD ps (2 * i) 0
 abbrev pub toOf : List ℕ → ℕ → ℕ
 toOf ps i = getD ps (2 * i + 1) 0
 
+abbrev pub bytesOf : List ℕ → ℕ → ℕ → List ℕ
+bytesOf s from to = take (to - from) (drop from s)
+
+pub record Within (s : List ℕ) (from to : ℕ) : Type 0 where
+  pub starts : from ≤ to
+  pub ends : to ≤ length s
+  pub short : to < 2 ^ 32
+
 unfoldable pub placePart : List ℕ → List ℕ → ℕ → List ℕ
-placePart s ps i = take (toOf ps i - fromOf ps i) (drop (fromOf ps i) s)
+placePart s ps i = bytesOf s (fromOf ps i) (toOf ps i)
 
 unfoldable pub placePages : List ℕ → List ℕ → ℕ → List ℕ
 placePages s ps i = decode (placePart s ps i)

@@ -4,9 +4,12 @@ ghost use mathlib.Core.Path.{_≡_};
 ghost use Prim.Native.Nat.{_*_, _<_};
 ghost use lib.ListN.{length};
 ghost use lib.Seq.{paste};
+ghost use Rattle.rules.specs.declared.Refusal.the-variants.{Accepted};
+ghost use Rattle.rules.specs.ReadList.{listU, listN, listRefusal};
 ghost use Rattle.rules.specs.Common.{leadOf};
-ghost use Rattle.openlists.specs.Places.{placePart, placePages, placedIn, numbersAt, sourceOf, PlaceOk};
-ghost use Rattle.openlists.specs.Places.{Places, Alike, Slots, Opened};
+ghost use Rattle.shape.specs.Shape.{shapeOf};
+ghost use Rattle.openlists.specs.Places.{bytesOf, placePart, placePages, placedIn, numbersOf, numbersAt};
+ghost use Rattle.openlists.specs.Places.{sourceOf, Within, PlaceOk, Places, Alike, Slots, Opened};
 
 // The bytes at place i.
 fn part_of<'a>(card: &'a [u8], places: &[u32], i: usize) -> &'a [u8]
@@ -45,15 +48,16 @@ fn lead_of(card: &[u8], places: &[u32], k: usize) -> usize
     lead
 }
 
-// The numbers of the list at place i: where it is, and its shape.
-fn open_list(card: &[u8], places: &[u32], i: usize) -> [u32; 8]
-    requires { ⌜ (i < 8) × PlaceOk (now card) (now places) i ⌝ }
-    ensures { λ r. ⌜ r ≡ numbersAt (now (card .entry)) (now (places .entry)) i ⌝ }
+// The numbers of the accepted list from byte `from` up to byte `to`: where it is, and its shape.
+pub fn numbers_at(card: &[u8], from: usize, to: usize) -> [u32; 8]
+    requires { ⌜ Within (now card) from to × (listRefusal (bytesOf (now card) from to) ≡ Accepted) ⌝ }
+    ensures { λ r. ⌜ r ≡ numbersOf from to
+        (shapeOf (listU (bytesOf (now (card .entry)) from to)) (listN (bytesOf (now (card .entry)) from to))) ⌝ }
 {
-    let g = readlist::shape_at(part_of(card, places, i));
+    let g = readlist::shape_at(&card[from..to]);
     [
-        places[2 * i],
-        places[2 * i + 1],
+        from as u32,
+        to as u32,
         g.u as u32,
         g.w as u32,
         g.bits as u32,
@@ -61,6 +65,14 @@ fn open_list(card: &[u8], places: &[u32], i: usize) -> [u32; 8]
         g.upper as u32,
         g.n as u32,
     ]
+}
+
+// The numbers of the list at place i.
+fn open_list(card: &[u8], places: &[u32], i: usize) -> [u32; 8]
+    requires { ⌜ (i < 8) × PlaceOk (now card) (now places) i ⌝ }
+    ensures { λ r. ⌜ r ≡ numbersAt (now (card .entry)) (now (places .entry)) i ⌝ }
+{
+    numbers_at(card, places[2 * i] as usize, places[2 * i + 1] as usize)
 }
 
 // Puts a list's numbers into a slot.

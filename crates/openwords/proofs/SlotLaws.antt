@@ -1,8 +1,7 @@
 -- Laws of slots: a list's numbers put into one place its block, and the other slots stay as they are.
-use mathlib.Core.Bool.{true}
 use mathlib.Core.Path.{_≡_, refl, sym, ap, _∙_}
 use mathlib.Core.List.{List}
-use Prim.Native.Nat.{ℕ, zero, suc, _+_, _-_, _*_, _≤_, _<_}
+use Prim.Native.Nat.{ℕ, zero, suc, _+_, _-_, _*_, _<_}
 use native.Mathlib.Decide.{ℕ-discrete}
 use native.Mathlib.Omega.{arith}
 use lib.ListN.{length, getD, drop, length-drop}
@@ -17,11 +16,10 @@ use Rattle.listlaws.proofs.RefusalLaws.{accepted-framed}
 use Rattle.termlaws.proofs.Theorems.{accepted-lists}
 use Rattle.cardlaws.proofs.Theorems.{accepted-term}
 use Rattle.query.specs.Lists.{numberOf, partAt, shapeIn}
-use Rattle.openlists.specs.Places.{numbersOf}
+use Rattle.openlists.specs.Places.{bytesOf, Within, numbersOf}
 use Rattle.openlists.proofs.SlotLaws.{paste-in, paste-before}
-use Rattle.phrase.specs.Words.{BlockAt}
 use Rattle.wordlists.specs.Lying.{listOf}
-use Rattle.openwords.specs.Slots.{bytesOf, Within, Slot, Filled}
+use Rattle.openwords.specs.Slots.{Slot, Filled}
 
 -- each of a word's lists is accepted
 pub list-accepted : (s : List ℕ) (t k : ℕ) → indexRefusal s ≡ Accepted → t < indexT s → k < 3

@@ -1,24 +1,14 @@
 -- The lists of a question's words in the slots of their words.
 --
---   bytesOf s from to   the bytes of the card s from byte `from` up to byte `to`
---   Within s from to    they lie in it, and its places fit 32 bits
 --   Slot s sh i b       slot i of the numbers sh places the accepted block b in the card s
 --   Filled s ts k n sh  so does each of the first n slots, with list number k of its word of ts
 use mathlib.Core.Path.{_≡_}
 use mathlib.Core.List.{List}
-use Prim.Native.Nat.{ℕ, _-_, _^_, _≤_, _<_}
-use lib.ListN.{length, getD, take, drop}
+use Prim.Native.Nat.{ℕ, _<_}
+use lib.ListN.{length, getD}
 use Rattle.query.specs.Lists.{partAt}
 use Rattle.phrase.specs.Words.{BlockAt}
 use Rattle.wordlists.specs.Lying.{listOf}
-
-abbrev pub bytesOf : List ℕ → ℕ → ℕ → List ℕ
-bytesOf s from to = take (to - from) (drop from s)
-
-pub record Within (s : List ℕ) (from to : ℕ) : Type 0 where
-  pub starts : from ≤ to
-  pub ends : to ≤ length s
-  pub short : length s < 2 ^ 32
 
 pub record Slot (s sh : List ℕ) (i : ℕ) (b : List ℕ) : Type 0 where
   pub block : BlockAt s sh i

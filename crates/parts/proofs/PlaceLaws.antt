@@ -1,38 +1,78 @@
 -- Laws of a block's place: the part that lies there is the block, its length is tested
 -- first, and it depends on where the blocks before it end and not on what they hold.
 use mathlib.Core.Bool.{Bool, true, false, not}
-use mathlib.Core.Path.{_≡_, sym, ap, _∙_}
+use mathlib.Core.Path.{_≡_, refl, sym, ap, _∙_}
 use mathlib.Core.List.{List}
-use Prim.Native.Nat.{ℕ, _+_, _-_, _≤_}
+use Prim.Native.Nat.{ℕ, zero, suc, _+_, _-_, _≤_}
+use native.Mathlib.Nat.{add-zero, zero-add}
 use native.Mathlib.Omega.{arith}
 use lib.ListN.{length, take, drop, length-take, length-drop}
-use lib.Seq.{getD-take, getD-drop, drop-drop, ext-getD}
+use lib.Seq.{take-length, getD-take, getD-drop, drop-drop, ext-getD}
 use Rattle.rules.specs.declared.Refusal.{Refusal}
 use Rattle.rules.specs.declared.Refusal.the-variants.{Accepted}
 use Rattle.rules.specs.Refusal.{accepted, andThen}
 use Rattle.rules.specs.Bytes.{beAt}
 use Rattle.rules.specs.ReadList.{stated}
-use Rattle.rules.specs.Parts.{part, inside}
+use Rattle.rules.specs.Parts.{after, part, inside}
 use Rattle.laws.specs.Blocks.{blockAt}
-use Rattle.laws.proofs.ByteLaws.{Alike, beAt-same}
+use Rattle.laws.proofs.ByteLaws.{Alike, beAt-same, beAt-drop}
 use Rattle.laws.proofs.RefusalLaws.{told-stop, told-passed, andThen-next}
-use Rattle.laws.proofs.PartLaws.{part-at, blockAt-suc, stated-drop, inside-parts, inside-then}
-use Rattle.parts.specs.declared.Place.{Place}
-use Rattle.parts.specs.Places.{frontRefusal, Held, Walkable, Placed}
+use Rattle.laws.proofs.PartLaws.{part-at, after-at, stated-drop, inside-parts, inside-then}
+use Rattle.parts.specs.Places.{frontRefusal, Held, Walkable}
+
+-- ---- the bytes from a place on
+
+-- as a part of them
+pub part-behind : (n : ℕ) (s : List ℕ) → take (length s - n) (drop n s) ≡ drop n s
+part-behind n s = rw (← length-drop n s) (take-length (drop n s))
+
+-- the blocks of what is left from block number t on are those from there on
+pub after-on : (t n : ℕ) (s : List ℕ) → after n (after t s) ≡ after (t + n) s
+unfolding after
+after-on zero n s = ap (λ (m : ℕ). after m s) (sym (zero-add n))
+after-on (suc t) n s =
+    let e : suc (t + n) ≡ suc t + n = omega arith in
+    after-on t n (drop (stated s) s) ∙ ap (λ (m : ℕ). after m s) e
+
+rest-at : (h t n : ℕ) (s : List ℕ) → blockAt h t s + blockAt 0 n (drop (blockAt h t s) s) ≡ blockAt h (t + n) s
+unfolding blockAt
+rest-at h t zero s = add-zero (blockAt h t s) ∙ ap (λ (m : ℕ). blockAt h m s) (sym (add-zero t))
+rest-at h t (suc n) s =
+    let p : ℕ = blockAt h t s in
+    let q : ℕ = blockAt 0 n (drop p s) in
+    let e : suc (t + n) ≡ t + suc n = omega arith in
+    let assoc : p + (q + beAt 4 s (p + q)) ≡ p + q + beAt 4 s (p + q) = omega arith in
+    rw (beAt-drop 4 p s q) (assoc ∙ rw (rest-at h t n s) (ap (λ (m : ℕ). blockAt h m s) e))
+
+pub walk-rest : (h t n : ℕ) (s : List ℕ) → Walkable h (t + n) s → Walkable 0 n (after t (drop h s))
+walk-rest h t n s w =
+    rw (after-at h s t) (λ i l.
+    let p : ℕ = blockAt h t s in
+    let q : ℕ = blockAt 0 i (drop p s) in
+    let b = beAt-drop 4 p s q in
+    let held : Held (p + q) s = rw (rest-at h t i s) (w (t + i) (omega arith)) in
+    (omega (arith, held), omega (arith, held, length-drop p s)))
 
 -- ---- a block at its place
 
 pub walk-held : (from k : ℕ) (s : List ℕ) (at : ℕ) → Walkable from k s → at ≡ blockAt from k s → Held at s
 walk-held from k s at w e = rw e (w k (omega arith))
 
-pub placed-part : (from k : ℕ) (s : List ℕ) (r : Place) → Placed from k s r
-    → take (r .to - r .from) (drop (r .from) s) ≡ part k (drop from s)
-placed-part from k s r p =
-    let e : r .to - r .from ≡ beAt 4 s (r .from) = omega (arith, p .ends) in
-    rw (e, p .starts) (sym (part-at from s k))
+-- the bytes from a block on have it at their front
+module _ (from k : ℕ) (s : List ℕ) (w : Walkable from k s) where
+  pub after-length : blockAt from k s + length (after k (drop from s)) ≡ length s
+  after-length = rw (after-at from s k, length-drop) (omega (arith, w k (omega arith)))
 
-pub placed-end : (from k : ℕ) (s : List ℕ) (r : Place) → Placed from k s r → r .to ≡ blockAt from (k + 1) s
-placed-end from k s r p = p .ends ∙ rw (p .starts) (sym (blockAt-suc from s k))
+  pub after-held : Held 0 (after k (drop from s))
+  unfolding stated
+  after-held =
+      let e : beAt 4 (after k (drop from s)) 0 ≡ beAt 4 s (blockAt from k s) =
+      rw (after-at from s k) (stated-drop (blockAt from k s) s) in
+      (omega (arith, w k (omega arith)), omega (arith, w k (omega arith), after-length))
+
+pub part-front : (k : ℕ) (s : List ℕ) → take (beAt 4 (after k s) 0) (drop 0 (after k s)) ≡ part k s
+unfolding part stated
+part-front k s = refl
 
 -- ---- a block at a byte of the bytes that hold it
 

@@ -4,8 +4,6 @@
 --   frontRefusal h s  the refusal of the length that the block at the front of s states, its header of h bytes
 --   Held at s         the block at byte `at` of s states four bytes or more and lies within s
 --   Walkable from k s  blocks number 0 to k of s, the first at byte `from`, are held
---   Placed from k s r  r is the place of block number k
-use mathlib.Core.Path.{_≡_}
 use mathlib.Core.List.{List}
 use Prim.Native.Nat.{ℕ, _+_, _≤_}
 use lib.ListN.{length}
@@ -14,7 +12,6 @@ use Rattle.rules.specs.declared.Refusal.the-variants.{Accepted}
 use Rattle.rules.specs.Bytes.{beAt}
 use Rattle.rules.specs.Parts.{inside}
 use Rattle.laws.specs.Blocks.{headTests, blockAt}
-use Rattle.parts.specs.declared.Place.{Place}
 
 abbrev pub headRefusal : ℕ → List ℕ → Refusal
 headRefusal h s = headTests h s Accepted
@@ -27,8 +24,3 @@ Held at s = (4 ≤ beAt 4 s at) × (at + beAt 4 s at ≤ length s)
 
 abbrev pub Walkable : ℕ → ℕ → List ℕ → Type 0
 Walkable from k s = (i : ℕ) → i ≤ k → Held (blockAt from i s) s
-
-pub record Placed (from k : ℕ) (s : List ℕ) (r : Place) : Type 0 where
-  pub starts : r .from ≡ blockAt from k s
-  pub ends : r .to ≡ r .from + beAt 4 s (r .from)
-  pub within : r .to ≤ length s

@@ -5,16 +5,10 @@ ghost use Prim.Native.Nat.{_≤_};
 ghost use lib.ListN.{length, take, drop};
 ghost use Rattle.rules.specs.Refusal.{accepted};
 ghost use Rattle.rules.specs.Bytes.{beAt};
-ghost use Rattle.rules.specs.Parts.{part};
+ghost use Rattle.rules.specs.Parts.{after, part};
 ghost use Rattle.laws.specs.Blocks.{blockAt};
-ghost use Rattle.parts.specs.Places.{headRefusal, frontRefusal, Held, Walkable, Placed};
+ghost use Rattle.parts.specs.Places.{headRefusal, frontRefusal, Held, Walkable};
 use rules::Refusal;
-
-// The byte at which a part starts, and that at which it has ended.
-pub struct Place {
-    pub from: usize,
-    pub to: usize,
-}
 
 // Whether nothing is refused.
 pub fn passed(r: Refusal) -> bool
@@ -71,11 +65,11 @@ pub fn part_at(s: &[u8], at: usize) -> &[u8]
     &s[at..to]
 }
 
-// Where block number k starts, found by the lengths that those before it state; the first starts at byte `from`. What
-// is left is walked as a part of its own, so that each length is read at its front.
-pub fn block_start(s: &[u8], from: usize, k: usize) -> usize
+// The bytes from block number k on, found by the lengths that the blocks before it state; the first starts at byte
+// `from`. What is left is walked as a part of its own, so that each length is read at its front.
+pub fn blocks_from(s: &[u8], from: usize, k: usize) -> &[u8]
     requires { ⌜ Walkable from k (now s) ⌝ }
-    ensures { λ r. ⌜ r ≡ blockAt from k (now (s .entry)) ⌝ }
+    ensures { λ r. ⌜ now r ≡ after k (drop from (now (s .entry))) ⌝ }
 {
     let mut rest = &s[from..];
     let mut i = 0;
@@ -84,19 +78,15 @@ pub fn block_start(s: &[u8], from: usize, k: usize) -> usize
         rest = &rest[size..];
         i += 1;
     }
-    s.len() - rest.len()
+    rest
 }
 
-// The place of block number k.
-pub fn block_place(s: &[u8], from: usize, k: usize) -> Place
+// Where block number k starts.
+fn block_start(s: &[u8], from: usize, k: usize) -> usize
     requires { ⌜ Walkable from k (now s) ⌝ }
-    ensures { λ r. ⌜ Placed from k (now (s .entry)) r ⌝ }
+    ensures { λ r. ⌜ r ≡ blockAt from k (now (s .entry)) ⌝ }
 {
-    let at = block_start(s, from, k);
-    Place {
-        from: at,
-        to: at + bits::read_u32(s, at) as usize,
-    }
+    s.len() - blocks_from(s, from, k).len()
 }
 
 // Block number k itself.

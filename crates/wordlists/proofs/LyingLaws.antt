@@ -2,25 +2,26 @@
 use mathlib.Core.Bool.{true}
 use mathlib.Core.Path.{_≡_, sym, ap, _∙_}
 use mathlib.Core.List.{List, [], _∷_}
-use Prim.Native.Nat.{ℕ, zero, suc, _+_, _-_, _*_, _^_, _≤_, _<_, min}
+use Prim.Native.Nat.{ℕ, zero, suc, _+_, _-_, _*_, _^_, _≤_, _<_}
 use native.Mathlib.Omega.{arith}
 use native.Mathlib.Decide.{ℕ-discrete}
 use borrow.Author.Tests.{ltb-true}
 use lib.Dec.{ltb}
-use lib.ListN.{set, length-set, length, getD, take, drop, length-take, length-drop}
-use lib.Seq.{getD-set-same, getD-set-other, take-take, drop-drop, take-nil}
+use lib.ListN.{set, length-set, length, getD, take, drop, length-drop}
+use lib.Seq.{getD-set-same, getD-set-other, length-take-le, take-take, drop-drop, take-nil}
 use Rattle.rules.specs.declared.Refusal.the-variants.{Accepted}
-use Rattle.rules.specs.Bytes.{Bytes}
-use Rattle.rules.specs.Parts.{part}
+use Rattle.rules.specs.Bytes.{Bytes, beAt}
+use Rattle.rules.specs.Parts.{after, part}
 use Rattle.rules.specs.ReadTerm.{listsOf}
-use Rattle.rules.specs.Index.{termPart, indexRefusal}
+use Rattle.rules.specs.Index.{indexRefusal}
 use Rattle.rules.specs.Questions.{allBelow}
 use Rattle.rules.specs.ReadList.{stated}
+use Rattle.laws.specs.Blocks.{blockAt}
 use Rattle.laws.proofs.ByteLaws.{beAt-lt}
+use Rattle.laws.proofs.PartLaws.{part-at}
 use Rattle.cardlaws.proofs.PassedLaws.{accepted-passed}
-use Rattle.parts.specs.declared.Place.{Place}
-use Rattle.parts.specs.Places.{Placed}
-use Rattle.parts.proofs.PlaceLaws.{placed-part}
+use Rattle.parts.specs.Places.{Held, Walkable}
+use Rattle.parts.proofs.PlaceLaws.{after-length}
 use Rattle.listlaws.proofs.RisingLaws.{and-parts}
 use Rattle.questions.specs.Formed.{wordsGood}
 use Rattle.questions.proofs.GoodLaws.{words-parts}
@@ -47,27 +48,46 @@ part-part m a n b s h =
     ap (take m) (drop-take a n (drop b s)) ∙ take-take m (n - a) (drop a (drop b s)) (omega arith)
     ∙ ap (take m) (drop-drop a b s)
 
--- a place of list k in a term, whose place is in the card
-pub list-lying : (s : List ℕ) (t k : ℕ) (p q : Place) (b : List ℕ) → Placed 11 t s p → b
-    ≡ take (p .to - p .from) (drop (p .from) s) → Placed 5 k b q
-    → Lying s (listOf s t k) (p .from + q .from) (p .from + q .to)
-unfolding listOf listsOf termPart
-list-lying s t k p q b u e v =
-    let f : b ≡ part t (drop 11 s) = e ∙ placed-part 11 t s p u in
-    let l : length b ≡ min (p .to - p .from) (length s - p .from) =
-    ap length e ∙ length-take (p .to - p .from) (drop (p .from) s)
-    ∙ ap (min (p .to - p .from)) (length-drop (p .from) s) in
-    let n : p .from + q .to - (p .from + q .from) ≡ q .to - q .from = omega arith in
-    record {
-      starts = omega (arith, v .ends);
-      ends = omega (arith, v .within, u .within, u .ends);
-      bytes =
-          rw n (sym (part-part (q .to - q .from) (q .from) (p .to - p .from) (p .from) s
-          (omega (arith, v .within, v .ends)))
-          ∙ ap (λ (x : List ℕ). take (q .to - q .from) (drop (q .from) x)) (sym e)
-          ∙ placed-part 5 k b q v
-          ∙ ap (λ (x : List ℕ). part k (drop 5 x)) f);
-    }
+-- a list that is a part of a term that is a part of the card
+module _ (s : List ℕ) (at k : ℕ) (term rest list : List ℕ) (held : Held at s)
+    (is-term : term ≡ take (beAt 4 s at) (drop at s)) (walks : Walkable 5 k term)
+    (left : rest ≡ after k (listsOf term)) (is-list : list ≡ part k (listsOf term)) where
+  pub rest-within : blockAt 5 k term + length rest ≡ length term
+  unfolding listsOf
+  rest-within = rw left (after-length 5 k term walks)
+
+  list-at : list ≡ take (beAt 4 term (blockAt 5 k term)) (drop (blockAt 5 k term) term)
+  unfolding listsOf
+  list-at = is-list ∙ part-at 5 term k
+
+  length-list : length list ≡ beAt 4 term (blockAt 5 k term)
+  length-list =
+      ap length list-at
+      ∙ length-take-le (beAt 4 term (blockAt 5 k term)) (drop (blockAt 5 k term) term)
+      (omega (arith, walks k (omega arith), length-drop (blockAt 5 k term) term))
+
+  length-term : length term ≡ beAt 4 s at
+  length-term = ap length is-term ∙ length-take-le (beAt 4 s at) (drop at s) (omega (arith, held, length-drop at s))
+
+  from-is : at + (length term - length rest) ≡ at + blockAt 5 k term
+  from-is = omega (arith, rest-within)
+
+  list-bytes : take (length list) (drop (at + blockAt 5 k term) s) ≡ list
+  list-bytes =
+      rw length-list (sym (list-at
+      ∙ ap (λ (x : List ℕ). take (beAt 4 term (blockAt 5 k term)) (drop (blockAt 5 k term) x)) is-term
+      ∙ part-part (beAt 4 term (blockAt 5 k term)) (blockAt 5 k term) (beAt 4 s at) at s
+      (omega (arith, walks k (omega arith), length-term))))
+
+  pub list-lies : Lying s list (at + (length term - length rest)) (at + (length term - length rest) + length list)
+  list-lies =
+      let from : ℕ = at + (length term - length rest) in
+      let n : from + length list - from ≡ length list = omega arith in
+      record {
+        starts = omega arith;
+        ends = omega (arith, from-is, length-list, length-term, walks k (omega arith), held);
+        bytes = rw (n, from-is) list-bytes;
+      }
 
 -- each of a question's words is on the card
 pub word-below : (T : ℕ) (ts : List ℕ) → wordsGood T ts ≡ true → (i : ℕ) → i < length ts → getD ts i 0 < T

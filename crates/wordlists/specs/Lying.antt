@@ -1,6 +1,5 @@
 -- Where the lists of words lie in a card.
 --
---   TermThere s at      a term of the card s starts at byte `at`
 --   listOf s t k        the block of list number k of word t of the card s: pages, counts, positions
 --   Lying s b from to   the bytes b are those of s from byte `from` up to byte `to`
 --   ListLying s at k from to  so is the block of list number k of the word whose term starts at byte `at`
@@ -13,10 +12,6 @@ use Rattle.rules.specs.Parts.{part}
 use Rattle.rules.specs.ReadTerm.{listsOf}
 use Rattle.rules.specs.Index.{termPart}
 use Rattle.findterm.specs.Starts.{Starts}
-
-pub record TermThere (s : List ℕ) (at : ℕ) : Type 0 where
-  pub number : ℕ
-  pub starts : Starts s number at
 
 unfoldable pub listOf : List ℕ → ℕ → ℕ → List ℕ
 listOf s t k = part k (listsOf (termPart t s))

@@ -8,22 +8,30 @@ ghost use Rattle.rules.specs.declared.Refusal.the-variants.{Accepted};
 ghost use Rattle.rules.specs.Index.{indexT, indexRefusal};
 ghost use Rattle.rules.specs.Common.{leadOf};
 ghost use Rattle.rules.specs.Questions.{listsIn};
-ghost use Rattle.findterm.specs.Starts.{Found};
+ghost use Rattle.findterm.specs.Starts.{TermThere, Found};
 ghost use Rattle.questions.specs.Formed.{wordsGood};
-ghost use Rattle.wordlists.specs.Lying.{TermThere, ListLying, AllLying};
+ghost use Rattle.wordlists.specs.Lying.{ListLying, AllLying};
 ghost use Rattle.wordlists.specs.Opened.{OpenedPages};
-use parts::Place;
+
+// The byte of a card at which a part starts, and that at which it has ended: what is kept of several parts, of which
+// there is no array.
+pub struct Place {
+    pub from: usize,
+    pub to: usize,
+}
 
 // The place of list number k of the word whose term starts at byte `at`: pages, counts, positions.
 pub fn list_in(card: &[u8], at: usize, k: usize) -> Place
     requires { ⌜ (indexRefusal (now card) ≡ Accepted) × TermThere (now card) at × (k < 3) ⌝ }
     ensures { λ r. ⌜ ListLying (now (card .entry)) at k (r .from) (r .to) ⌝ }
 {
-    let to = at + bits::read_u32(card, at) as usize;
-    let list = findterm::list_place(&card[at..to], k);
+    let term = findterm::term_at(card, at);
+    let rest = findterm::lists_from(term, k);
+    let list = parts::part_at(rest, 0);
+    let from = at + (term.len() - rest.len());
     Place {
-        from: at + list.from,
-        to: at + list.to,
+        from,
+        to: from + list.len(),
     }
 }
 

@@ -12,7 +12,8 @@ use Rattle.rules.specs.Index.{indexN, indexT, termsRefusal, indexRefusal}
 use Rattle.laws.proofs.RefusalLaws.{told-stop, told-passed, andThen-next}
 use Rattle.laws.proofs.HeadLaws.{head-passed}
 use Rattle.parts.specs.Places.{headRefusal}
-use Rattle.checkindex.proofs.TermsLaws.{limited, over-N, over-T, within-limits, index-then, part-behind}
+use Rattle.parts.proofs.PlaceLaws.{part-behind}
+use Rattle.checkindex.proofs.TermsLaws.{limited, over-N, over-T, within-limits, index-then}
 use Rattle.checkindex.proofs.check_index.Statement.{statement}
 use Rattle.checkindex.proofs.check_index.Tie as tie
 

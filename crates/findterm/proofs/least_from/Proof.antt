@@ -20,7 +20,12 @@ abbrev μ-loop : tie.MeasureT-loop
 loop-holds : tie.Need-loop-holds Inv-loop μ-loop
 loop-holds c = (
   omega arith,
-  record { onward = c .pre; least = λ i h. absurd (omega arith); among = λ h. absurd (omega arith) },
+  record {
+    onward = c .pre;
+    within = omega arith;
+    least = λ i h. absurd (omega arith);
+    among = λ h. absurd (omega arith);
+  },
 )
 
 cast-term : tie.Need-cast-term Inv-loop μ-loop

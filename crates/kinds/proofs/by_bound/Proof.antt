@@ -1,49 +1,75 @@
 -- `by_bound` finds the next page of the word's list alone.
-use mathlib.Core.Path.{_≡_}
+use mathlib.Core.Path.{_≡_, refl}
 use Prim.Native.Nat.{_-_}
 use native.Mathlib.Omega.{arith}
+use borrow.Author.Needs.{needs}
+use Rattle.rules.specs.ReadList.{decode}
+use Rattle.rules.specs.Questions.{pagesIn}
 use Rattle.seek.specs.Cursors.{spentMark}
 use Rattle.query.specs.Queries.{newQuery, Turned}
 use Rattle.query.proofs.NewLaws.{new-running}
+use Rattle.kinds.proofs.KindLaws.{pages-are, pages-accepted}
 use Rattle.kinds.proofs.RankLaws.{Ranked, turned-ranked}
 use Rattle.kinds.proofs.BoundLaws.{bound-none, bound-marked, bound-some}
-use borrow.Author.Needs.{needs}
 use Rattle.kinds.proofs.by_bound.Statement.{statement}
 use Rattle.kinds.proofs.by_bound.Tie as tie
+
+open-alone-requires : tie.Need-open-alone-requires
+open-alone-requires c κs =
+    let p = c .before in
+    let b = p .before .before .before in (
+      rw (p .pages-in .ensures) (pages-accepted (b .args .card .now) (b .args .t) (b .pre .0) (b .pre .1)),
+      refl,
+    )
 
 next-common-requires : tie.Need-next-common-requires
 next-common-requires c κs =
     let o = c .before .before .before in
-    let b = o .before .before .before .before in
-    rw (c .new .ensures) (new-running (b .args .card .now) (o .open-alone .last .1 .1 .0) 1 (o .open-alone .ensures .lists) (b .args .bound))
+    let b = o .before .before .before .before .before in
+    rw (c .new .ensures) (new-running (o .before .before .pages-in .result .now) (o .open-alone .last .1 .0) 1
+    (o .open-alone .ensures .lists) (b .args .bound))
 
 -- the next page of the one list
-next : (c : tie.After-next-common)
-    → Turned (c .before .before .before .before .before .before .before .before .args .card .now)
-    (c .before .before .before .before .open-alone .last .1 .1 .0) 1 newQuery
-    (c .before .before .before .before .before .before .before .before .args .bound) (c .next-common .result)
+next : (c : tie.After-next-common) →
+    let o = c .before .before .before .before in
+    Turned (o .before .before .pages-in .result .now) (o .open-alone .last .1 .0) 1 newQuery
+    (o .before .before .before .before .before .args .bound) (c .next-common .result)
 next c = rw (c .before .new .ensures) at (c .next-common .ensures)
 
+-- it is the word's
+word-pages : (c : tie.After-next-common) →
+    let p = c .before .before .before .before .before .before in
+    let a = p .before .before .before .args in
+    pagesIn (a .card .now) (a .t) ≡ decode (p .pages-in .result .now)
+word-pages c =
+    let p = c .before .before .before .before .before .before in
+    let a = p .before .before .before .args in
+    rw (p .pages-in .ensures) (pages-are (a .card .now) (a .t))
+
 -- where there is one, the cursor tells its rank
-on-page : (c : tie.After-next-common) → (c .next-common .result .mark ≡ spentMark → ⊥)
-    → Ranked (c .before .before .before .before .before .before .before .before .args .card .now)
-    (c .before .before .before .before .open-alone .last .1 .1 .0) (c .next-common .result .q) 0
+on-page : (c : tie.After-next-common) → (c .next-common .result .mark ≡ spentMark → ⊥) →
+    let o = c .before .before .before .before in
+    Ranked (o .before .before .pages-in .result .now) (o .open-alone .last .1 .0) (c .next-common .result .q) 0
     (c .next-common .result .mark - 1)
 on-page c m =
     let o = c .before .before .before .before in
-    let a = o .before .before .before .before .args in
-    let r = o .open-alone .last .1 .1 .0 in
-    turned-ranked (a .card .now) r 1 newQuery (a .bound)
-    (new-running (a .card .now) r 1 (o .open-alone .ensures .lists) (a .bound) .apt) (c .next-common .result)
-    (next c) m 0 (omega arith)
+    let s = o .before .before .pages-in .result .now in
+    let a = o .before .before .before .before .before .args in
+    let r = o .open-alone .last .1 .0 in
+    turned-ranked s r 1 newQuery (a .bound) (new-running s r 1 (o .open-alone .ensures .lists) (a .bound) .apt)
+    (c .next-common .result) (next c) m 0 (omega arith)
 
 returns : tie.Need-returns
 returns c =
     let n = c .before .before .before .before .before .before .before in
     let o = n .before .before .before .before in
-    let a = o .before .before .before .before .args in
-    rw (bound-none (a .card .now) (a .t) (o .open-alone .last .1 .1 .0) (o .open-alone .ensures) (a .bound)
-    (n .next-common .result) (next n) (c .before .before .before .before .before .if1 .taken))
+    let a = o .before .before .before .before .before .args in
+    rw (
+      word-pages n,
+      bound-none (o .before .before .pages-in .result .now) (o .open-alone .last .1 .0)
+          (o .open-alone .ensures) (a .bound) (n .next-common .result) (next n)
+          (c .before .before .before .before .before .if1 .taken),
+    )
     (c .before .before .put .ensures)
 
 rank-in-requires : tie.Need-rank-in-requires
@@ -53,35 +79,34 @@ rank-in-requires c κs =
       o .open-alone .ensures .lists .each 0 (omega arith) .room,
       omega arith,
       next n .eight,
-      on-page n
-          (c .before .if1 .left) .on-element,
+      on-page n (c .before .if1 .left) .on-element,
     )
 
-sub-t24 : tie.Need-sub-t24
-sub-t24 c =
+sub-t25 : tie.Need-sub-t25
+sub-t25 c =
     let n = c .before .before .before .before .before in
     let o = n .before .before .before .before in
-    let a = o .before .before .before .before .args in
-    bound-marked (a .card .now) (a .t) (o .open-alone .last .1 .1 .0) (o .open-alone .ensures) (a .bound)
-    (n .next-common .result) (next n) (c .before .before .before .if1 .left)
+    let a = o .before .before .before .before .before .args in
+    bound-marked (o .before .before .pages-in .result .now) (o .open-alone .last .1 .0) (o .open-alone .ensures)
+    (a .bound) (n .next-common .result) (next n) (c .before .before .before .if1 .left)
 
-cast-t25 : tie.Need-cast-t25
-cast-t25 c =
+cast-t26 : tie.Need-cast-t26
+cast-t26 c =
     omega (
       arith,
       c .before .rank-in .ensures,
-      on-page (c .before .before .before .before .before)
-          (c .before .before .before .if1 .left) .small,
+      on-page (c .before .before .before .before .before) (c .before .before .before .if1 .left) .small,
     )
 
 returns-2 : tie.Need-returns-2
 returns-2 c =
     let n = c .before .before .before .before .before .before .before .before .before .before in
     let o = n .before .before .before .before in
-    let a = o .before .before .before .before .args in
+    let a = o .before .before .before .before .before .args in
     rw (
-      bound-some (a .card .now) (a .t) (o .open-alone .last .1 .1 .0) (o .open-alone .ensures) (a .bound)
-          (n .next-common .result) (next n)
+      word-pages n,
+      bound-some (o .before .before .pages-in .result .now) (o .open-alone .last .1 .0) (o .open-alone .ensures)
+          (a .bound) (n .next-common .result) (next n)
           (c .before .before .before .before .before .before .before .before .if1 .left),
       ← (c .before .before .before .before .before .before .rank-in .ensures),
     ) (c .before .before .put2 .ensures)
@@ -90,8 +115,9 @@ pub by-bound-spec : {M : Type 1} → statement M
 by-bound-spec =
     tie.close
     (tie.spec
-    (λ c. search needs)
     (λ c κs. search needs)
+    (λ c. search needs)
+    open-alone-requires
     (λ c. search needs)
     (λ c κs. search needs)
     next-common-requires
@@ -101,8 +127,8 @@ by-bound-spec =
     returns
     (λ c. search needs)
     rank-in-requires
-    sub-t24
-    cast-t25
+    sub-t25
+    cast-t26
     (λ c. search needs)
     (λ c κs. search needs)
     (λ c. search needs)

@@ -1,45 +1,26 @@
--- `open_list` reads the shape of an accepted block, whose numbers are narrow.
-use denote.Ref.{now}
-use native.Mathlib.Omega.{arith}
+-- `open_list` reads the place, which fits 32 bits.
+use Prim.Native.Nat.{_+_, _*_}
 use borrow.Author.Needs.{needs}
-use Rattle.openlists.specs.Places.{shapeAt}
-use Rattle.openlists.proofs.SlotLaws.{Narrow, open-narrow}
+use Rattle.openlists.specs.Places.{placePart, shapeAt}
 use Rattle.openlists.proofs.open_list.Statement.{statement}
 use Rattle.openlists.proofs.open_list.Tie as tie
-use Rattle.openlists.proofs.open_list.Reads as reads
-use Rattle.openlists.proofs.open_list.Lts as lts
-use Rattle.openlists.proofs.part_of.Reads as part-of-reads
-use Rattle.readlist.proofs.shape_at.Reads as shape-at-reads
 
--- where the shape is known
-abbrev Shaped : Type 0
-Shaped =
-    lts.After-shape-at (part-of-reads.Asked, part-of-reads.Learnt, shape-at-reads.Asked, shape-at-reads.Learnt)
-    reads.Pre reads.Post
-
-fits : (c : Shaped) → Narrow (c .shape-at .result)
-fits c =
-    let start = c .before .before .before .before in
-    open-narrow (now (c .before .part-of .result)) (c .shape-at .result) (record {
-      accepted = rw (c .before .part-of .ensures) (start .pre .1 .accepted);
-      shape = c .shape-at .ensures;
-    })
-
-shape-at-requires : tie.Need-shape-at-requires
-shape-at-requires c κs = rw (c .part-of .ensures) (c .before .before .before .pre .1 .accepted)
+numbers-at-requires : tie.Need-numbers-at-requires
+unfolding placePart
+numbers-at-requires c κs =
+    let b = c .before .before .before .before in
+    let p = b .pre .1 in
+    let short = c .shared-slice-known4 .given (2 * b .args .i + 1) .fits in
+    (record { starts = p .starts; ends = p .ends; short = short }, p .accepted)
 
 returns : tie.Need-returns
-unfolding shapeAt
-returns c =
-    let d = c .before .before .before .before .before .before .before .before in
-    rw (d .shape-at .ensures, d .before .part-of .ensures)
+unfolding placePart shapeAt
+returns c = c .numbers-at .ensures
 
 pub open-list-spec : {M : Type 1} → statement M
 open-list-spec =
     tie.close
     (tie.spec
-    (λ c κs. search needs)
-    shape-at-requires
     (λ c. search needs)
     (λ c. search needs)
     (λ c. search needs)
@@ -47,10 +28,7 @@ open-list-spec =
     (λ c. search needs)
     (λ c. search needs)
     (λ c. search needs)
-    (λ c. let n = fits (c .before .before .before) in omega arith)
-    (λ c. let n = fits (c .before .before .before .before) in omega arith)
-    (λ c. let n = fits (c .before .before .before .before .before) in omega arith)
-    (λ c. let n = fits (c .before .before .before .before .before .before) in omega arith)
-    (λ c. let n = fits (c .before .before .before .before .before .before .before) in omega arith)
-    (λ c. let n = fits (c .before .before .before .before .before .before .before .before) in omega arith)
+    (λ c. search needs)
+    (λ c. search needs)
+    numbers-at-requires
     returns)

@@ -8,15 +8,17 @@ use Rattle.rules.specs.declared.Refusal.the-variants.{Accepted}
 use Rattle.rules.specs.ReadList.{listRefusal}
 use Rattle.rules.specs.Index.{indexT}
 use Rattle.questions.proofs.GoodLaws.{words-parts}
+use Rattle.openlists.specs.Places.{Within}
 use Rattle.wordlists.specs.Lying.{listOf, Lying}
 use Rattle.wordlists.proofs.LyingLaws.{card-short, word-below}
-use Rattle.openwords.specs.Slots.{Within, Filled}
+use Rattle.openwords.specs.Slots.{Filled}
 use Rattle.openwords.proofs.SlotLaws.{list-accepted, filled-more}
 use Rattle.openwords.proofs.open_words.Statement.{statement}
 use Rattle.openwords.proofs.open_words.Tie as tie
 
 abbrev Inv-loop : tie.InvT-loop
-Inv-loop card terms starts k shapes₀ i₀ shapes i = (i ≤ length terms) × (length terms ≤ 8) × Filled card terms k i shapes
+Inv-loop card terms starts k shapes₀ i₀ shapes i =
+    (i ≤ length terms) × (length terms ≤ 8) × Filled card terms k i shapes
 
 abbrev μ-loop : tie.MeasureT-loop
 μ-loop card terms starts k shapes₀ i₀ shapes i = length terms - i
@@ -56,20 +58,27 @@ lies c =
 
 -- the place of a word's list lies in the card, whose bytes are fewer than 2 ^ 32
 within : (c : tie.After-list-in Inv-loop μ-loop)
-    → Within (c .before .before .before .before .before .before .before .before .args .card .now) (c .list-in .result .from)
-    (c .list-in .result .to)
+    → Within (c .before .before .before .before .before .before .before .before .args .card .now)
+    (c .list-in .result .from) (c .list-in .result .to)
 within c =
     let b = c .before .before .before .before .before .before .before in record {
       starts = lies c .starts;
       ends = lies c .ends;
-      short = card-short (b .before .args .card .now) (λ i. b .shared-slice-known .given i .fits) (b .before .pre .0);
+      short =
+          omega (
+            arith,
+            lies c .ends,
+            card-short (b .before .args .card .now)
+                (λ i. b .shared-slice-known .given i .fits) (b .before .pre .0),
+          );
     }
 
 -- and the list is accepted
 accepted : (c : tie.After-list-in Inv-loop μ-loop)
     → listRefusal (listOf (c .before .before .before .before .before .before .before .before .args .card .now)
     (getD (c .before .before .before .before .before .before .before .before .args .terms .now)
-    (c .before .before .before .loop .i) 0) (c .before .before .before .before .before .before .before .before .args .k))
+    (c .before .before .before .loop .i) 0)
+    (c .before .before .before .before .before .before .before .before .args .k))
     ≡ Accepted
 accepted c =
     let b = c .before .before .before .before .before .before .before .before in

@@ -1,109 +1,22 @@
--- `block_start` walks: `rest` are the bytes from block number i on, and each block up to number k lies within the bytes.
-use mathlib.Core.Path.{_≡_, sym, ap, _∙_}
-use mathlib.Core.List.{List}
-use Prim.Native.Nat.{ℕ, _+_, _-_, _≤_}
+-- `block_start` tells how much lies before the bytes from the block on.
+use mathlib.Core.Path.{_≡_}
+use Prim.Native.Nat.{_+_}
 use native.Mathlib.Omega.{arith}
 use borrow.Author.Needs.{needs}
-use lib.ListN.{length, take, drop, length-drop}
-use lib.Seq.{take-all, drop-drop}
-use Rattle.rules.specs.Bytes.{beAt}
-use Rattle.rules.specs.ReadList.{stated}
+use lib.ListN.{length}
 use Rattle.laws.specs.Blocks.{blockAt}
-use Rattle.laws.proofs.PartLaws.{blockAt-suc, stated-drop}
-use Rattle.parts.specs.Places.{Held}
+use Rattle.parts.proofs.PlaceLaws.{after-length}
 use Rattle.parts.proofs.block_start.Statement.{statement}
 use Rattle.parts.proofs.block_start.Tie as tie
 
--- a part up to the end
-to-end : (s : List ℕ) (n : ℕ) → take (length s - n) (drop n s) ≡ drop n s
-to-end s n = take-all (length s - n) (drop n s) (rw length-drop (omega arith))
-
-abbrev Inv-loop : tie.InvT-loop
-Inv-loop s from k rest₀ i₀ rest i = (i ≤ k) × (rest ≡ drop (blockAt from i s) s)
-
-abbrev μ-loop : tie.MeasureT-loop
-μ-loop s from k rest₀ i₀ rest i = k - i
-
-sub-rest : tie.Need-sub-rest Inv-loop μ-loop
-unfolding blockAt
-sub-rest c = omega (arith, c .before .pre 0 (omega arith))
-
-part-rest-start : tie.Need-part-rest-start Inv-loop μ-loop
-unfolding blockAt
-part-rest-start c = omega (arith, c .before .pre 0 (omega arith))
-
-loop-holds : tie.Need-loop-holds Inv-loop μ-loop
-unfolding blockAt
-loop-holds c =
+before : (c : tie.After-blocks-from) →
     let a = c .before .before .args in
-    (omega arith, to-end (a .s .now) (a .from))
-
--- the block at hand, in the bytes and at the front of the rest
-here : (c : tie.At-loop Inv-loop μ-loop)
-    → let a = c .before .before .before .args in
-    let s = a .s .now in
-    let at : ℕ = blockAt (a .from) (c .loop .i) s in
-    Held at s × (length (c .loop .rest .now) ≡ length s - at) × (beAt 4 (c .loop .rest .now) 0 ≡ beAt 4 s at)
-unfolding stated
-here c =
-    let start = c .before .before .before in
-    let s = start .args .s .now in
-    let at : ℕ = blockAt (start .args .from) (c .loop .i) s in
-    let e = c .loop .inv .1 in
-    (start .pre (c .loop .i) (c .loop .inv .0), rw e (length-drop at s), rw e (stated-drop at s))
-
-read-u32-requires : tie.Need-read-u32-requires Inv-loop μ-loop
-read-u32-requires c κs = let h = here (c .before) in omega (arith, h .0, h .1)
-
-sub-rest-2 : tie.Need-sub-rest-2 Inv-loop μ-loop
-sub-rest-2 c = let h = here (c .before .before) in omega (arith, h .0, h .1, h .2, c .read-u32 .ensures .0)
-
-part-rest-start-2 : tie.Need-part-rest-start-2 Inv-loop μ-loop
-part-rest-start-2 c = let h = here (c .before .before) in omega (arith, h .0, h .1, h .2, c .read-u32 .ensures .0)
-
-loop-again : tie.Need-loop-again Inv-loop μ-loop
-loop-again c =
-    let l = c .before .before .before in
-    let a = l .before .before .before .args in
-    let s = a .s .now in
-    let at : ℕ = blockAt (a .from) (l .loop .i) s in
-    let size = c .before .read-u32 in
-    let e : at + size .result ≡ blockAt (a .from) (l .loop .i + 1) s =
-    ap (λ (n : ℕ). at + n) (size .ensures .0 ∙ here l .2) ∙ sym (blockAt-suc (a .from) s (l .loop .i)) in (
-      omega arith,
-      to-end (l .loop .rest .now) (size .result) ∙ rw (l .loop .inv .1) (drop-drop (size .result) at s)
-          ∙ ap (λ (n : ℕ). drop n s) e,
-    )
-
-sub-result : tie.Need-sub-result Inv-loop μ-loop
-sub-result c = let h = here (c .before) in omega (arith, h .1)
-
-returns : tie.Need-returns Inv-loop μ-loop
-returns c =
-    let l = c .before in
-    let a = l .before .before .before .args in
-    let s = a .s .now in
-    let e : l .loop .i ≡ a .k = omega arith in
-    let h = here l in
-    let r : length s - length (l .loop .rest .now) ≡ blockAt (a .from) (l .loop .i) s = omega (arith, h .0, h .1) in
-    rw e at r
+    blockAt (a .from) (a .k) (a .s .now) + length (c .blocks-from .result .now) ≡ length (a .s .now)
+before c =
+    let b = c .before .before in
+    rw (c .blocks-from .ensures) (after-length (b .args .from) (b .args .k) (b .args .s .now) (b .pre))
 
 pub block-start-spec : {M : Type 1} → statement M
 block-start-spec =
     tie.close
-    (tie.spec
-    Inv-loop
-    μ-loop
-    sub-rest
-    part-rest-start
-    (λ c. search needs)
-    loop-holds
-    read-u32-requires
-    sub-rest-2
-    part-rest-start-2
-    (λ c. search needs)
-    (λ c. search needs)
-    (λ c. search needs)
-    loop-again
-    sub-result
-    returns)
+    (tie.spec (λ c κs. search needs) (λ c. omega (arith, before c)) (λ c. omega (arith, before c)))

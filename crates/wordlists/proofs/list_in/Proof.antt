@@ -1,74 +1,90 @@
--- `list_in` finds the list in the term that starts at its byte.
-use mathlib.Core.Path.{_≡_}
-use Prim.Native.Nat.{_+_, _-_, _≤_}
+-- `list_in` takes the term as a part of the card, and the list as a part of the term.
+use mathlib.Core.Path.{_≡_, sym, ap, _∙_}
+use mathlib.Core.List.{List}
+use Prim.Native.Nat.{ℕ, _+_, _-_, _≤_}
 use native.Mathlib.Omega.{arith}
-use lib.ListN.{length}
-use Rattle.rules.specs.Bytes.{beAt}
-use Rattle.rules.specs.Index.{termPart}
-use Rattle.cardlaws.proofs.Theorems.{accepted-term}
-use Rattle.parts.specs.Places.{Held}
-use Rattle.parts.proofs.PlaceLaws.{placed-part}
-use Rattle.findterm.proofs.FindLaws.{start-held, start-placed}
-use Rattle.wordlists.specs.Lying.{ListLying}
-use Rattle.wordlists.proofs.LyingLaws.{list-lying}
 use borrow.Author.Needs.{needs}
+use lib.ListN.{length}
+use Rattle.rules.specs.declared.Refusal.the-variants.{Accepted}
+use Rattle.rules.specs.Parts.{part}
+use Rattle.rules.specs.ReadTerm.{listsOf, termRefusal}
+use Rattle.cardlaws.proofs.Theorems.{accepted-term}
+use Rattle.parts.specs.Places.{Walkable}
+use Rattle.parts.proofs.PlaceLaws.{after-held, part-front}
+use Rattle.findterm.proofs.FindLaws.{term-walks, start-held, start-part}
+use Rattle.wordlists.specs.Lying.{listOf, Lying}
+use Rattle.wordlists.proofs.LyingLaws.{rest-within, list-lies}
 use Rattle.wordlists.proofs.list_in.Statement.{statement}
 use Rattle.wordlists.proofs.list_in.Tie as tie
 
--- the term lies within the card
-held : (c : tie.After-shared-slice-known) → Held (c .before .args .at) (c .before .args .card .now)
-held c =
-    let b = c .before in
-    start-held (b .args .card .now) (b .pre .1 .number) (b .args .at) (b .pre .0) (b .pre .1 .starts)
-
--- it has as many bytes as it states
-size : (c : tie.After-read-u32)
-    → c .before .before .args .at + c .read-u32 .result - c .before .before .args .at
-    ≡ c .before .before .args .at + beAt 4 (c .before .before .args .card .now) (c .before .before .args .at)
-    - c .before .before .args .at
-size c = rw (c .read-u32 .ensures .0)
-
-list-place-requires : tie.Need-list-place-requires
-list-place-requires c κs =
-    let b = c .before .before .before in
-    let s = b .args .card .now in
+-- the term is an accepted one, whose lists can be walked
+accepted : (c : tie.After-term-at) → termRefusal (c .term-at .result .now) ≡ Accepted
+accepted c =
+    let b = c .before .before in
     let t = b .pre .1 .number in
-    let o = b .pre .1 .starts in (
-      rw (size (c .before), placed-part 11 t s _ (start-placed s t (b .args .at) (b .pre .0) o))
-          (unfold termPart in (accepted-term s (b .pre .0) t (o .below) .accepts)),
-      b .pre .2,
+    let o = b .pre .1 .starts in
+    rw (c .term-at .ensures t o) (accepted-term (b .args .card .now) (b .pre .0) t (o .below) .accepts)
+
+walks : (c : tie.After-term-at) → Walkable 5 (c .before .before .args .k) (c .term-at .result .now)
+walks c =
+    let b = c .before .before in
+    term-walks (c .term-at .result .now) (accepted c) (b .args .k) (b .pre .2)
+
+part-at-requires : tie.Need-part-at-requires
+unfolding listsOf
+part-at-requires c κs =
+    let t = c .before in
+    rw (c .lists-from .ensures) (after-held 5 (t .before .before .args .k) (t .term-at .result .now) (walks t))
+
+is-list : (c : tie.After-part-at) →
+    let t = c .before .before in
+    c .part-at .result .now ≡ part (t .before .before .args .k) (listsOf (t .term-at .result .now))
+is-list c =
+    let t = c .before .before in
+    rw (c .before .lists-from .ensures) at (c .part-at .ensures)
+    ∙ part-front (t .before .before .args .k) (listsOf (t .term-at .result .now))
+
+-- what is left of the term lies in it, and its list in the card
+within : (c : tie.After-part-at) →
+    let t = c .before .before in
+    let b = t .before .before in
+    let from = b .args .at + (length (t .term-at .result .now) - length (c .before .lists-from .result .now)) in
+    (length (c .before .lists-from .result .now) ≤ length (t .term-at .result .now))
+    × Lying (b .args .card .now) (c .part-at .result .now) from (from + length (c .part-at .result .now))
+within c =
+    let t = c .before .before in
+    let b = t .before .before in
+    let s = b .args .card .now in
+    let n = b .pre .1 .number in
+    let o = b .pre .1 .starts in
+    let held = start-held s n (b .args .at) (b .pre .0) o in
+    let is-term = t .term-at .ensures n o ∙ sym (start-part s (b .args .at) n o) in
+    let e = is-list c in
+    let w = walks t in (
+      omega (
+        arith,
+        rest-within s (b .args .at) (b .args .k) (t .term-at .result .now) (c .before .lists-from .result .now)
+            (c .part-at .result .now) held is-term w (c .before .lists-from .ensures) e,
+      ),
+      list-lies s (b .args .at) (b .args .k) (t .term-at .result .now) (c .before .lists-from .result .now)
+          (c .part-at .result .now) held is-term w (c .before .lists-from .ensures) e,
     )
 
-lies : (c : tie.After-list-place)
-    → ListLying (c .before .before .before .before .args .card .now) (c .before .before .before .before .args .at)
-    (c .before .before .before .before .args .k)
-    (c .before .before .before .before .args .at + c .list-place .result .from)
-    (c .before .before .before .before .args .at + c .list-place .result .to)
-lies c t o =
-    let b = c .before .before .before .before in
-    let s = b .args .card .now in
-    list-lying s t (b .args .k) (record { from = b .args .at; to = b .args .at + beAt 4 s (b .args .at) })
-    (c .list-place .result) _ (start-placed s t (b .args .at) (b .pre .0) o) (rw (size (c .before .before)))
-    (c .list-place .ensures)
-
--- its list too
-list-within : (c : tie.After-list-place)
-    → c .before .before .before .before .args .at + c .list-place .result .to
-    ≤ length (c .before .before .before .before .args .card .now)
-list-within c =
-    let p = c .before .before .before .before .pre .1 in
-    lies c (p .number) (p .starts) .ends
+returns : tie.Need-returns
+unfolding listOf
+returns c t o =
+    let a = c .before .before .before .before .args in
+    let e = is-list c ∙ ap (λ (b : List ℕ). part (a .k) (listsOf b)) (c .before .before .term-at .ensures t o) in
+    rw (← e) (within c .1)
 
 pub list-in-spec : {M : Type 1} → statement M
 list-in-spec =
     tie.close
     (tie.spec
-    (λ c κs. omega (arith, held c))
-    (λ c. omega (arith, held (c .before), c .read-u32 .ensures .0))
-    (λ c. search needs)
-    (λ c. search needs)
-    (λ c. omega (arith, held (c .before), c .read-u32 .ensures .0))
-    list-place-requires
-    (λ c. omega (arith, list-within (c .before), c .before .list-place .ensures .ends))
-    (λ c. omega (arith, list-within (c .before .before)))
-    (λ c. lies (c .before .before)))
+    (λ c κs. search needs)
+    (λ c κs. (accepted c, c .before .before .pre .2))
+    part-at-requires
+    (λ c. within c .0)
+    (λ c. omega (arith, within c .1 .ends))
+    (λ c. omega (arith, within c .1 .ends))
+    returns)

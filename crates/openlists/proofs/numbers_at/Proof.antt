@@ -1,9 +1,9 @@
 -- `numbers_at` reads the shape of an accepted block, whose numbers are narrow.
 use native.Mathlib.Omega.{arith}
 use borrow.Author.Needs.{needs}
 use Rattle.openlists.proofs.SlotLaws.{Narrow, open-narrow}
-use Rattle.openwords.proofs.numbers_at.Statement.{statement}
-use Rattle.openwords.proofs.numbers_at.Tie as tie
+use Rattle.openlists.proofs.numbers_at.Statement.{statement}
+use Rattle.openlists.proofs.numbers_at.Tie as tie
 
 fits : (c : tie.After-shape-at) → Narrow (c .shape-at .result)
 fits c =
