@@ -1,4 +1,5 @@
 -- `find_term` walks: the terms of an accepted index can be walked.
+use native.Mathlib.Omega.{arith}
 use Rattle.rules.specs.Index.{termPart}
 use Rattle.findterm.proofs.FindLaws.{index-walks}
 use Rattle.findterm.proofs.find_term.Statement.{statement}
@@ -8,7 +9,7 @@ block-of-requires : tie.Need-block-of-requires
 block-of-requires c κs =
     let a = c .before .args in
     let p = c .before .pre in
-    index-walks (a .card .now) (p .0) (a .t) (p .1)
+    index-walks (a .card .now) (p .0) (a .t) (omega (arith, p .1))
 
 returns : tie.Need-returns
 unfolding termPart

@@ -1,4 +1,5 @@
 -- `lists_from` walks: the lists of an accepted term can be walked.
+use native.Mathlib.Omega.{arith}
 use Rattle.rules.specs.ReadTerm.{listsOf}
 use Rattle.findterm.proofs.FindLaws.{term-walks}
 use Rattle.findterm.proofs.lists_from.Statement.{statement}
@@ -8,7 +9,7 @@ blocks-from-requires : tie.Need-blocks-from-requires
 blocks-from-requires c κs =
     let a = c .before .args in
     let p = c .before .pre in
-    term-walks (a .term .now) (p .0) (a .k) (p .1)
+    term-walks (a .term .now) (p .0) (a .k) (omega (arith, p .1))
 
 returns : tie.Need-returns
 unfolding listsOf
