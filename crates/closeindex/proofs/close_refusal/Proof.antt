@@ -2,6 +2,7 @@
 use mathlib.Core.Path.{_≡_, sym, ap, _∙_}
 use mathlib.Core.List.{List}
 use Prim.Native.Nat.{ℕ}
+use native.Mathlib.Omega.{arith}
 use borrow.Author.Needs.{needs}
 use lib.ListN.{take, drop}
 use Rattle.rules.specs.declared.Refusal.{Refusal}
@@ -28,7 +29,7 @@ returns-3 c =
     let h = c .before in
     let f = h .before in
     let a = f .before .before .args in
-    sym (close-long (a .buffer .now) (a .used) (a .n) (a .t) (f .if1 .left) (h .if2 .left) (c .if3 .taken))
+    sym (close-long (a .buffer .now) (a .used) (a .n) (a .t) (f .if1 .left) (h .if2 .left) (omega arith))
 
 -- the refusal of the terms
 abbrev inner : List ℕ → ℕ → ℕ → ℕ → Refusal
@@ -56,7 +57,7 @@ returns-5 c =
     let l = m .before in
     let a = l .before .before .before .before .args in
     sym (behind-length l
-    ∙ over-T (a .n) (a .t) (inner (a .buffer .now) (a .used) (a .n) (a .t)) (m .if4 .left) (c .if5 .taken))
+    ∙ over-T (a .n) (a .t) (inner (a .buffer .now) (a .used) (a .n) (a .t)) (m .if4 .left) (omega arith))
 
 returns-6 : tie.Need-returns-6
 returns-6 c =

@@ -1,6 +1,5 @@
 -- `put_number` calls itself for all digits but the last. The measure is the number.
-use mathlib.Core.Path.{_∙_}
-use Prim.Native.Nat.{ℕ, _+_, _%_, _<_}
+use Prim.Native.Nat.{ℕ, _+_, _<_}
 use native.Mathlib.Omega.{arith}
 use lib.ListN.{length-set}
 use borrow.Fn.Kinds.{In}
@@ -57,10 +56,7 @@ add-result-2 t c =
     omega (arith, tens-length (s .args .n) (omega arith) (omega arith))
 
 same-length-2 : (t : ℕ) → lts.Need-same-length-2 (below t, reads.Post) (started t) reads.Post
-same-length-2 t c =
-    let k = c .before .before in
-    let s = k .before .before .before .before in
-    length-set (k .put-number .last .0) (k .put-number .result) (48 + s .args .n % 10) ∙ put-length (k .put-number .ensures)
+same-length-2 t c = rw length-set (put-length (c .before .before .put-number .ensures))
 
 returns-2 : (t : ℕ) → lts.Need-returns-2 (below t, reads.Post) (started t) reads.Post
 returns-2 t c =
