@@ -22,13 +22,9 @@ READS = {
     "bits::read_u32": Read(["s[at]", "s[at + 1]", "s[at + 2]", "s[at + 3]"], "the bytes of a number"),
     "bits::read_u64": Read(["read_u32(s, at)", "read_u32(s, at + 4)"], "the halves of a number"),
     "bits::run_word": Read(["read_u64(s, at + 8 * k)"], "the word that is asked for"),
-    "wordlists::list_in": Read(
-        ["bits::read_u32(card, at)"], "the length of a term",
-        "⌜ (indexRefusal (now card) ≡ Accepted) × TermThere (now card) at × (k < 3) ⌝"),
-    "parts::block_start": Read(
+    "parts::blocks_from": Read(
         ["bits::read_u32(rest, 0)"], "the lengths of the blocks before one", "⌜ Walkable from k (now s) ⌝"),
-    "parts::block_place": Read(
-        ["bits::read_u32(s, block_start(s, from, k))"], "the length of a block", "⌜ Walkable from k (now s) ⌝"),
+    "parts::part_at": Read(["bits::read_u32(s, at)"], "the length of a block", "⌜ Held at (now s) ⌝"),
     "openlists::length_of": Read(
         ["bits::read_u32(part_of(card, places, i), 9)"], "n in a list's header",
         "⌜ (i < 8) × PlaceOk (now card) (now places) i ⌝"),

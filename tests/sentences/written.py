@@ -53,7 +53,7 @@ pub fn by_common(card: &[u8], terms: &[u32], room: &mut [u32]) -> usize {
 """
 # the one loop besides the seek's in which kind 3 reads bytes: from block to block, by their lengths
 WALK = """
-pub fn block_start(s: &[u8], from: usize, k: usize) -> usize {
+pub fn blocks_from(s: &[u8], from: usize, k: usize) -> &[u8] {
     let mut rest = &s[from..];
     let mut i = 0;
     while i < k {
@@ -61,7 +61,7 @@ pub fn block_start(s: &[u8], from: usize, k: usize) -> usize {
         rest = &rest[size..];
         i += 1;
     }
-    s.len() - rest.len()
+    rest
 }
 """
 WRITTEN = {f.path: f for crate, text in [("seek", LOOK), ("query", SUMS), ("bycommon", TOLD), ("parts", WALK)]
