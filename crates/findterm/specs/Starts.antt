@@ -5,7 +5,7 @@
 --   TermAt s at b       the bytes b are the part of s that is the term which starts at byte `at`
 --   Below s ts          each of the terms ts is a term of s
 --   Found s ts ps       each of the terms ts starts at its number of ps
---   LeastOf ts n t r    r is the least at or above t of the first n terms of ts, or 2 ^ 32 where there is none
+--   LeastOf ts n t r    r is the least at or above t of the first n terms of ts, or 2 ^ 32 where none is below that
 --   LeastFrom ts t r    so it is of all of ts
 --   PutOf ts n t at ps after  `after` is ps with `at` as the number of each of the first n terms of ts that is t
 --   Put ts t at ps after  so it is of all of ts

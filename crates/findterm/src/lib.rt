@@ -56,7 +56,8 @@ fn put_start(terms: &[u32], t: usize, at: usize, starts: &mut [usize])
     }
 }
 
-// Puts the bytes at which the terms start, found in rising order on one way over the lengths.
+// Puts the bytes at which the terms start, found in rising order on one way over the lengths: each step hands back what
+// is left of the card from the next of them on.
 pub fn find_terms(card: &[u8], terms: &[u32], starts: &mut [usize])
     requires { ⌜ (indexRefusal (now card) ≡ Accepted) × Below (now card) (now terms)
         × (length (now terms) ≤ length (now starts)) ⌝ }
@@ -74,7 +75,7 @@ pub fn find_terms(card: &[u8], terms: &[u32], starts: &mut [usize])
     }
 }
 
-// The term that starts at byte `at`.
+// The term that starts at byte `at`, as the part of the card that it is.
 pub fn term_at(card: &[u8], at: usize) -> &[u8]
     requires { ⌜ (indexRefusal (now card) ≡ Accepted) × TermThere (now card) at ⌝ }
     ensures { λ r. ⌜ TermAt (now (card .entry)) at (now r) ⌝ }

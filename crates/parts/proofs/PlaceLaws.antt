@@ -1,5 +1,6 @@
--- Laws of a block's place: the part that lies there is the block, its length is tested
--- first, and it depends on where the blocks before it end and not on what they hold.
+-- Laws of a block's place: what is left from a block on has it at its front and can be walked further, the part that
+-- lies there is the block, its length is tested first, and it depends on where the blocks before it end and not on what
+-- they hold.
 use mathlib.Core.Bool.{Bool, true, false, not}
 use mathlib.Core.Path.{_≡_, refl, sym, ap, _∙_}
 use mathlib.Core.List.{List}
@@ -22,7 +23,7 @@ use Rattle.parts.specs.Places.{frontRefusal, Held, Walkable}
 
 -- ---- the bytes from a place on
 
--- as a part of them
+-- all that is behind the first n bytes, as a part
 pub part-behind : (n : ℕ) (s : List ℕ) → take (length s - n) (drop n s) ≡ drop n s
 part-behind n s = rw (← length-drop n s) (take-length (drop n s))
 
