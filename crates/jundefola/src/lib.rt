@@ -2,7 +2,7 @@
 
 ghost use mathlib.Core.Path.{_≡_};
 ghost use Rattle.rules.specs.Refusal.{number};
-ghost use Rattle.writeterm.specs.Reach.{wordOf};
+ghost use Rattle.rules.specs.Term.{lentWord};
 ghost use Rattle.jundefola.specs.Host.{HostListChecked, HostListWritten, HostTermChecked, HostTermWritten};
 ghost use Rattle.jundefola.specs.Host.{HostIndexChecked, HostIndexClosed, HostAnswered};
 use rules::Outcome;
@@ -72,7 +72,7 @@ pub extern "C" fn jf_write_term(
     positions: &[u32],
     room: &mut [u8],
 ) -> HostWritten
-    ensures { λ r. ⌜ HostTermWritten n (wordOf (now (pages .entry)) (now (counts .entry)) (now (positions .entry)))
+    ensures { λ r. ⌜ HostTermWritten n (lentWord (now (pages .entry)) (now (counts .entry)) (now (positions .entry)))
         (now (room .entry)) r (now (room .exit)) ⌝ }
 {
     written(writeterm::write_term(n, pages, counts, positions, room))

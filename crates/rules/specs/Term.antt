@@ -1,6 +1,7 @@
 -- One word of the manual and its block [01 One word of the manual, and the index].
 --
 --   Word              pages, the count of each, and the positions of all pages one after the other
+--   lentWord ps cs qs  the word that three lent lists make: pages, counts and positions
 --   total cs          the sum of the counts
 --   sums s cs         each element the sum of the counts so far, from s on, less 1
 --   next b es         the last element plus 1, or b where there is none
@@ -27,6 +28,9 @@ pub record Word : Type 0 where
   pub pages : List ℕ
   pub counts : List ℕ
   pub positions : List ℕ
+
+abbrev pub lentWord : List ℕ → List ℕ → List ℕ → Word
+lentWord ps cs qs = record { pages = ps; counts = cs; positions = qs }
 
 unfoldable pub total : List ℕ → ℕ
 total [] = 0

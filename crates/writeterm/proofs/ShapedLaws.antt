@@ -8,7 +8,7 @@ use lib.ListN.{length, length-append}
 use Rattle.rules.specs.Limits.{version}
 use Rattle.rules.specs.Bytes.{be, sized}
 use Rattle.rules.specs.List.{rising, block}
-use Rattle.rules.specs.Term.{Word, total, sums, next, placed, places, termBlock}
+use Rattle.rules.specs.Term.{Word, lentWord, total, sums, next, placed, places, termBlock}
 use Rattle.laws.proofs.ByteLaws.{length-be}
 use Rattle.listlaws.proofs.BlockLaws.{block-size}
 use Rattle.listlaws.proofs.ValidLaws.{valid-parts, valid-below}
@@ -20,7 +20,6 @@ use Rattle.shape.specs.declared.Shape.{Shape}
 use Rattle.shape.specs.Shape.{shapeOf}
 use Rattle.writelist.specs.Filling.{Fitting}
 use Rattle.writelist.proofs.WriteLaws.{u-of, n-of, end-of, fitting-of}
-use Rattle.writeterm.specs.Reach.{wordOf}
 use Rattle.writeterm.specs.Lists.{Sums, Places, Shaped}
 
 -- ---- a writable word
@@ -28,11 +27,11 @@ use Rattle.writeterm.specs.Lists.{Sums, Places, Shaped}
 pub record Bounds (N : ℕ) (ps cs qs : List ℕ) : Type 0 where
   pub pages : length ps ≤ N
   pub counts : length cs ≤ length qs
-  pub positions : length qs ≤ next 0 (places (wordOf ps cs qs))
+  pub positions : length qs ≤ next 0 (places (lentWord ps cs qs))
 
-pub bounds-of : (N : ℕ) (ps cs qs : List ℕ) → Writable N (wordOf ps cs qs) → Bounds N ps cs qs
+pub bounds-of : (N : ℕ) (ps cs qs : List ℕ) → Writable N (lentWord ps cs qs) → Bounds N ps cs qs
 bounds-of N ps cs qs w =
-    let t : Word = wordOf ps cs qs in
+    let t : Word = lentWord ps cs qs in
     let e = valid-agreeing N t (w .valid) .summed in
     record {
       pages = valid-below N ps (pages-valid N t w);
@@ -45,7 +44,7 @@ bounds-of N ps cs qs w =
       );
     }
 
-pub shaped-of : (N k : ℕ) (ps cs qs : List ℕ) → Writable N (wordOf ps cs qs) → k ≡ next 0 (places (wordOf ps cs qs))
+pub shaped-of : (N k : ℕ) (ps cs qs : List ℕ) → Writable N (lentWord ps cs qs) → k ≡ next 0 (places (lentWord ps cs qs))
     → (p c q : Shape) → p ≡ shapeOf N (length ps) → c ≡ shapeOf (length qs) (length cs) → q ≡ shapeOf k (length qs)
     → Shaped p c q ps cs qs
 shaped-of N k ps cs qs w e p c q f g h =
@@ -53,7 +52,7 @@ shaped-of N k ps cs qs w e p c q f g h =
     record {
       writable = rw u w;
       pages-are = f ∙ ap (λ m. shapeOf m (length ps)) (sym u);
-      counts-are = rw (valid-agreeing N (wordOf ps cs qs) (w .valid) .summed) g;
+      counts-are = rw (valid-agreeing N (lentWord ps cs qs) (w .valid) .summed) g;
       places-are = rw (← e) h;
     }
 
@@ -65,7 +64,7 @@ headOf p c q = be 4 (5 + p .end + c .end + q .end) ++ (version ∷ [])
 
 module _ {p c q : Shape} {ps cs qs : List ℕ} (s : Shaped p c q ps cs qs) where
   abbrev t : Word
-  t = wordOf ps cs qs
+  t = lentWord ps cs qs
 
   agreeing : Agreeing (p .u) t
   agreeing = valid-agreeing (p .u) t (s .writable .valid)

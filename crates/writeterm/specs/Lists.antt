@@ -9,12 +9,11 @@ use mathlib.Core.List.{List}
 use Prim.Native.Nat.{ℕ}
 use lib.ListN.{length}
 use Rattle.rules.specs.List.{rising}
-use Rattle.rules.specs.Term.{total, next, placed, places, positive}
+use Rattle.rules.specs.Term.{lentWord, total, next, placed, places, positive}
 use Rattle.termlaws.specs.Words.{Writable}
 use Rattle.shape.specs.declared.Shape.{Shape}
 use Rattle.shape.specs.Shape.{shapeOf}
 use Rattle.writelist.specs.Filling.{Fitting}
-use Rattle.writeterm.specs.Reach.{wordOf}
 
 pub record Sums (g : Shape) (cs room : List ℕ) : Type 0 where
   pub fitting : Fitting g room
@@ -30,7 +29,7 @@ pub record Places (g : Shape) (cs ps room : List ℕ) : Type 0 where
   pub rises : rising 0 (g .u) (placed 0 cs ps) ≡ true
 
 pub record Shaped (p c q : Shape) (ps cs qs : List ℕ) : Type 0 where
-  pub writable : Writable (p .u) (wordOf ps cs qs)
+  pub writable : Writable (p .u) (lentWord ps cs qs)
   pub pages-are : p ≡ shapeOf (p .u) (length ps)
   pub counts-are : c ≡ shapeOf (total cs) (length cs)
-  pub places-are : q ≡ shapeOf (next 0 (places (wordOf ps cs qs))) (length qs)
+  pub places-are : q ≡ shapeOf (next 0 (places (lentWord ps cs qs))) (length qs)

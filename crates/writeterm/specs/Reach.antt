@@ -1,6 +1,5 @@
 -- What the tests of a word say.
 --
---   wordOf ps cs qs    the word of these pages, counts and positions
 --   summing n cs       every count is at least 1, and their sum is n
 --   capped x           x, or limit + 1 where that is less
 --   fallAt ps i        1 where element i does not rise above the one before it, else 0; the first has none before it
@@ -13,11 +12,8 @@ use Prim.Native.Nat.{ℕ, zero, suc, _+_, min}
 use lib.Dec.{leb, eqb}
 use lib.ListN.{getD}
 use Rattle.rules.specs.Limits.{limit}
-use Rattle.rules.specs.Term.{Word, total, positive}
+use Rattle.rules.specs.Term.{total, positive}
 use Rattle.writeterm.specs.declared.Reach.{Reach}
-
-abbrev pub wordOf : List ℕ → List ℕ → List ℕ → Word
-wordOf ps cs qs = record { pages = ps; counts = cs; positions = qs }
 
 unfoldable pub summing : ℕ → List ℕ → Bool
 summing n cs = positive cs && eqb (total cs) n

@@ -8,9 +8,10 @@ ghost use lib.ListN.{length, take, replicate};
 ghost use Rattle.rules.specs.Limits.{limit};
 ghost use Rattle.rules.specs.List.{block};
 ghost use Rattle.rules.specs.Write.{laid};
-ghost use Rattle.rules.specs.Term.{total, sums, next, placed, places, positive, inOrderByPage, validWord, termBlock};
+ghost use Rattle.rules.specs.Term.{lentWord, total, sums, next, placed, places, positive, inOrderByPage, validWord};
+ghost use Rattle.rules.specs.Term.{termBlock};
 ghost use Rattle.rules.specs.Promises.{TermWritten};
-ghost use Rattle.writeterm.specs.Reach.{wordOf, summing, capped, fallAt, fallsIn, Reached};
+ghost use Rattle.writeterm.specs.Reach.{summing, capped, fallAt, fallsIn, Reached};
 ghost use Rattle.writeterm.specs.Lists.{Sums, Places, Shaped};
 ghost use Rattle.writeterm.specs.Stretch.{headed, marksOf, baseAt, Marked, Bounded, Based};
 use rules::Refusal;
@@ -105,8 +106,9 @@ fn positions_rise(counts: &[u32], positions: &[u32]) -> Reach
 
 // Whether the word is one that can be written, and where the elements of its positions end.
 fn check_word(n: usize, pages: &[u32], counts: &[u32], positions: &[u32]) -> Reach
-    ensures { λ r. ⌜ Reached (validWord n (wordOf (now (pages .entry)) (now (counts .entry)) (now (positions .entry))))
-        (next 0 (places (wordOf (now (pages .entry)) (now (counts .entry)) (now (positions .entry))))) r ⌝ }
+    ensures { λ r. ⌜ Reached
+        (validWord n (lentWord (now (pages .entry)) (now (counts .entry)) (now (positions .entry))))
+        (next 0 (places (lentWord (now (pages .entry)) (now (counts .entry)) (now (positions .entry))))) r ⌝ }
 {
     if pages.len() != counts.len() {
         return Reach { ok: false, next: 0 };
@@ -241,7 +243,7 @@ fn fill_term(
     requires { ⌜ Shaped p c q (now pages) (now counts) (now positions)
         × (5 + p .end + c .end + q .end ≤ length (now room)) ⌝ }
     ensures { λ _. ⌜ now (room .exit)
-        ≡ laid (termBlock (p .u) (wordOf (now (pages .entry)) (now (counts .entry)) (now (positions .entry))))
+        ≡ laid (termBlock (p .u) (lentWord (now (pages .entry)) (now (counts .entry)) (now (positions .entry))))
         (now (room .entry)) ⌝ }
 {
     let second = 5 + p.end;
@@ -262,7 +264,7 @@ pub fn write_term(
     positions: &[u32],
     room: &mut [u8],
 ) -> Written
-    ensures { λ r. ⌜ TermWritten n (wordOf (now (pages .entry)) (now (counts .entry)) (now (positions .entry)))
+    ensures { λ r. ⌜ TermWritten n (lentWord (now (pages .entry)) (now (counts .entry)) (now (positions .entry)))
         (now (room .entry)) r (now (room .exit)) ⌝ }
 {
     if 16777216 < n {

@@ -8,9 +8,8 @@ use borrow.Author.Needs.{needs}
 use lib.ListN.{length, set, length-append}
 use Rattle.rules.specs.List.{block}
 use Rattle.rules.specs.Write.{laid}
-use Rattle.rules.specs.Term.{sums, placed, termBlock}
+use Rattle.rules.specs.Term.{lentWord, sums, placed, termBlock}
 use Rattle.laws.proofs.RoomLaws.{length-laid}
-use Rattle.writeterm.specs.Reach.{wordOf}
 use Rattle.writeterm.proofs.PieceLaws.{part-long, piece-laid, header-laid}
 use Rattle.writeterm.proofs.ShapedLaws.{headOf, head-long, pages-ask, counts-ask, places-ask}
 use Rattle.writeterm.proofs.ShapedLaws.{pages-long, counts-long, block-long, pieces-are}
@@ -50,7 +49,7 @@ abbrev middle : tie.Start → List ℕ
 middle s = front s ++ counts s
 
 abbrev whole : tie.Start → List ℕ
-whole s = termBlock (s .args .p .u) (wordOf (s .args .pages .now) (s .args .counts .now) (s .args .positions .now))
+whole s = termBlock (s .args .p .u) (lentWord (s .args .pages .now) (s .args .counts .now) (s .args .positions .now))
 
 -- the room behind the header, the pages, the counts and the positions
 abbrev headed : tie.After-slice-known2 → List ℕ

@@ -7,12 +7,11 @@ use borrow.Author.Needs.{needs}
 use lib.ListN.{length}
 use Rattle.rules.specs.declared.Refusal.the-variants.{Accepted}
 use Rattle.rules.specs.Write.{Made}
-use Rattle.rules.specs.Term.{Word, next, places, termBlock}
+use Rattle.rules.specs.Term.{Word, lentWord, next, places, termBlock}
 use Rattle.termlaws.specs.Words.{Writable}
 use Rattle.termlaws.proofs.BlockLaws.{term-short}
 use Rattle.termlaws.proofs.Theorems.{writes}
 use Rattle.writelist.proofs.WriteLaws.{u-of}
-use Rattle.writeterm.specs.Reach.{wordOf}
 use Rattle.writeterm.specs.Lists.{Shaped}
 use Rattle.writeterm.proofs.ShapedLaws.{bounds-of, shaped-of, block-long}
 use Rattle.writeterm.proofs.AnswerLaws.{answer-limit, answer-lists, answer-reach, answer-room}
@@ -27,7 +26,7 @@ abbrev known : tie.After-shape-of3 → tie.Start
 known c = tested (c .before .before .before)
 
 abbrev word : tie.Start → Word
-word s = wordOf (s .args .pages .now) (s .args .counts .now) (s .args .positions .now)
+word s = lentWord (s .args .pages .now) (s .args .counts .now) (s .args .positions .now)
 
 -- where the word has passed every test
 writable : (c : tie.Else3) → Writable (tested c .args .n) (word (tested c))
