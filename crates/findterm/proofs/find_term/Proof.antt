@@ -9,7 +9,7 @@ block-of-requires : tie.Need-block-of-requires
 block-of-requires c κs =
     let a = c .before .args in
     let p = c .before .pre in
-    index-walks (a .card .now) (p .0) (a .t) (omega (arith, p .1))
+    index-walks (a .card .now) (p .0) _ (omega (arith, p .1))
 
 returns : tie.Need-returns
 unfolding termPart

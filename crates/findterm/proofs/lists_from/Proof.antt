@@ -9,7 +9,7 @@ blocks-from-requires : tie.Need-blocks-from-requires
 blocks-from-requires c κs =
     let a = c .before .args in
     let p = c .before .pre in
-    term-walks (a .term .now) (p .0) (a .k) (omega (arith, p .1))
+    term-walks (a .term .now) (p .0) _ (omega (arith, p .1))
 
 returns : tie.Need-returns
 unfolding listsOf

@@ -25,9 +25,8 @@ open-alone-requires c κs =
 next-common-requires : tie.Need-next-common-requires
 next-common-requires c κs =
     let o = c .before .before .before in
-    let b = o .before .before .before .before .before in
     rw (c .new .ensures) (new-running (o .before .before .pages-in .result .now) (o .open-alone .last .1 .0) 1
-    (o .open-alone .ensures .lists) (b .args .bound))
+    (o .open-alone .ensures .lists) _)
 
 -- the next page of the one list
 next : (c : tie.After-next-common) →

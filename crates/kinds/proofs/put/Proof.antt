@@ -19,7 +19,7 @@ abbrev μ-loop : tie.MeasureT-loop
 μ-loop answer room₀ size i₀ room i = size - i
 
 returns : tie.Need-returns Inv-loop μ-loop
-returns c = wrote-none _ _ _ (c .if1 .taken) refl
+returns c = wrote-none _ _ _ (omega arith) refl
 
 loop-holds : tie.Need-loop-holds Inv-loop μ-loop
 unfolding laid
