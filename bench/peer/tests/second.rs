@@ -2,7 +2,9 @@
 
 use jundefola_peer as peer;
 use second::case::{Case, Kind};
-use second::compare::Other;
+use second::compare::{Compared, Other};
+use second::full_size::FullCard;
+use second::gen::full_size::SHAPES;
 use second::gen::{calls, files};
 use second::host_calls::{Asked, HostCalls, Written};
 use second::long_closing;
@@ -107,22 +109,43 @@ fn scratch(name: &str) -> PathBuf {
     folder
 }
 
-fn compare_all(name: &str, cases: impl Iterator<Item = Stored>) -> Tally {
-    let program = Path::new(env!("CARGO_BIN_EXE_peer_lookup"));
-    let other = Other {
+fn peer_side(name: &str) -> Other<'static> {
+    Other {
         calls: &Peer,
-        program: Some(program),
+        program: Some(Path::new(env!("CARGO_BIN_EXE_peer_lookup"))),
         scratch: scratch(name),
-    };
+    }
+}
+
+fn count_same(tally: &mut Tally, case: &Case, compared: Compared) {
+    tally.count(case, &compared.plain);
+    if let Some(difference) = compared.difference {
+        panic!("a difference:\n{difference}");
+    }
+}
+
+fn compare_all(name: &str, cases: impl Iterator<Item = Stored>) -> Tally {
+    let other = peer_side(name);
     let mut tally = Tally::default();
     for stored in cases {
         let compared = other.compare(&stored).expect("the program is given");
-        tally.count(&stored.case, compared.refusal);
-        if let Some(difference) = compared.difference {
-            panic!("a difference:\n{difference}");
-        }
+        count_same(&mut tally, &stored.case, compared);
     }
     tally
+}
+
+/// The first calls with a card of each shape at full size.
+fn compare_full_size(tally: &mut Tally, seed: u64) {
+    let other = peer_side("full");
+    for number in 0..SHAPES {
+        let card = FullCard::of(seed, number);
+        for call in 0..asked_for("PEER_FULL_CALLS", 16) {
+            let decided = card.call(call);
+            let stored = seeded(decided.case);
+            let compared = other.compare_decided(&stored, decided.plain);
+            count_same(tally, &stored.case, compared.expect("no program is needed"));
+        }
+    }
 }
 
 fn seeded(case: Case) -> Stored {
@@ -145,6 +168,7 @@ fn seeded_calls_and_runs_are_answered_alike() {
     let calls = (0..asked_for("PEER_CALLS", 60_000)).map(|i| calls::call(seed, i));
     let runs = (0..asked_for("PEER_RUNS", 500)).map(|i| files::run(seed, i));
     let mut tally = compare_all("seeded", calls.chain(runs).map(seeded));
+    compare_full_size(&mut tally, seed);
     if let Some(differences) = long_closing::compare(&Peer, &mut tally) {
         assert_eq!(differences, Vec::<String>::new());
     }
@@ -154,7 +178,7 @@ fn seeded_calls_and_runs_are_answered_alike() {
         tally.calls(),
         tally.of_kind(Kind::Program)
     );
-    let is_usual = ["PEER_SEED", "PEER_CALLS", "PEER_RUNS"]
+    let is_usual = ["PEER_SEED", "PEER_CALLS", "PEER_RUNS", "PEER_FULL_CALLS"]
         .iter()
         .all(|name| std::env::var_os(name).is_none());
     if is_usual {
