@@ -83,7 +83,9 @@ unfolding validWord rising positive total inOrder inOrderByPage next places plac
 word-met = (refl, omega arith, omega arith)
 
 pub card-met : validCard 3 (s9Word ∷ []) ≡ true
-unfolding validCard validWords validWord rising positive total inOrder inOrderByPage next places placed raised s9Word terms termBlock sums sized be block body runs pointers pointer afterZero bit words wordsFor upper lower zeros width greatest
+unfolding validCard validWords validWord rising positive total inOrder inOrderByPage next places placed raised
+    s9Word terms termBlock sums sized be block body runs pointers pointer afterZero bit words wordsFor upper lower
+    zeros width greatest
 card-met = refl
 
 -- numbers that are all below 256 are bytes
@@ -100,7 +102,8 @@ bytes-met = below-bytes s9 refl
 -- ---- S9's card and its questions
 
 pub s9-card : s9 ≡ card 3 (s9Word ∷ [])
-unfolding s9 s9Word card indexFront terms termBlock sums sized be block body runs pointers pointer afterZero bit words wordsFor upper lower zeros width greatest next places placed raised total
+unfolding s9 s9Word card indexFront terms termBlock sums sized be block body runs pointers pointer afterZero bit
+    words wordsFor upper lower zeros width greatest next places placed raised total
 s9-card = refl
 
 -- one to eight numbers of words
@@ -117,7 +120,8 @@ unfolding goodQuestion allBelow
 run-met = (refl, (refl, tt))
 
 pub run-fits-met : length (joined (plainAll 3 (s9Word ∷ []) run)) ≡ 5
-unfolding joined plainAll plain byCommon byPhrase numbered named pagesNamed s9Word commonPages sharedBy inAll withStarts starts startsAmong stands positionsOn positionsAmong member
+unfolding joined plainAll plain byCommon byPhrase numbered named pagesNamed s9Word commonPages sharedBy inAll
+    withStarts starts startsAmong stands positionsOn positionsAmong member
 run-fits-met = refl
 
 -- what a run that answers so many questions reports
@@ -129,7 +133,16 @@ reports refusal answered used = record { refusal = refusal; answered = answered;
 pub asked-met : HostAnswered s9 (3 ∷ (1 ∷ (0 ∷ []))) (replicate 4 0) (reports 0 1 4) (3 ∷ (2 ∷ (2 ∷ (1 ∷ []))))
     × HostAnswered s9 (3 ∷ (1 ∷ (0 ∷ []))) (replicate 3 0) (reports 9 0 0) (replicate 3 0)
     × HostAnswered s9 (3 ∷ (1 ∷ (1 ∷ []))) (replicate 3 0) (reports 8 0 0) (replicate 3 0)
-unfolding accepted andThen be beAt sized same bit runWord runBit field wordsFor words rising validList greatest width zeros upper lower afterZero pointer pointers lowerAt upperAt size runs body block stated listU listN elements readList decode isBlock listRefusal laid total sums next raised placed places positive inOrder inOrderByPage validWord termBlock after part inside listsOf pagesOf countsOf positionsOf gaps less lowered readWord disagree termRefusal indexFront terms card validWords validCard indexN indexT termPart wordOf termsRefusal indexRefusal placeOf bitsOf cursorBit startOf looksTo walk gone arrived walked walkFrom move seek leadFrom leadOf readersOf before stopped agree counted nothing rounds common firstFrom member inAll sharedBy commonPages positionsAmong positionsOn stands startsAmong starts withStarts numbered pagesIn listsIn wordsIn byRank byBound byCommon byPhrase answer allBelow goodQuestion kindOf countOf argsOf behind wellFormed replies fitting fitted reply joined put ask s9
+unfolding accepted andThen be beAt sized same bit runWord runBit field wordsFor words rising validList greatest
+    width zeros upper lower afterZero pointer pointers lowerAt upperAt size runs body block stated listU listN
+    elements readList decode isBlock listRefusal laid total sums next raised placed places positive inOrder
+    inOrderByPage validWord termBlock after part inside listsOf pagesOf countsOf positionsOf gaps less lowered
+    readWord disagree termRefusal indexFront terms card validWords validCard indexN indexT termPart wordOf
+    termsRefusal indexRefusal placeOf bitsOf cursorBit startOf looksTo walk gone arrived walked walkFrom move seek
+    leadFrom leadOf readersOf before stopped agree counted nothing rounds common firstFrom member inAll sharedBy
+    commonPages positionsAmong positionsOn stands startsAmong starts withStarts numbered pagesIn listsIn wordsIn
+    byRank byBound byCommon byPhrase answer allBelow goodQuestion kindOf countOf argsOf behind wellFormed replies
+    fitting fitted reply joined put ask s9
 asked-met = (refl, refl, refl)
 
 -- ---- writing and closing, done and refused
@@ -143,7 +156,10 @@ unfolding writeList rising
 list-refused-met = refl
 
 pub close-done-met : HostIndexClosed s9 95 3 1 (record { refusal = 0; length = 95 }) s9
-unfolding closeIndex closeRefusal s9 accepted andThen be beAt bit runWord runBit field wordsFor words sized rising greatest width zeros upper lower afterZero pointer pointers lowerAt upperAt size runs body block same stated listU listN elements readList decode isBlock listRefusal laid next after part inside listsOf pagesOf countsOf positionsOf disagree termRefusal indexFront termsRefusal
+unfolding closeIndex closeRefusal s9 accepted andThen be beAt bit runWord runBit field wordsFor words sized rising
+    greatest width zeros upper lower afterZero pointer pointers lowerAt upperAt size runs body block same stated
+    listU listN elements readList decode isBlock listRefusal laid next after part inside listsOf pagesOf countsOf
+    positionsOf disagree termRefusal indexFront termsRefusal
 close-done-met = refl
 
 -- ---- a word named twice
@@ -169,7 +185,9 @@ pub term-numbers-met : HostTermWritten 16777217 (word [] [] []) [] (refuses 4) [
     × HostTermWritten 3 (word (1 ∷ []) (2 ∷ []) (4 ∷ (4 ∷ []))) [] (refuses 10) []
     × HostTermWritten 3 (word (1 ∷ []) (1 ∷ []) (16777216 ∷ [])) [] (refuses 4) []
     × HostTermWritten 3 s9Word [] (refuses 9) []
-unfolding writeTerm validWord rising positive total inOrder inOrderByPage next places placed raised stored termBlock sums sized be block body runs pointers pointer afterZero bit words wordsFor upper lower zeros width greatest s9Word
+unfolding writeTerm validWord rising positive total inOrder inOrderByPage next places placed raised stored termBlock
+    sums sized be block body runs pointers pointer afterZero bit words wordsFor upper lower zeros width greatest
+    s9Word
 term-numbers-met = (refl, refl, refl, refl, refl, refl, refl, refl, refl)
 
 -- 9, 1, 4 by N and by T, 5 for a byte left over, and 1 for a term that is not there
