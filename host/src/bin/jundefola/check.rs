@@ -1,12 +1,12 @@
 //! `check`: whether a card is accepted, or which refusal it meets and where.
 
-use std::fmt;
 use std::io::Write;
 use std::path::Path;
 
 use jundefola::{check_index, check_list, check_term, Refusal, CARD_HEADER};
 
 use crate::card::{self, split_part};
+use crate::names::Names;
 use crate::numbers::counted;
 use crate::problem::Problem;
 use crate::{files, list};
@@ -26,14 +26,19 @@ enum Place {
     Behind,
 }
 
-impl fmt::Display for Place {
-    fn fmt(&self, f: &mut fmt::Formatter<'_>) -> fmt::Result {
+impl Place {
+    /// The place in words, with the name of its term where there is one.
+    fn text(&self, names: Option<&Names>) -> String {
+        let in_term = |&term: &u16| match names.and_then(|names| names.name(term.into())) {
+            Some(name) => format!("in term {term}, `{name}`"),
+            None => format!("in term {term}"),
+        };
         match self {
-            Place::Header => write!(f, "in the card's header"),
-            Place::Term(term) => write!(f, "in term {term}"),
-            Place::List(term, list) => write!(f, "in term {term}, the list of {list}"),
-            Place::Pages(term) => write!(f, "in term {term}, its number of pages and the card's"),
-            Place::Behind => write!(f, "behind the last term"),
+            Place::Header => "in the card's header".into(),
+            Place::Term(term) => in_term(term),
+            Place::List(term, list) => format!("{}, the list of {list}", in_term(term)),
+            Place::Pages(term) => format!("{}, its number of pages and the card's", in_term(term)),
+            Place::Behind => "behind the last term".into(),
         }
     }
 }
@@ -41,7 +46,7 @@ impl fmt::Display for Place {
 /// Prints the verdict on a card.
 pub fn check(file: &Path, out: &mut dyn Write) -> Result<(), Problem> {
     let card = files::read(file)?;
-    let verdict = check_index(&card).map_err(|refusal| told(refusal, &card));
+    let verdict = check_index(&card).map_err(|refusal| told(refusal, &card, None));
     match &verdict {
         Ok(()) => writeln!(out, "{}: accepted: {}", file.display(), summary(&card))?,
         Err(refused) => writeln!(out, "{}: {refused}", file.display())?,
@@ -54,13 +59,8 @@ pub fn accepted(file: &Path) -> Result<Vec<u8>, Problem> {
     let card = files::read(file)?;
     match check_index(&card) {
         Ok(()) => Ok(card),
-        Err(refusal) => Err(refused(file, refusal, &card)),
+        Err(refusal) => Err(Problem::in_file(file, told(refusal, &card, None))),
     }
-}
-
-/// The problem of a refused card.
-pub fn refused(file: &Path, refusal: Refusal, card: &[u8]) -> Problem {
-    Problem::in_file(file, told(refusal, card))
 }
 
 /// What an accepted card holds, in a few words.
@@ -70,8 +70,9 @@ pub fn summary(card: &[u8]) -> String {
     format!("{words}, {pages}, {}", counted(card.len(), "byte"))
 }
 
-fn told(refusal: Refusal, card: &[u8]) -> String {
-    format!("{refusal} ({})", place(card))
+/// A card's refusal and its place, with the name of the term where there is one.
+pub fn told(refusal: Refusal, card: &[u8], names: Option<&Names>) -> String {
+    format!("{refusal} ({})", place(card).text(names))
 }
 
 /// The first part of a refused card that the library refuses.
@@ -96,7 +97,7 @@ fn place(card: &[u8]) -> Place {
 }
 
 /// Whether the header has nothing to refuse: alone, with its own length, it is refused at most for want of a term.
-fn header_is_sound(card: &[u8]) -> bool {
+pub fn header_is_sound(card: &[u8]) -> bool {
     let Some(&header) = card.first_chunk::<CARD_HEADER>() else {
         return false;
     };

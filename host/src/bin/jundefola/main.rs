@@ -8,6 +8,7 @@ mod files;
 mod list;
 mod listing;
 mod make;
+mod names;
 mod numbers;
 mod problem;
 mod questions;
@@ -27,14 +28,18 @@ usage: jundefola make LISTING CARD      make a card from a listing
        jundefola check CARD             say whether a card is accepted, or what is refused and where
        jundefola show CARD              print a card as a listing
        jundefola ask CARD [QUESTION..]  answer questions, or those on standard input, one a line
+       jundefola ask --names LISTING CARD [QUESTION..]
+                                        the same, with the words' names in that listing
 
-A listing is a line `pages N`, then a line for each word: page:position,position page:position ..
-An empty line is a word on no page, and `#` starts a comment. Pages, positions and words count from 0.
+A listing is a line `pages N`, then a line for each word: NAME page:position,position page:position ..
+The name may be left out; it has a letter and no colon, and no two are the same. A line without postings is a word on no
+page, and `#` starts a comment. Pages, positions and words count from 0.
 
 Questions: rank TERM RANK     the page of the term with that rank
            at TERM PAGE       the term's first page at or above that page
            common TERM..      the pages that have all the terms
            phrase TERM..      the pages where the terms stand one after the other
+A TERM is the number of a word or, with --names, its name.
 
 Exit status: 0 done, 1 refused or bad input, 2 wrong usage
 ";
@@ -57,7 +62,7 @@ fn run(arguments: &[OsString], out: &mut dyn Write) -> Result<(), Problem> {
         (Some("make"), [listing, card]) => make::make(Path::new(listing), Path::new(card), out),
         (Some("check"), [card]) => check::check(Path::new(card), out),
         (Some("show"), [card]) => show::show(Path::new(card), out),
-        (Some("ask"), [card, questions @ ..]) => ask::ask(Path::new(card), questions, out),
+        (Some("ask"), rest) => ask::ask(rest, out),
         (Some("help" | "--help" | "-h"), []) => Ok(out.write_all(USAGE.as_bytes())?),
         _ => Err(Problem::Usage),
     }

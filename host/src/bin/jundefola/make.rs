@@ -7,7 +7,7 @@ use jundefola::{term_block, CardWriter};
 
 use crate::check::summary;
 use crate::files;
-use crate::listing::{content_lines, parse_pages, parse_word};
+use crate::listing::{parse_word, Listing, WordLine};
 use crate::numbers::counted;
 use crate::problem::Problem;
 
@@ -20,33 +20,34 @@ pub fn make(listing: &Path, file: &Path, out: &mut dyn Write) -> Result<(), Prob
 }
 
 /// The card of a listing's text.
-fn card_of(listing: &Path, text: &str) -> Result<Vec<u8>, Problem> {
-    let mut lines = content_lines(text).skip_while(|(_, content)| content.is_empty());
-    let (line, first) = lines.next().unwrap_or((1, ""));
-    let n = accepted_pages(first).map_err(|what| at_line(listing, line, what))?;
+fn card_of(file: &Path, text: &str) -> Result<Vec<u8>, Problem> {
+    let listing = Listing::parse(file, text)?;
+    let n = listing.pages;
+    check_pages(n).map_err(|what| listing.problem(listing.pages_line, what))?;
     let mut writer = CardWriter::new(n);
-    for (line, content) in lines {
-        add_word(&mut writer, content, n).map_err(|what| at_line(listing, line, what))?;
+    for word in &listing.words {
+        add_word(&mut writer, word, n).map_err(|what| listing.problem(word.line, what))?;
     }
     let words = counted(writer.words() as usize, "word");
     let card = writer.close();
-    card.map_err(|refusal| Problem::in_file(listing, format!("{words}: {refusal}")))
+    card.map_err(|refusal| Problem::in_file(file, format!("{words}: {refusal}")))
 }
 
-fn at_line(listing: &Path, line: usize, what: String) -> Problem {
-    Problem::at_line(listing.display(), line, what)
+/// Refuses an N for which the library takes no word.
+fn check_pages(n: u32) -> Result<(), String> {
+    let block = term_block(n, &[], &[], &[]);
+    block.map_err(|refusal| format!("{n} pages: {refusal}"))?;
+    Ok(())
 }
 
-/// N of the first line, where the library takes a word of that many pages.
-fn accepted_pages(content: &str) -> Result<u32, String> {
-    let n = parse_pages(content)?;
-    term_block(n, &[], &[], &[]).map_err(|refusal| format!("{n} pages: {refusal}"))?;
-    Ok(n)
-}
-
-fn add_word(writer: &mut CardWriter, content: &str, n: u32) -> Result<(), String> {
-    let word = parse_word(content, n)?;
-    writer
-        .add(&word.pages, &word.counts, &word.positions)
-        .map_err(|refusal| format!("the positions of this word: {refusal}"))
+fn add_word(writer: &mut CardWriter, line: &WordLine, n: u32) -> Result<(), String> {
+    let word = parse_word(line.postings, n).map_err(|what| match line.name {
+        Some(name) => format!("`{name}`: {what}"),
+        None => what,
+    })?;
+    let added = writer.add(&word.pages, &word.counts, &word.positions);
+    added.map_err(|refusal| match line.name {
+        Some(name) => format!("the positions of `{name}`: {refusal}"),
+        None => format!("the positions of this word: {refusal}"),
+    })
 }
