@@ -163,6 +163,158 @@ fn bad_questions_are_told_with_their_place() {
     assert_eq!(asked.status, 1);
 }
 
+const NAMED_WORDS: &str = "\
+pages 44
+torque 3:8 4:0 7:5 13:2 14:9 15:2,5 21:1 43:0
+common 4:1 15:3,6
+7:6
+
+warranty
+";
+
+#[test]
+fn names_change_no_card() {
+    let folder = Folder::with_card("names_no_card", NAMED_WORDS);
+    let shown = folder.run(&["show", "card"]).printed;
+    assert_eq!(
+        shown,
+        "pages 44\n3:8 4:0 7:5 13:2 14:9 15:2,5 21:1 43:0\n4:1 15:3,6\n7:6\n\n\n"
+    );
+    folder.write("unnamed", shown);
+    assert_eq!(folder.run(&["make", "unnamed", "again"]).status, 0);
+    assert_eq!(folder.read("again"), folder.read("card"));
+}
+
+#[test]
+fn questions_by_name() {
+    let folder = Folder::with_card("by_name", NAMED_WORDS);
+    let input = "rank torque 5\nat torque 16\ncommon torque common # both\nphrase 0 2\ncommon warranty\nat 3 0\n";
+    let asked = folder.run_on(&["ask", "--names", "listing", "card"], input);
+    let expected = "rank torque 5: page 15\n\
+                    at torque 16: page 21, rank 6\n\
+                    common torque common: pages 4 15 (5 seeks, 5 looks)\n\
+                    phrase torque 2: page 7 (1 start)\n\
+                    common warranty: no page (1 seek, 0 looks)\n\
+                    at 3 0: no page\n";
+    assert_eq!(asked.printed, expected);
+    assert_eq!((asked.status, asked.errors.as_str()), (0, ""));
+}
+
+#[test]
+fn questions_by_name_among_the_arguments() {
+    let folder = Folder::with_card("by_name_arguments", NAMED_WORDS);
+    let expected =
+        "rank torque 0: page 3\nphrase torque common: pages 4 (1 start), 15 (2 starts)\n";
+    let quoted = ["rank torque 0", "phrase torque common"];
+    let mixed = ["rank", "torque", "0", "phrase", "torque", "1"];
+    for questions in [&quoted[..], &mixed[..]] {
+        let arguments = [&["ask", "card", "--names", "listing"], questions].concat();
+        assert_eq!(folder.run(&arguments).printed, expected);
+        let arguments = [&["ask", "card"], questions, &["--names", "listing"]].concat();
+        assert_eq!(folder.run(&arguments).printed, expected);
+    }
+}
+
+#[test]
+fn names_that_are_not_there_are_told() {
+    let folder = Folder::with_card("unknown_names", NAMED_WORDS);
+    let asked = folder.run(&["ask", "--names", "listing", "card", "common torque nut"]);
+    let expected = "jundefola: question 1: no word is named `nut` in listing, which has 3 names\n";
+    assert_eq!((asked.errors.as_str(), asked.status), (expected, 1));
+    let expected = "`torque` is not a number from 0 to 4294967295; \
+                    a word is taken by its name with `--names LISTING`\n";
+    let asked = folder.run(&["ask", "card", "rank", "torque", "5"]);
+    assert_eq!(asked.errors, format!("jundefola: question 1: {expected}"));
+    let asked = folder.run_on(&["ask", "card"], "rank 0 1\ncommon 0 torque\n");
+    assert_eq!(
+        asked.errors,
+        format!("jundefola: standard input:2: {expected}")
+    );
+    assert_eq!((asked.status, asked.printed.as_str()), (1, ""));
+}
+
+#[test]
+fn refused_questions_name_their_words() {
+    let folder = Folder::with_card("named_question", NAMED_WORDS);
+    let asked = folder.run(&["ask", "--names", "listing", "card", "phrase 0 5 1"]);
+    assert!(asked
+        .errors
+        .starts_with("jundefola: question 1: `phrase torque 5 common`: refused 8: "));
+    assert_eq!(asked.status, 1);
+}
+
+#[test]
+fn damaged_cards_are_told_with_the_name_of_the_word() {
+    let folder = Folder::with_card("named_damage", "pages 44\nbolt 4:1\ntorque 3:8 4:0,7\n");
+    let mut card = folder.read("card");
+    let last = card.len() - 1;
+    card[last] ^= 1;
+    folder.write("card", &card);
+    let asked = folder.run(&["ask", "--names", "listing", "card", "rank bolt 0"]);
+    let expected =
+        "jundefola: card: refused 6: the runs or pointers are not those of a valid list \
+                    (in term 1, `torque`, the list of positions)\n";
+    assert_eq!((asked.errors.as_str(), asked.status), (expected, 1));
+    folder.write("card", &card[..5]);
+    let asked = folder.run(&["ask", "--names", "listing", "card", "rank bolt 0"]);
+    let expected = "jundefola: card: refused 1: ";
+    assert!(asked.errors.starts_with(expected), "{}", asked.errors);
+}
+
+#[test]
+fn a_listing_that_does_not_fit_the_card_is_told() {
+    let folder = Folder::with_card("unfit", NAMED_WORDS);
+    for (listing, size) in [
+        ("pages 44\ntorque 3:8\n", "1 word, 44 pages"),
+        ("pages 44\n\n\n\n\n\n\n", "6 words, 44 pages"),
+        ("pages 1\n\n\n\n\n\n", "5 words, 1 page"),
+    ] {
+        folder.write("other", listing);
+        let asked = folder.run(&["ask", "card", "--names", "other", "rank 0 0"]);
+        let expected =
+            format!("jundefola: other: this listing has {size}, and card has 5 words, 44 pages\n");
+        assert_eq!((asked.errors, asked.status), (expected, 1));
+    }
+    let asked = folder.run(&["ask", "card", "--names", "nowhere", "rank 0 0"]);
+    assert!(asked.errors.starts_with("jundefola: nowhere: "));
+}
+
+#[test]
+fn bad_names_in_a_listing_are_told_with_their_lines() {
+    let cases = [
+        (
+            "pages 4\nbolt 0:1\n# M8\nbolt\n",
+            "listing:4: the name `bolt` is given twice, at line 2 and here\n",
+        ),
+        (
+            "pages 4\n17 0:1\n",
+            "listing:2: `17` is not of the form page:position,position, and is no name: ",
+        ),
+        ("pages 4\n_ 0:1\n", "listing:2: `_` is not of the form "),
+        (
+            "pages 4\na b 0:1\n",
+            "listing:2: `a`: `b` is not of the form ",
+        ),
+        (
+            "pages 4\n0:1 bolt\n",
+            "listing:2: `bolt` is not of the form ",
+        ),
+        (
+            "pages 4\nbolt 0:16777216\n",
+            "listing:2: the positions of `bolt`: refused 4: ",
+        ),
+    ];
+    let folder = Folder::new("bad_names");
+    for (listing, expected) in cases {
+        folder.write("listing", listing);
+        let made = folder.run(&["make", "listing", "card"]);
+        let told = made.errors.strip_prefix("jundefola: ").unwrap();
+        assert!(told.starts_with(expected), "{listing:?}: {told}");
+        assert_eq!(made.status, 1);
+        assert_eq!(folder.names(), ["listing"]);
+    }
+}
+
 #[test]
 fn bad_listings_are_told_with_their_line_and_leave_nothing() {
     let cases = [
@@ -273,6 +425,9 @@ fn wrong_usage_is_told() {
         &["check"],
         &["press", "card"],
         &["help", "me"],
+        &["ask"],
+        &["ask", "--names", "listing"],
+        &["ask", "card", "--names"],
     ] {
         let run = folder.run(arguments);
         assert!(run.errors.starts_with("usage: jundefola make LISTING CARD"));
