@@ -245,8 +245,8 @@ mod tests {
     fn a_name_has_a_letter() {
         for text in ["7", "_", "3,8", "3.8", "-"] {
             let told = split_name(&format!("{text} 4:1")).unwrap_err();
-            let expected = format!("`{text}` is not of the form page:position,position, and is no name: a name has a letter");
-            assert_eq!(told, expected);
+            let form = format!("`{text}` is not of the form page:position,position");
+            assert_eq!(told, format!("{form}, and is no name: a name has a letter"));
         }
     }
 
