@@ -32,7 +32,8 @@ pub fn ask(arguments: &[OsString], out: &mut dyn Write) -> Result<(), Problem> {
     let (file, questions) = arguments.split_first().ok_or(Problem::Usage)?;
     let file = Path::new(file);
     let card = files::read(file)?;
-    let mut batch = Batch::new(listing.map(|listing| fitting_names(listing, file, &card)))?;
+    let names = listing.map(|listing| fitting_names(listing, file, &card));
+    let mut batch = Batch::new(names.transpose()?);
     if questions.is_empty() {
         batch.add_input()?;
     } else {
@@ -72,12 +73,12 @@ fn fitting_names(listing: &Path, file: &Path, card: &[u8]) -> Result<Names, Prob
 }
 
 impl Batch {
-    fn new(names: Option<Result<Names, Problem>>) -> Result<Batch, Problem> {
-        Ok(Batch {
-            names: names.transpose()?,
+    fn new(names: Option<Names>) -> Batch {
+        Batch {
+            names,
             places: Vec::new(),
             questions: Vec::new(),
-        })
+        }
     }
 
     fn add(&mut self, place: String, words: &[&str]) -> Result<(), Problem> {
@@ -130,14 +131,11 @@ fn split_questions<'a>(arguments: &'a [Cow<str>], names: Option<&Names>) -> Vec<
     let mut questions: Vec<Vec<&str>> = Vec::new();
     for argument in arguments {
         let words: Vec<&str> = argument.split_whitespace().collect();
-        for place in 0..words.len() {
-            if questions.is_empty() || begins_question(&words, place, names) {
-                questions.push(Vec::new());
+        for (place, word) in words.iter().enumerate() {
+            match questions.last_mut() {
+                Some(question) if !begins_question(&words, place, names) => question.push(word),
+                _ => questions.push(vec![word]),
             }
-            questions
-                .last_mut()
-                .expect("one was begun")
-                .push(words[place]);
         }
     }
     questions
