@@ -76,7 +76,7 @@ pub fn ask(card: &[u8], questions: &[u32], room: &mut [u32]) -> Outcome
             used: 0,
         };
     }
-    let t = bits::read_u16(card, 9) as usize;
+    let t = numbers::read_u16(card, 9) as usize;
     if !questions::well_formed(questions, t) {
         return Outcome {
             refusal: Refusal::Question,

@@ -10,8 +10,8 @@ use Rattle.rules.specs.Index.{indexN}
 use Rattle.rules.specs.Common.{Tally}
 use Rattle.rules.specs.Questions.{listsIn, numbered, byCommon}
 use Rattle.commonlaws.proofs.CommonLaws.{common-listed}
-use Rattle.query.specs.Listings.{wholeFrom, fitted}
-use Rattle.query.proofs.ListingLaws.{fitted-all}
+use Rattle.querylaws.specs.Listings.{wholeFrom, fitted}
+use Rattle.querylaws.proofs.ListingLaws.{fitted-all}
 use Rattle.wordlists.specs.Opened.{OpenedPages}
 use Rattle.wordlists.proofs.OpenLaws.{opened-some}
 use Rattle.questions.specs.Wrote.{Wrote}

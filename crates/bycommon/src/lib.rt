@@ -9,8 +9,8 @@ ghost use Rattle.rules.specs.Index.{indexN, indexT, indexRefusal};
 ghost use Rattle.rules.specs.Questions.{listsIn, byCommon};
 ghost use Rattle.questions.specs.Formed.{wordsGood};
 ghost use Rattle.questions.specs.Wrote.{Wrote};
-ghost use Rattle.query.specs.Lists.{Lists};
-ghost use Rattle.query.specs.Listings.{wholeFrom};
+ghost use Rattle.querylaws.specs.Lists.{Lists};
+ghost use Rattle.querylaws.specs.Listings.{wholeFrom};
 ghost use Rattle.bycommon.specs.Tallies.{tallied};
 
 // Puts the answer into room that is enough for it.
@@ -37,7 +37,7 @@ pub fn by_common(card: &[u8], terms: &[u32], room: &mut [u32]) -> usize
     let k = terms.len();
     let mut shapes = [0u32; 64];
     wordlists::open_pages(card, terms, &mut shapes);
-    if query::number(&shapes, 0, 7) + 3 <= room.len() {
+    if inhand::number(&shapes, 0, 7) + 3 <= room.len() {
         return put_common(card, &shapes, k, room);
     }
     let mut none = [0u32; 0];

@@ -17,7 +17,7 @@ fn check_word(block: &[u8], n: usize) -> Refusal
         return term;
     }
     let pages = findterm::pages_of(block);
-    if bits::read_u32(pages, 5) as usize != n {
+    if numbers::read_u32(pages, 5) as usize != n {
         return Refusal::Parts;
     }
     Refusal::Accepted
@@ -46,7 +46,7 @@ pub fn check_terms(s: &[u8], t: usize, n: usize) -> Refusal
         if !parts::passed(r) {
             return r;
         }
-        at += bits::read_u32(s, at) as usize;
+        at += numbers::read_u32(s, at) as usize;
         left -= 1;
     }
     if at < s.len() {
@@ -63,11 +63,11 @@ pub fn check_index(card: &[u8]) -> Refusal
     if !parts::passed(head) {
         return head;
     }
-    let n = bits::read_u32(card, 5) as usize;
+    let n = numbers::read_u32(card, 5) as usize;
     if 16777216 < n {
         return Refusal::Limit;
     }
-    let t = bits::read_u16(card, 9) as usize;
+    let t = numbers::read_u16(card, 9) as usize;
     if 4096 < t {
         return Refusal::Limit;
     }

@@ -15,7 +15,7 @@ use Rattle.shape.proofs.ShapeLaws.{shape-none, shape-some, bounded}
 use Rattle.listlaws.specs.Sound.{Framed, Sound}
 use Rattle.listlaws.proofs.SoundLaws.{sound-iff}
 use Rattle.listlaws.proofs.RefusalLaws.{framed-accepted, framed-refused}
-use Rattle.checklist.specs.Check.{Laid, Holds}
+use Rattle.checklaws.specs.Check.{Laid, Holds}
 
 pub shape-end : (U n : ℕ) → shapeOf U n .end ≡ size U n
 shape-end U zero = ap (λ (g : Shape). g .end) (shape-none U 0 refl) ∙ sym (size-none U)

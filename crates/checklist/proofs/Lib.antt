@@ -1,9 +1,2 @@
-pub mod SpareLaws
-pub mod LowLaws
-pub mod PointerLaws
-pub mod ClimbLaws
-pub mod StateLaws
-pub mod TurnLaws
-pub mod HoldLaws
 pub mod CheckLaws
 pub mod Theorems

@@ -38,7 +38,7 @@ fn check_lists(block: &[u8]) -> Refusal
         if !parts::passed(r) {
             return r;
         }
-        at += bits::read_u32(block, at) as usize;
+        at += numbers::read_u32(block, at) as usize;
         left -= 1;
     }
     Refusal::Accepted
@@ -49,11 +49,11 @@ fn next_of(list: &[u8]) -> usize
     requires { ⌜ listRefusal (now list) ≡ Accepted ⌝ }
     ensures { λ r. ⌜ r ≡ next 0 (decode (now (list .entry))) ⌝ }
 {
-    let g = readlist::shape_at(list);
+    let g = reading::shape_at(list);
     if g.n == 0 {
         return 0;
     }
-    readlist::last_of(list, g) + 1
+    nearones::last_of(list, g) + 1
 }
 
 // Whether the three lists of a term disagree.
@@ -62,17 +62,17 @@ fn disagree(pages: &[u8], counts: &[u8], positions: &[u8]) -> bool
         × (listRefusal (now positions) ≡ Accepted) ⌝ }
     ensures { λ r. ⌜ r ≡ disagreeing (now (pages .entry)) (now (counts .entry)) (now (positions .entry)) ⌝ }
 {
-    if bits::read_u32(counts, 9) != bits::read_u32(pages, 9) {
+    if numbers::read_u32(counts, 9) != numbers::read_u32(pages, 9) {
         return true;
     }
-    let total = bits::read_u32(counts, 5);
+    let total = numbers::read_u32(counts, 5);
     if total as usize != next_of(counts) {
         return true;
     }
-    if bits::read_u32(positions, 9) != total {
+    if numbers::read_u32(positions, 9) != total {
         return true;
     }
-    bits::read_u32(positions, 5) as usize != next_of(positions)
+    numbers::read_u32(positions, 5) as usize != next_of(positions)
 }
 
 // The refusal of what follows the lists: bytes left over, and then lists that disagree.

@@ -36,10 +36,10 @@ fn write_front(buffer: &mut [u8], used: usize, n: usize, t: usize)
     requires { ⌜ 11 ≤ length (now buffer) ⌝ }
     ensures { λ _. ⌜ now (buffer .exit) ≡ laid (indexFront used n t) (now (buffer .entry)) ⌝ }
 {
-    bits::write_u32(buffer, 0, used as u64);
+    numbers::write_u32(buffer, 0, used as u64);
     buffer[4] = 1;
-    bits::write_u32(buffer, 5, n as u64);
-    bits::write_u16(buffer, 9, t as u64);
+    numbers::write_u32(buffer, 5, n as u64);
+    numbers::write_u16(buffer, 9, t as u64);
 }
 
 // Closes an index of t terms of pages below n in the first `used` bytes: the first 11 are its header's.

@@ -30,7 +30,7 @@ fn written(w: Written) -> HostWritten
 {
     let refusal = w.refusal;
     HostWritten {
-        refusal: numbers::number_of(refusal),
+        refusal: refusals::number_of(refusal),
         length: w.size,
     }
 }
@@ -41,7 +41,7 @@ fn outcome(o: Outcome) -> HostAsked
 {
     let refusal = o.refusal;
     HostAsked {
-        refusal: numbers::number_of(refusal),
+        refusal: refusals::number_of(refusal),
         answered: o.answered,
         used: o.used,
     }
@@ -60,7 +60,7 @@ pub extern "C" fn jf_write_list(u: u32, list: &[u32], room: &mut [u8]) -> HostWr
 pub extern "C" fn jf_check_list(block: &[u8]) -> u32
     ensures { λ r. ⌜ HostListChecked (now (block .entry)) r ⌝ }
 {
-    numbers::number_of(checklist::check_list(block))
+    refusals::number_of(checklist::check_list(block))
 }
 
 // Writes a word of an index of n pages into the room.
@@ -83,7 +83,7 @@ pub extern "C" fn jf_write_term(
 pub extern "C" fn jf_check_term(block: &[u8]) -> u32
     ensures { λ r. ⌜ HostTermChecked (now (block .entry)) r ⌝ }
 {
-    numbers::number_of(checkterm::check_term(block))
+    refusals::number_of(checkterm::check_term(block))
 }
 
 // Closes an index of t terms that lie from byte 11 on in the first `used` bytes of the buffer.
@@ -99,7 +99,7 @@ pub extern "C" fn jf_close_index(buffer: &mut [u8], used: usize, n: u32, t: u32)
 pub extern "C" fn jf_check_index(card: &[u8]) -> u32
     ensures { λ r. ⌜ HostIndexChecked (now (card .entry)) r ⌝ }
 {
-    numbers::number_of(checkindex::check_index(card))
+    refusals::number_of(checkindex::check_index(card))
 }
 
 // Asks the card: the answers stand one after the other in the room.

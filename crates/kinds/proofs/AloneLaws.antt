@@ -9,7 +9,7 @@ use Rattle.rules.specs.declared.Refusal.the-variants.{Accepted}
 use Rattle.rules.specs.ReadList.{listU, listN, decode, listRefusal}
 use Rattle.rules.specs.Common.{leadFrom, leadOf}
 use Rattle.shape.specs.Shape.{shapeOf}
-use Rattle.query.specs.Lists.{span, pagesAt}
+use Rattle.querylaws.specs.Lists.{span, pagesAt}
 use Rattle.openlists.specs.Places.{bytesOf, placePart, placedIn, numbersOf, shapeAt, sourceOf}
 use Rattle.openlists.specs.Places.{PlaceOk, Places, Alike, Slots}
 use Rattle.openlists.proofs.SlotLaws.{slots-none, slots-more, slot-part, slots-opened}

@@ -10,14 +10,14 @@ use Rattle.seeklaws.proofs.FirstLaws.{firstAt-self}
 use Rattle.commonlaws.specs.Readers.{pagesOf}
 use Rattle.commonlaws.proofs.SharedLaws.{first-page}
 use Rattle.commonlaws.proofs.NextLaws.{next-first, alone-first}
-use Rattle.seek.specs.Cursors.{spentMark}
-use Rattle.query.specs.declared.Turn.{Turn}
-use Rattle.query.specs.Lists.{span, pagesAt, boundIn}
-use Rattle.query.specs.Queries.{newQuery, readerAt, leadIn, othersIn, nextFor, Apt, Turned}
-use Rattle.query.proofs.ListLaws.{list-rises}
-use Rattle.query.proofs.RunLaws.{lead-ready, others-ready, came}
-use Rattle.query.proofs.NewLaws.{new-running}
-use Rattle.query.proofs.TurnLaws.{turned-none, turned-page}
+use Rattle.walklaws.specs.Cursors.{spentMark}
+use Rattle.querylaws.specs.declared.Turn.{Turn}
+use Rattle.querylaws.specs.Lists.{span, pagesAt, boundIn}
+use Rattle.querylaws.specs.Queries.{newQuery, readerAt, leadIn, othersIn, nextFor, Apt, Turned}
+use Rattle.querylaws.proofs.ListLaws.{list-rises}
+use Rattle.querylaws.proofs.RunLaws.{lead-ready, others-ready, came}
+use Rattle.querylaws.proofs.NewLaws.{new-running}
+use Rattle.querylaws.proofs.TurnLaws.{turned-none, turned-page}
 use Rattle.kinds.specs.Alone.{OpenedAlone}
 use Rattle.kinds.specs.Ranks.{rankBy}
 use Rattle.kinds.proofs.RankLaws.{turned-ranked}

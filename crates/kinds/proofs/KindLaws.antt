@@ -14,9 +14,9 @@ use Rattle.shape.specs.declared.Shape.{Shape}
 use Rattle.termlaws.proofs.Theorems.{accepted-lists}
 use Rattle.cardlaws.proofs.Theorems.{accepted-term}
 use Rattle.seeklaws.proofs.FirstLaws.{rising-below}
-use Rattle.readlist.specs.Open.{Open}
-use Rattle.readlist.proofs.ReadLaws.{open-reads}
-use Rattle.seek.proofs.OpenLaws.{open-U, open-length, open-rising}
+use Rattle.readlaws.specs.Open.{Open}
+use Rattle.readlaws.proofs.ReadLaws.{open-reads}
+use Rattle.walklaws.proofs.OpenLaws.{open-U, open-length, open-rising}
 
 -- ---- a word's pages
 

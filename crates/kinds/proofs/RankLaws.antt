@@ -9,18 +9,18 @@ use Rattle.rules.specs.ReadList.{decode}
 use Rattle.rules.specs.Seek.{on, widthOf, placeOf, cursorBit}
 use Rattle.rules.specs.Common.{Reader}
 use Rattle.commonlaws.specs.Readers.{OnPage, AllOnPage}
-use Rattle.readlist.proofs.ReadLaws.{open-reads}
-use Rattle.seek.specs.Cursors.{spentMark, markOf, Held}
-use Rattle.seek.proofs.CursorLaws.{held-rule}
-use Rattle.seek.proofs.OpenLaws.{open-length, open-ruled}
-use Rattle.query.specs.declared.Query.{Query}
-use Rattle.query.specs.declared.Turn.{Turn}
-use Rattle.query.specs.Lists.{span, numberOf, partAt, shapeIn, pagesAt, boundIn, ListAt}
-use Rattle.query.specs.Queries.{cursorIn, readerAt, Apt, Turned}
-use Rattle.query.proofs.ListLaws.{list-rises, list-within}
-use Rattle.query.proofs.RunLaws.{came}
-use Rattle.query.proofs.SpanLaws.{span-cons}
-use Rattle.query.proofs.TurnLaws.{turned-page}
+use Rattle.readlaws.proofs.ReadLaws.{open-reads}
+use Rattle.walklaws.specs.Cursors.{spentMark, markOf, Held}
+use Rattle.walklaws.proofs.CursorLaws.{held-rule}
+use Rattle.walklaws.proofs.OpenLaws.{open-length, open-ruled}
+use Rattle.querylaws.specs.declared.Query.{Query}
+use Rattle.querylaws.specs.declared.Turn.{Turn}
+use Rattle.querylaws.specs.Lists.{span, numberOf, partAt, shapeIn, pagesAt, boundIn, ListAt}
+use Rattle.querylaws.specs.Queries.{cursorIn, readerAt, Apt, Turned}
+use Rattle.querylaws.proofs.ListLaws.{list-rises, list-within}
+use Rattle.querylaws.proofs.RunLaws.{came}
+use Rattle.querylaws.proofs.SpanLaws.{span-cons}
+use Rattle.querylaws.proofs.TurnLaws.{turned-page}
 use Rattle.kinds.specs.Ranks.{rankBy, OnElement}
 
 -- ---- one cursor on a page

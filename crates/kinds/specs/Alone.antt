@@ -5,7 +5,7 @@ use mathlib.Core.Path.{_≡_}
 use mathlib.Core.List.{List}
 use Prim.Native.Nat.{ℕ}
 use Rattle.rules.specs.ReadList.{decode}
-use Rattle.query.specs.Lists.{pagesAt, Lists}
+use Rattle.querylaws.specs.Lists.{pagesAt, Lists}
 
 pub record OpenedAlone (b r : List ℕ) : Type 0 where
   pub lists : Lists b r 1

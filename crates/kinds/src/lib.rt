@@ -11,8 +11,8 @@ ghost use Rattle.rules.specs.Questions.{pagesIn, byRank, byBound};
 ghost use Rattle.questions.specs.Wrote.{Wrote};
 ghost use Rattle.kinds.specs.Alone.{OpenedAlone};
 ghost use Rattle.kinds.specs.Ranks.{rankBy, OnElement};
-use query::Query;
-use seek::SPENT;
+use querylaws::Query;
+use walklaws::SPENT;
 
 // Puts an answer whole at the front of the room; 0 where it does not fit.
 fn put(answer: &[u32], room: &mut [u32]) -> usize
@@ -44,11 +44,11 @@ fn put_ranked(pages: &[u8], rank: usize, room: &mut [u32]) -> usize
     requires { ⌜ listRefusal (now pages) ≡ Accepted ⌝ }
     ensures { λ r. ⌜ Wrote (byRank (decode (now (pages .entry))) rank) (now (room .entry)) r (now (room .exit)) ⌝ }
 {
-    let g = readlist::shape_at(pages);
+    let g = reading::shape_at(pages);
     if g.n <= rank {
         return put(&[0], room);
     }
-    let page = readlist::element_at(pages, g, rank);
+    let page = byrank::element_at(pages, g, rank);
     put(&[1, page as u32], room)
 }
 
@@ -66,7 +66,7 @@ pub fn rank_in(shapes: &[u32], q: Query, i: usize) -> usize
     ensures { λ r. ⌜ r ≡ rankBy (now (shapes .entry)) q i ⌝ }
 {
     let c = q.cursors[i];
-    c.bit as usize - ((c.mark as usize - 1) >> query::number(shapes, i, 3))
+    c.bit as usize - ((c.mark as usize - 1) >> inhand::number(shapes, i, 3))
 }
 
 // Opens a list of pages as the one list of a query over its own bytes.

@@ -1,8 +1,6 @@
 // The program: a card file and a question file are its arguments, and their answers go to standard output.
 // What they are is the matter of `lookuptext`; here files are opened, read and written.
 
-ghost use Prim.Native.Nat.{_≤_};
-ghost use lib.ListN.{length};
 ghost use Rattle.io.specs.Counts.{Counts};
 use libc::STDOUT_FILENO;
 

@@ -9,13 +9,13 @@ use Rattle.rules.specs.Questions.{inAll, sharedBy}
 use Rattle.commonlaws.specs.Readers.{pagesOf, from}
 use Rattle.commonlaws.proofs.SharedLaws.{shared-yes, shared-no, from-le}
 use Rattle.commonlaws.proofs.TallyLaws.{rounds-tallied}
-use Rattle.seek.proofs.OpenLaws.{open-length}
-use Rattle.query.specs.Lists.{numberOf, partAt, shapeIn, pagesAt, boundIn, Lists}
-use Rattle.query.specs.Queries.{newQuery, readerAt, leadIn, othersIn}
-use Rattle.query.specs.Listings.{wholeFrom}
-use Rattle.query.proofs.ListLaws.{list-length}
-use Rattle.query.proofs.RunLaws.{lead-ready, others-ready}
-use Rattle.query.proofs.NewLaws.{new-running, new-whole}
+use Rattle.walklaws.proofs.OpenLaws.{open-length}
+use Rattle.querylaws.specs.Lists.{numberOf, partAt, shapeIn, pagesAt, boundIn, Lists}
+use Rattle.querylaws.specs.Queries.{newQuery, readerAt, leadIn, othersIn}
+use Rattle.querylaws.specs.Listings.{wholeFrom}
+use Rattle.querylaws.proofs.ListLaws.{list-length}
+use Rattle.querylaws.proofs.RunLaws.{lead-ready, others-ready}
+use Rattle.querylaws.proofs.NewLaws.{new-running, new-whole}
 
 shared-le : (ls : List (List ℕ)) (xs : List ℕ) → length (sharedBy ls xs) ≤ length xs
 unfolding sharedBy

@@ -6,8 +6,8 @@ use native.Mathlib.Omega.{arith}
 use borrow.Author.Tests.{lt-ltb, le-ltb}
 use lib.ListN.{length}
 use Rattle.rules.specs.Common.{leadFrom, leadOf}
-use Rattle.query.specs.Lists.{span}
-use Rattle.query.proofs.SpanLaws.{span-none, span-cons}
+use Rattle.querylaws.specs.Lists.{span}
+use Rattle.querylaws.proofs.SpanLaws.{span-none, span-cons}
 
 module _ (f : ℕ → List ℕ) (k : ℕ) where
   -- the lead of k lists, where the shortest before list i is number best, of m elements

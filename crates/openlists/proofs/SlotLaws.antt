@@ -12,10 +12,10 @@ use Rattle.shape.specs.declared.Shape.{Shape}
 use Rattle.rules.specs.ReadList.{listU, listN, decode}
 use Rattle.shape.proofs.ShapeLaws.{shape-u, shape-end}
 use Rattle.listlaws.proofs.RefusalLaws.{accepted-framed}
-use Rattle.readlist.specs.Open.{Open}
-use Rattle.readlist.proofs.ReadLaws.{open-reads}
-use Rattle.query.specs.Lists.{numberOf, partAt, shapeIn, pagesAt, pagesIn, boundIn, ListAt}
-use Rattle.query.proofs.SpanLaws.{span-same}
+use Rattle.readlaws.specs.Open.{Open}
+use Rattle.readlaws.proofs.ReadLaws.{open-reads}
+use Rattle.querylaws.specs.Lists.{numberOf, partAt, shapeIn, pagesAt, pagesIn, boundIn, ListAt}
+use Rattle.querylaws.proofs.SpanLaws.{span-same}
 use Rattle.openlists.specs.Places.{fromOf, toOf, placePart, placePages, placedIn, shapeAt, numbersAt, sourceOf}
 use Rattle.openlists.specs.Places.{PlaceOk, Places, Alike, Slots, Opened}
 use Rattle.openlists.proofs.SourceLaws.{source-lt, source-order}

@@ -9,8 +9,8 @@ use lib.ListN.{getD, take, drop}
 use lib.Seq.{take-at, drop-at, getD-at}
 use Rattle.rules.specs.Common.{leadOf}
 use Rattle.commonlaws.specs.Readers.{leadPages, otherPages}
-use Rattle.query.specs.Lists.{span}
-use Rattle.query.proofs.SpanLaws.{length-span, span-cons, span-split, span-same}
+use Rattle.querylaws.specs.Lists.{span}
+use Rattle.querylaws.proofs.SpanLaws.{length-span, span-cons, span-split, span-same}
 use Rattle.openlists.specs.Places.{sourceOf, slotOf}
 
 -- ---- parts of a span

@@ -14,9 +14,9 @@ use Rattle.listlaws.proofs.ReadLaws.{accepted-rising}
 use Rattle.commonlaws.specs.Readers.{Rise, wordsOf, from}
 use Rattle.commonlaws.specs.Next.{freshLead, freshOthers, commonFrom}
 use Rattle.commonlaws.proofs.CommonLaws.{common-from, from-listed, from-seeks, from-looks}
-use Rattle.query.specs.Lists.{span}
-use Rattle.query.specs.Listings.{ruleFrom, wholeFrom}
-use Rattle.query.proofs.SpanLaws.{length-span}
+use Rattle.querylaws.specs.Lists.{span}
+use Rattle.querylaws.specs.Listings.{ruleFrom, wholeFrom}
+use Rattle.querylaws.proofs.SpanLaws.{length-span}
 use Rattle.openlists.specs.Places.{placePart, placePages, placedIn, Places, Alike, Opened}
 
 span-rise : (U : ℕ) (f : ℕ → List ℕ) (n i : ℕ) → ((j : ℕ) → i ≤ j → j < i + n → rising 0 U (f j) ≡ true)

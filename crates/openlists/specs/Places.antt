@@ -26,7 +26,7 @@ use Rattle.rules.specs.ReadList.{listU, listN, decode, listRefusal}
 use Rattle.shape.specs.declared.Shape.{Shape}
 use Rattle.shape.specs.Shape.{shapeOf}
 use Rattle.commonlaws.specs.Readers.{leadPages, otherPages}
-use Rattle.query.specs.Lists.{span, numberOf, pagesIn, boundIn, Lists}
+use Rattle.querylaws.specs.Lists.{span, numberOf, pagesIn, boundIn, Lists}
 
 abbrev pub fromOf : List ℕ → ℕ → ℕ
 fromOf ps i = getD ps (2 * i) 0

@@ -26,7 +26,7 @@ fn length_of(card: &[u8], places: &[u32], i: usize) -> usize
     requires { ⌜ (i < 8) × PlaceOk (now card) (now places) i ⌝ }
     ensures { λ r. ⌜ r ≡ length (placePages (now (card .entry)) (now (places .entry)) i) ⌝ }
 {
-    bits::read_u32(part_of(card, places, i), 9) as usize
+    numbers::read_u32(part_of(card, places, i), 9) as usize
 }
 
 // The place of the shortest list, the first of equals.
@@ -54,7 +54,7 @@ pub fn numbers_at(card: &[u8], from: usize, to: usize) -> [u32; 8]
     ensures { λ r. ⌜ r ≡ numbersOf from to
         (shapeOf (listU (bytesOf (now (card .entry)) from to)) (listN (bytesOf (now (card .entry)) from to))) ⌝ }
 {
-    let g = readlist::shape_at(&card[from..to]);
+    let g = reading::shape_at(&card[from..to]);
     [
         from as u32,
         to as u32,

@@ -15,7 +15,7 @@ use Rattle.shape.proofs.ShapeLaws.{shape-end}
 use Rattle.listlaws.proofs.RefusalLaws.{accepted-framed}
 use Rattle.termlaws.proofs.Theorems.{accepted-lists}
 use Rattle.cardlaws.proofs.Theorems.{accepted-term}
-use Rattle.query.specs.Lists.{numberOf, partAt, shapeIn}
+use Rattle.querylaws.specs.Lists.{numberOf, partAt, shapeIn}
 use Rattle.openlists.specs.Places.{bytesOf, Within, numbersOf}
 use Rattle.openlists.proofs.SlotLaws.{paste-in, paste-before}
 use Rattle.wordlists.specs.Lying.{listOf}

@@ -6,7 +6,7 @@ use mathlib.Core.Path.{_≡_}
 use mathlib.Core.List.{List}
 use Prim.Native.Nat.{ℕ, _<_}
 use lib.ListN.{length, getD}
-use Rattle.query.specs.Lists.{partAt}
+use Rattle.querylaws.specs.Lists.{partAt}
 use Rattle.phrase.specs.Words.{BlockAt}
 use Rattle.wordlists.specs.Lying.{listOf}
 

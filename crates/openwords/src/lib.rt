@@ -6,7 +6,7 @@ ghost use Prim.Native.Nat.{_<_};
 ghost use lib.ListN.{length};
 ghost use Rattle.rules.specs.declared.Refusal.the-variants.{Accepted};
 ghost use Rattle.rules.specs.Index.{indexT, indexRefusal};
-ghost use Rattle.findterm.specs.Starts.{Found};
+ghost use Rattle.findlaws.specs.Starts.{Found};
 ghost use Rattle.questions.specs.Formed.{wordsGood};
 ghost use Rattle.openwords.specs.Slots.{Filled};
 

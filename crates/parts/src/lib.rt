@@ -28,7 +28,7 @@ pub fn check_head(block: &[u8], h: usize) -> Refusal
     if block.len() < h {
         return Refusal::Short;
     }
-    if bits::read_u32(block, 0) as usize != block.len() {
+    if numbers::read_u32(block, 0) as usize != block.len() {
         return Refusal::Length;
     }
     if block[4] != 1 {
@@ -46,7 +46,7 @@ pub fn check_front(s: &[u8], at: usize, h: usize) -> Refusal
     if left < h {
         return Refusal::Short;
     }
-    let size = bits::read_u32(s, at) as usize;
+    let size = numbers::read_u32(s, at) as usize;
     if size < h {
         return Refusal::Length;
     }
@@ -61,7 +61,7 @@ pub fn part_at(s: &[u8], at: usize) -> &[u8]
     requires { ⌜ Held at (now s) ⌝ }
     ensures { λ r. ⌜ now r ≡ take (beAt 4 (now (s .entry)) at) (drop at (now (s .entry))) ⌝ }
 {
-    let to = at + bits::read_u32(s, at) as usize;
+    let to = at + numbers::read_u32(s, at) as usize;
     &s[at..to]
 }
 
@@ -74,7 +74,7 @@ pub fn blocks_from(s: &[u8], from: usize, k: usize) -> &[u8]
     let mut rest = &s[from..];
     let mut i = 0;
     while i < k {
-        let size = bits::read_u32(rest, 0) as usize;
+        let size = numbers::read_u32(rest, 0) as usize;
         rest = &rest[size..];
         i += 1;
     }

@@ -16,7 +16,7 @@ use Rattle.seeklaws.specs.Cursors.{firstAt}
 use Rattle.seeklaws.proofs.FirstLaws.{rising-lt, rising-below, firstAt-before, firstAt-at}
 use Rattle.commonlaws.proofs.SharedLaws.{member-at, member-none}
 use Rattle.termlaws.proofs.PlaceLaws.{length-less}
-use Rattle.seek.proofs.OpenLaws.{open-length, open-rising}
+use Rattle.walklaws.proofs.OpenLaws.{open-length, open-rising}
 use Rattle.span.specs.declared.Walk.{Walk}
 use Rattle.span.specs.Walks.{past, Passing}
 use Rattle.span.specs.Spans.{onPage}

@@ -9,8 +9,8 @@ use Rattle.rules.specs.Limits.{limit}
 use Rattle.rules.specs.List.{rising}
 use Rattle.rules.specs.ReadList.{listU}
 use Rattle.rules.specs.Questions.{member}
-use Rattle.seek.proofs.OpenLaws.{open-within, open-length, open-rising}
-use Rattle.query.specs.Lists.{partAt, shapeIn}
+use Rattle.walklaws.proofs.OpenLaws.{open-within, open-length, open-rising}
+use Rattle.querylaws.specs.Lists.{partAt, shapeIn}
 use Rattle.span.specs.Walks.{WalkOn}
 use Rattle.span.proofs.WalkLaws.{past-le, past-mono}
 use Rattle.phrase.specs.Words.{elementsAt, walkIn, baseIn, endIn, pageAt, Ready, PassedOn, Sought}

@@ -11,7 +11,7 @@ use lib.ListN.{length, getD}
 use Rattle.rules.specs.Term.{Word}
 use Rattle.rules.specs.Questions.{member, positionsOn, stands, startsAmong, starts}
 use Rattle.commonlaws.proofs.SharedLaws.{member-at, member-none}
-use Rattle.query.specs.Lists.{span}
+use Rattle.querylaws.specs.Lists.{span}
 use Rattle.phrase.specs.Starts.{standsIn, startsOver, startsIn, startsBelow}
 
 -- ---- of words

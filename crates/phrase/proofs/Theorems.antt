@@ -12,7 +12,7 @@ use Rattle.rules.specs.ReadTerm.{pagesOf, positionsOf, readWord, termRefusal}
 use Rattle.rules.specs.Index.{termPart, wordOf}
 use Rattle.rules.specs.Questions.{positionsOn, starts, wordsIn}
 use Rattle.termlaws.proofs.ReadLaws.{positions-listed}
-use Rattle.query.specs.Lists.{span, partAt}
+use Rattle.querylaws.specs.Lists.{span, partAt}
 use Rattle.span.specs.Walks.{past}
 use Rattle.span.specs.Spans.{positionsBefore, onPage, PageIn}
 use Rattle.span.proofs.WalkLaws.{past-le, first-past}

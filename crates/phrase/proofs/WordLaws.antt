@@ -8,7 +8,7 @@ use borrow.Author.Tests.{lt-ltb}
 use lib.Dec.{ltb}
 use lib.ListN.{length, getD, set, length-set}
 use lib.Seq.{getD-set-same, getD-set-other}
-use Rattle.query.specs.Lists.{partAt, shapeIn}
+use Rattle.querylaws.specs.Lists.{partAt, shapeIn}
 use Rattle.span.specs.declared.Walk.{Walk}
 use Rattle.span.specs.Walks.{past, PassedTo, PassedBelow}
 use Rattle.phrase.specs.Words.{elementsAt, walkIn, withWalk, ranksOf, baseIn, endIn, withSpan, BlockAt, Walked}

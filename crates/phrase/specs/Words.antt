@@ -27,8 +27,8 @@ use Rattle.rules.specs.Limits.{limit}
 use Rattle.rules.specs.ReadList.{decode}
 use Rattle.rules.specs.ReadTerm.{pagesOf, positionsOf, termRefusal}
 use Rattle.rules.specs.Questions.{member}
-use Rattle.readlist.specs.Open.{Open}
-use Rattle.query.specs.Lists.{numberOf, partAt, shapeIn}
+use Rattle.readlaws.specs.Open.{Open}
+use Rattle.querylaws.specs.Lists.{numberOf, partAt, shapeIn}
 use Rattle.span.specs.declared.Walk.{Walk}
 use Rattle.span.specs.Walks.{past, WalkOn, Passing}
 use Rattle.span.specs.Spans.{positionsBefore, onPage}

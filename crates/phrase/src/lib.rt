@@ -3,7 +3,7 @@
 ghost use mathlib.Core.Path.{_≡_};
 ghost use Prim.Native.Nat.{_+_, _*_, _^_, _≤_, _<_};
 ghost use lib.ListN.{length};
-ghost use Rattle.query.specs.Lists.{numberOf, partAt};
+ghost use Rattle.querylaws.specs.Lists.{numberOf, partAt};
 ghost use Rattle.span.specs.Walks.{past};
 ghost use Rattle.phrase.specs.Words.{elementsAt, walkIn, withWalk, ranksOf, baseIn, withSpan, BlockAt, Readable};
 ghost use Rattle.phrase.specs.Words.{Walked, Ready, PassedOn, Sought};
@@ -38,8 +38,8 @@ fn part_at<'a>(card: &'a [u8], shapes: &[u32], i: usize) -> &'a [u8]
     requires { ⌜ BlockAt (now card) (now shapes) i ⌝ }
     ensures { λ r. ⌜ now r ≡ partAt (now (card .entry)) (now (shapes .entry)) i ⌝ }
 {
-    let from = query::number(shapes, i, 0);
-    let to = query::number(shapes, i, 1);
+    let from = inhand::number(shapes, i, 0);
+    let to = inhand::number(shapes, i, 1);
     &card[from..to]
 }
 
@@ -59,7 +59,7 @@ pub fn ranks_at(card: &[u8], counts: &[u32], i: usize, rank: usize, walks: &mut 
         × Walked (now (card .entry)) (now (counts .entry)) (now (walks .entry)) i (rank + 1) (now (walks .exit)) ⌝ }
 {
     let block = part_at(card, counts, i);
-    let g = query::shape_in(counts, i);
+    let g = inhand::shape_in(counts, i);
     let w = span::pass_to(block, g, walk_in(walks, i), rank);
     let v = span::pass_one(block, g, w);
     put_walk(walks, i, v);
@@ -88,7 +88,7 @@ pub fn turn_to(
     let w = walk_in(walks, i);
     let v = span::pass_to(
         part_at(card, shapes, i),
-        query::shape_in(shapes, i),
+        inhand::shape_in(shapes, i),
         w,
         x.from,
     );
@@ -119,7 +119,7 @@ fn pass_on(
     }
     let v = span::pass_below(
         part_at(card, shapes, i),
-        query::shape_in(shapes, i),
+        inhand::shape_in(shapes, i),
         w,
         spans[2 * i + 1],
         b,

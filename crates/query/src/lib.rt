@@ -3,84 +3,17 @@
 
 ghost use mathlib.Core.Bool.{true};
 ghost use mathlib.Core.Path.{_≡_};
-ghost use Prim.Native.Nat.{_^_, _≤_, _<_};
+ghost use Prim.Native.Nat.{_^_, _<_};
 ghost use lib.ListN.{length, set};
-ghost use Rattle.query.specs.Lists.{numberOf, shapeIn, Lists};
-ghost use Rattle.query.specs.Queries.{newQuery, movedIn, seeksOf, looksOf, Seekable, Running, Turned};
-ghost use Rattle.query.specs.Listings.{wholeFrom, fitted, Tells, Scanned};
-use seek::Cursor;
-use seek::SPENT;
-use shape::Shape;
-
-// The cursors of a question's lists, the lead's first.
-pub struct Query {
-    pub cursors: [Cursor; 8],
-}
-
-impl Query {
-    // A query that no seek has moved.
-    pub fn new() -> Query
-        ensures { λ r. ⌜ r ≡ newQuery ⌝ }
-    {
-        let cursor = Cursor::new();
-        Query {
-            cursors: [cursor; 8],
-        }
-    }
-}
-
-// ---- one seek
-
-// Number j of list i.
-pub fn number(shapes: &[u32], i: usize, j: usize) -> usize
-    requires { ⌜ (length (now shapes) ≡ 64) × (i < 8) × (j < 8) ⌝ }
-    ensures { λ r. ⌜ r ≡ numberOf (now (shapes .entry)) i j ⌝ }
-{
-    shapes[8 * i + j] as usize
-}
-
-// The shape of list i, by its numbers.
-pub fn shape_in(shapes: &[u32], i: usize) -> Shape
-    requires { ⌜ (length (now shapes) ≡ 64) × (i < 8) × (numberOf (now shapes) i 0 ≤ numberOf (now shapes) i 1) ⌝ }
-    ensures { λ r. ⌜ r ≡ shapeIn (now (shapes .entry)) i ⌝ }
-{
-    Shape {
-        u: number(shapes, i, 2),
-        n: number(shapes, i, 7),
-        w: number(shapes, i, 3),
-        bits: number(shapes, i, 4),
-        lower: number(shapes, i, 5),
-        upper: number(shapes, i, 6),
-        end: number(shapes, i, 1) - number(shapes, i, 0),
-    }
-}
-
-// The query, and the cursor of it that is in hand.
-struct InHand {
-    q: Query,
-    hand: Cursor,
-}
-
-// A seek for b on list i, by the cursor in hand: the query comes back as it was, and the hand moved.
-fn seek_in(card: &[u8], shapes: &[u32], mut s: InHand, i: usize, b: usize) -> InHand
-    requires { ⌜ Seekable (now card) (now shapes) i (s .hand) ⌝ }
-    ensures { λ r. ⌜ (r .q ≡ s .q) × (r .hand ≡ movedIn (now (card .entry)) (now (shapes .entry)) i (s .hand) b) ⌝ }
-{
-    let from = number(shapes, i, 0);
-    let to = number(shapes, i, 1);
-    let c = seek::seek(&card[from..to], shape_in(shapes, i), s.hand, b);
-    s.hand = c;
-    s
-}
-
-// ---- the common pages
-
-// A query, how many pages it found before it stopped, and the mark of the page that it stopped at: page + 1, or SPENT.
-struct Scan {
-    q: Query,
-    found: usize,
-    mark: u32,
-}
+ghost use Rattle.querylaws.specs.Lists.{Lists};
+ghost use Rattle.querylaws.specs.Queries.{newQuery, seeksOf, looksOf, Running, Turned};
+ghost use Rattle.querylaws.specs.Listings.{wholeFrom, fitted, Tells, Scanned};
+use querylaws::InHand;
+use querylaws::Listed;
+use querylaws::Query;
+use querylaws::Scan;
+use querylaws::Turn;
+use walklaws::SPENT;
 
 // Stores a page at the place at, if the room goes as far.
 fn put(room: &mut [u32], at: usize, page: u32)
@@ -112,7 +45,7 @@ fn scan_lists(
     let mut i = 0;
     loop {
         let hand = q.cursors[i];
-        let s = seek_in(card, shapes, InHand { q, hand }, i, b);
+        let s = inhand::seek_in(card, shapes, InHand { q, hand }, i, b);
         let back = s.q;
         q = back;
         let c = s.hand;
@@ -142,14 +75,6 @@ fn scan_lists(
     }
 }
 
-// ---- the next common page
-
-// A query, and the mark of a page: page + 1, or SPENT.
-pub struct Turn {
-    pub q: Query,
-    pub mark: u32,
-}
-
 // The next page at or above the bound that the first k lists share; with one list, a plain seek.
 pub fn next_common(card: &[u8], shapes: &[u32], query: Query, k: usize, bound: usize) -> Turn
     requires { ⌜ Running (now card) (now shapes) k query bound ⌝ }
@@ -159,15 +84,6 @@ pub fn next_common(card: &[u8], shapes: &[u32], query: Query, k: usize, bound: u
     let r = scan_lists(card, shapes, query, k, bound, false, &mut none);
     let q = r.q;
     Turn { q, mark: r.mark }
-}
-
-// ---- all common pages
-
-// How many pages were found, and the seeks and looks that they took.
-pub struct Listed {
-    pub found: usize,
-    pub seeks: u32,
-    pub looks: u32,
 }
 
 // The seeks and looks of all cursors.

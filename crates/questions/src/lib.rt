@@ -3,7 +3,7 @@
 ghost use mathlib.Core.Path.{_≡_};
 ghost use mathlib.Core.Bool.{true};
 ghost use Prim.Native.Nat.{_+_, _≤_, _<_};
-ghost use lib.ListN.{length, getD, drop};
+ghost use lib.ListN.{length, drop};
 ghost use Rattle.rules.specs.Questions.{allBelow, goodQuestion, countOf};
 ghost use Rattle.questions.specs.Formed.{pairGood, wordsGood, formed};
 

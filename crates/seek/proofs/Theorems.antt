@@ -16,11 +16,11 @@ use Rattle.listlaws.proofs.ReadLaws.{accepted-rising}
 use Rattle.seeklaws.specs.Cursors.{seekBy, answers, looksOver, firsts, neverDown}
 use Rattle.seeklaws.proofs.SeekLaws.{answers-first, jumps-answer}
 use Rattle.seeklaws.proofs.LookLaws.{looks-all}
-use Rattle.seek.specs.declared.Cursor.{Cursor}
-use Rattle.seek.specs.Cursors.{unused, ruleCursor, Held, movedTo, foundBy, after, founds}
-use Rattle.seek.proofs.CursorLaws.{held-rule}
-use Rattle.seek.proofs.MoveLaws.{unused-held, unused-rule, moved-held, moved-rule}
-use Rattle.seek.proofs.MoveLaws.{moved-seeks, moved-looks, moved-found}
+use Rattle.walklaws.specs.declared.Cursor.{Cursor}
+use Rattle.walklaws.specs.Cursors.{unused, ruleCursor, Held, movedTo, foundBy, after, founds}
+use Rattle.walklaws.proofs.CursorLaws.{held-rule}
+use Rattle.walklaws.proofs.MoveLaws.{unused-held, unused-rule, moved-held, moved-rule}
+use Rattle.walklaws.proofs.MoveLaws.{moved-seeks, moved-looks, moved-found}
 
 module _ (U : ℕ) (xs : List ℕ) (rises : rising 0 U xs ≡ true) (within : U ≤ limit) where
   founds-rule : (c : Cursor) → Held U xs c → (bs : List ℕ) → founds U xs c bs ≡ answers U xs (ruleCursor U xs c) bs

@@ -1,8 +1,9 @@
 // The geometry of a list block: what U and n give, worked out once and handed on by value.
 
 ghost use mathlib.Core.Path.{_≡_};
-ghost use Prim.Native.Nat.{_≤_};
+ghost use Prim.Native.Nat.{_^_, _<_, _≤_};
 ghost use Rattle.rules.specs.Limits.{limit};
+ghost use Rattle.rules.specs.List.{width};
 ghost use Rattle.shape.specs.Shape.{shapeOf};
 
 // U, n and w; the bits of the upper run; and the bytes at which the runs start and the block ends.
@@ -14,6 +15,14 @@ pub struct Shape {
     pub lower: usize,
     pub upper: usize,
     pub end: usize,
+}
+
+// The width of the low parts of n elements below u.
+pub fn width(u: usize, n: usize) -> usize
+    requires { ⌜ (0 < n) × (n ≤ u) × (u < 2 ^ 32) ⌝ }
+    ensures { λ r. ⌜ (r ≡ width u n) × (r ≤ 31) ⌝ }
+{
+    (31 - u32::leading_zeros(u as u32 / n as u32)) as usize
 }
 
 // The shape of a block of n elements below u.
@@ -32,7 +41,7 @@ pub fn shape_of(u: usize, n: usize) -> Shape
             end: 13,
         };
     }
-    let w = bits::width(u, n);
+    let w = width(u, n);
     let zeros = u >> w;
     let lower = 13 + 4 * (zeros / 256);
     let upper = lower + 8 * ((n * w + 63) / 64);

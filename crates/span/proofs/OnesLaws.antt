@@ -9,11 +9,11 @@ use lib.ListN.{length}
 use Rattle.rules.specs.Runs.{runWord, wordsFor}
 use Rattle.rules.specs.Counts.{onesBelow}
 use Rattle.shape.specs.declared.Shape.{Shape}
-use Rattle.readlist.specs.Open.{Open, OneAt}
-use Rattle.readlist.proofs.PartLaws.{flat-inside, word-inside}
-use Rattle.seek.specs.Walks.{Walking}
-use Rattle.seek.proofs.OpenLaws.{open-word, words-few}
-use Rattle.seek.proofs.WalkLaws.{walking-from, walking-next, walking-more, walking-drop, one-lt, one-bit, one-rank}
+use Rattle.readlaws.specs.Open.{Open, OneAt}
+use Rattle.readlaws.proofs.PartLaws.{flat-inside, word-inside}
+use Rattle.walklaws.specs.Walks.{Walking}
+use Rattle.walklaws.proofs.OpenLaws.{open-word, words-few}
+use Rattle.walklaws.proofs.WalkLaws.{walking-from, walking-next, walking-more, walking-drop, one-lt, one-bit, one-rank}
 use Rattle.span.specs.declared.Walk.{Walk}
 use Rattle.span.specs.declared.Ones.{Ones}
 use Rattle.span.specs.Walks.{WalkOn, OnesLeft}

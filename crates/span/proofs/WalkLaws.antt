@@ -15,9 +15,9 @@ use Rattle.laws.proofs.CountLaws.{below-none, below-suc}
 use Rattle.shape.specs.declared.Shape.{Shape}
 use Rattle.seeklaws.specs.Cursors.{firstAt}
 use Rattle.seeklaws.proofs.FirstLaws.{rising-lt, rising-below, firstAt-unique}
-use Rattle.readlist.specs.Open.{Open, OneAt}
-use Rattle.readlist.proofs.ReadLaws.{one-ranks}
-use Rattle.seek.proofs.OpenLaws.{open-length, open-ruled, placed-at}
+use Rattle.readlaws.specs.Open.{Open, OneAt}
+use Rattle.readlaws.proofs.ReadLaws.{one-ranks}
+use Rattle.walklaws.proofs.OpenLaws.{open-length, open-ruled, placed-at}
 use Rattle.span.specs.declared.Walk.{Walk}
 use Rattle.span.specs.Walks.{past, behind, WalkOn, PassedTo, Passing}
 

@@ -17,8 +17,8 @@ use Rattle.rules.specs.Term.{next}
 use Rattle.rules.specs.ReadList.{listU, decode}
 use Rattle.rules.specs.Seek.{placeOf}
 use Rattle.shape.specs.declared.Shape.{Shape}
-use Rattle.readlist.specs.Open.{Open}
-use Rattle.seek.specs.Walks.{Walking}
+use Rattle.readlaws.specs.Open.{Open}
+use Rattle.walklaws.specs.Walks.{Walking}
 use Rattle.span.specs.declared.Walk.{Walk}
 use Rattle.span.specs.declared.Ones.{Ones}
 

@@ -1,7 +1,7 @@
 // A list gone through by rank: from where reading stands, elements are passed up to a number, or up to a bound.
 
 ghost use Prim.Native.Nat.{_+_, _≤_, _<_};
-ghost use Rattle.readlist.specs.Open.{Open, OneAt};
+ghost use Rattle.readlaws.specs.Open.{Open, OneAt};
 ghost use Rattle.span.specs.Walks.{WalkOn, PassedTo, Passing, PassedBelow, OnesLeft};
 use shape::Shape;
 
@@ -19,7 +19,7 @@ fn walk_past(block: &[u8], g: Shape, place: usize, rank: usize) -> Walk
 {
     Walk {
         next: rank + 1,
-        past: readlist::value_at(block, g, place, rank) + 1,
+        past: reading::value_at(block, g, place, rank) + 1,
         place: place + 1,
     }
 }
@@ -32,7 +32,7 @@ pub fn pass_to(block: &[u8], g: Shape, w: Walk, n: usize) -> Walk
     if n == w.next {
         return w;
     }
-    let place = readlist::place_near(block, g, w.place, w.next, n - 1);
+    let place = byrank::place_near(block, g, w.place, w.next, n - 1);
     walk_past(block, g, place, n - 1)
 }
 
@@ -41,7 +41,7 @@ pub fn pass_one(block: &[u8], g: Shape, w: Walk) -> Walk
     requires { ⌜ WalkOn (now block) g w × (w .next < g .n) ⌝ }
     ensures { λ r. ⌜ PassedTo (now (block .entry)) g (w .next + 1) r ⌝ }
 {
-    let place = readlist::place_after(block, g, w.place);
+    let place = nearones::place_after(block, g, w.place);
     walk_past(block, g, place, w.next)
 }
 
@@ -62,7 +62,7 @@ fn ones_ahead(block: &[u8], g: Shape, w: Walk) -> Ones
     let k = w.place / 64;
     let f = w.place % 64;
     Ones {
-        left: bits::from_bit(bits::run_word(block, g.upper, k), f),
+        left: fields::from_bit(runs::run_word(block, g.upper, k), f),
         k,
         rank: w.next,
     }
@@ -77,7 +77,7 @@ fn to_one(block: &[u8], g: Shape, from: Ones) -> Ones
     while at.left == 0 {
         let k = at.k + 1;
         let next = Ones {
-            left: bits::run_word(block, g.upper, k),
+            left: runs::run_word(block, g.upper, k),
             k,
             rank: at.rank,
         };

@@ -58,11 +58,11 @@ pub fn put_refused(text: &mut [u8], at: usize, r: Refusal) -> usize
     requires { ⌜ at + length (refusedLine r) ≤ length (now text) ⌝ }
     ensures { λ next. ⌜ Put (refusedLine r) at next (now (text .entry)) (now (text .exit)) ⌝ }
 {
-    let n = numbers::number_of(r);
+    let n = refusals::number_of(r);
     if n == 0 {
         return at;
     }
-    bits::write_u64(text, at, REFUSED);
+    numbers::write_u64(text, at, REFUSED);
     put_line(text, at + 8, &[n])
 }
 
@@ -73,7 +73,7 @@ pub fn read_numbers(bytes: &[u8], numbers: &mut [u32; 8192]) -> usize
 {
     let count = bytes.len() / 4;
     for i in 0..count {
-        numbers[i] = bits::read_u32(bytes, 4 * i) as u32;
+        numbers[i] = numbers::read_u32(bytes, 4 * i) as u32;
     }
     count
 }

@@ -16,8 +16,8 @@ use Rattle.termlaws.proofs.Theorems.{accepted-lists}
 use Rattle.cardlaws.proofs.Theorems.{accepted-term}
 use Rattle.commonlaws.proofs.PickLaws.{lead-leads}
 use Rattle.commonlaws.proofs.CommonLaws.{common-listed}
-use Rattle.query.specs.Lists.{span, pagesAt, pagesIn as allPages}
-use Rattle.query.specs.Listings.{wholeFrom}
+use Rattle.querylaws.specs.Lists.{span, pagesAt, pagesIn as allPages}
+use Rattle.querylaws.specs.Listings.{wholeFrom}
 use Rattle.openlists.specs.Places.{placePart, placePages, placedIn, sourceOf, slotOf, Places, Alike, Opened}
 use Rattle.openlists.proofs.SourceLaws.{span-at, slot-lt, source-slot, source-order}
 use Rattle.openlists.proofs.Theorems.{placed-rise, opened-common}

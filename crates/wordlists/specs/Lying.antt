@@ -11,7 +11,7 @@ use lib.ListN.{length, getD, take, drop}
 use Rattle.rules.specs.Parts.{part}
 use Rattle.rules.specs.ReadTerm.{listsOf}
 use Rattle.rules.specs.Index.{termPart}
-use Rattle.findterm.specs.Starts.{Starts}
+use Rattle.findlaws.specs.Starts.{Starts}
 
 unfoldable pub listOf : List ℕ → ℕ → ℕ → List ℕ
 listOf s t k = part k (listsOf (termPart t s))

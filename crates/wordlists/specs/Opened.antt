@@ -10,8 +10,8 @@ use Rattle.rules.specs.Index.{indexN}
 use Rattle.rules.specs.Common.{common}
 use Rattle.rules.specs.Questions.{listsIn}
 use Rattle.commonlaws.specs.Readers.{Rise, leadPages, otherPages}
-use Rattle.query.specs.Lists.{pagesIn, boundIn, Lists}
-use Rattle.query.specs.Listings.{wholeFrom}
+use Rattle.querylaws.specs.Lists.{pagesIn, boundIn, Lists}
+use Rattle.querylaws.specs.Listings.{wholeFrom}
 
 pub record OpenedPages (s ts r : List ℕ) : Type 0 where
   pub lists : Lists s r (length ts)

@@ -8,7 +8,7 @@ ghost use Rattle.rules.specs.declared.Refusal.the-variants.{Accepted};
 ghost use Rattle.rules.specs.Index.{indexT, indexRefusal};
 ghost use Rattle.rules.specs.Common.{leadOf};
 ghost use Rattle.rules.specs.Questions.{listsIn};
-ghost use Rattle.findterm.specs.Starts.{TermThere, Found};
+ghost use Rattle.findlaws.specs.Starts.{TermThere, Found};
 ghost use Rattle.questions.specs.Formed.{wordsGood};
 ghost use Rattle.wordlists.specs.Lying.{ListLying, AllLying};
 ghost use Rattle.wordlists.specs.Opened.{OpenedPages};
@@ -72,6 +72,6 @@ pub fn open_pages(card: &[u8], terms: &[u32], shapes: &mut [u32]) -> usize
         × OpenedPages (now (card .entry)) (now (terms .entry)) (now (shapes .exit)) ⌝ }
 {
     let mut starts = [0usize; 8];
-    findterm::find_terms(card, terms, &mut starts);
+    findterms::find_terms(card, terms, &mut starts);
     open_found(card, terms, &starts, shapes)
 }

@@ -1,9 +1,2 @@
-pub mod CheckLaws
-pub mod FallLaws
-pub mod WordLaws
-pub mod LayLaws
-pub mod StretchLaws
-pub mod PieceLaws
-pub mod ShapedLaws
 pub mod AnswerLaws
 pub mod Theorems

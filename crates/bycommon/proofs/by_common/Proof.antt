@@ -2,7 +2,7 @@
 use mathlib.Core.Path.{refl}
 use native.Mathlib.Omega.{arith}
 use lib.ListN.{length}
-use Rattle.query.specs.Listings.{wholeFrom}
+use Rattle.querylaws.specs.Listings.{wholeFrom}
 use Rattle.wordlists.specs.Opened.{OpenedPages}
 use Rattle.questions.proofs.WroteLaws.{wrote-none}
 use Rattle.openlists.proofs.FewLaws.{whole-few}

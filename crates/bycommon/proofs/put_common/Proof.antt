@@ -1,7 +1,7 @@
 -- `put_common` lists the pages behind the answer's first three numbers.
 use native.Mathlib.Omega.{arith}
 use lib.ListN.{length-set}
-use Rattle.query.specs.Listings.{wholeFrom}
+use Rattle.querylaws.specs.Listings.{wholeFrom}
 use Rattle.openlists.proofs.FewLaws.{whole-few}
 use Rattle.bycommon.proofs.TallyLaws.{put-tally}
 use borrow.Author.Needs.{needs}

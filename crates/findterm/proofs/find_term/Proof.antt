@@ -1,7 +1,7 @@
 -- `find_term` walks: the terms of an accepted index can be walked.
 use native.Mathlib.Omega.{arith}
 use Rattle.rules.specs.Index.{termPart}
-use Rattle.findterm.proofs.FindLaws.{index-walks}
+use Rattle.findlaws.proofs.FindLaws.{index-walks}
 use Rattle.findterm.proofs.find_term.Statement.{statement}
 use Rattle.findterm.proofs.find_term.Tie as tie
 

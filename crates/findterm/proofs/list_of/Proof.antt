@@ -2,7 +2,7 @@
 use mathlib.Core.Path.{_∙_}
 use Rattle.rules.specs.ReadTerm.{listsOf}
 use Rattle.parts.proofs.PlaceLaws.{after-held, part-front}
-use Rattle.findterm.proofs.FindLaws.{term-walks}
+use Rattle.findlaws.proofs.FindLaws.{term-walks}
 use borrow.Author.Needs.{needs}
 use Rattle.findterm.proofs.list_of.Statement.{statement}
 use Rattle.findterm.proofs.list_of.Tie as tie

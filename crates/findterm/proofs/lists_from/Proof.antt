@@ -1,7 +1,7 @@
 -- `lists_from` walks: the lists of an accepted term can be walked.
 use native.Mathlib.Omega.{arith}
 use Rattle.rules.specs.ReadTerm.{listsOf}
-use Rattle.findterm.proofs.FindLaws.{term-walks}
+use Rattle.findlaws.proofs.FindLaws.{term-walks}
 use Rattle.findterm.proofs.lists_from.Statement.{statement}
 use Rattle.findterm.proofs.lists_from.Tie as tie
 

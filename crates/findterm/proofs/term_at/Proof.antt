@@ -1,6 +1,6 @@
 -- `term_at` takes the part that the term states from its start on.
 use mathlib.Core.Path.{_∙_}
-use Rattle.findterm.proofs.FindLaws.{start-held, start-part}
+use Rattle.findlaws.proofs.FindLaws.{start-held, start-part}
 use Rattle.findterm.proofs.term_at.Statement.{statement}
 use Rattle.findterm.proofs.term_at.Tie as tie
 

@@ -5,9 +5,9 @@ use native.Mathlib.Omega.{arith}
 use borrow.Author.Needs.{needs}
 use Rattle.rules.specs.ReadList.{decode}
 use Rattle.rules.specs.Questions.{pagesIn}
-use Rattle.seek.specs.Cursors.{spentMark}
-use Rattle.query.specs.Queries.{newQuery, Turned}
-use Rattle.query.proofs.NewLaws.{new-running}
+use Rattle.walklaws.specs.Cursors.{spentMark}
+use Rattle.querylaws.specs.Queries.{newQuery, Turned}
+use Rattle.querylaws.proofs.NewLaws.{new-running}
 use Rattle.kinds.proofs.KindLaws.{pages-are, pages-accepted}
 use Rattle.kinds.proofs.RankLaws.{Ranked, turned-ranked}
 use Rattle.kinds.proofs.BoundLaws.{bound-none, bound-marked, bound-some}

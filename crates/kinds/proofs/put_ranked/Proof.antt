@@ -1,8 +1,8 @@
 -- `put_ranked` puts the element of that rank, or none.
 use native.Mathlib.Omega.{arith}
 use Rattle.rules.specs.ReadList.{decode}
-use Rattle.readlist.specs.Open.{Open}
-use Rattle.seek.proofs.OpenLaws.{open-length}
+use Rattle.readlaws.specs.Open.{Open}
+use Rattle.walklaws.proofs.OpenLaws.{open-length}
 use Rattle.kinds.proofs.KindLaws.{rank-none, rank-some, element-below}
 use borrow.Author.Needs.{needs}
 use Rattle.kinds.proofs.put_ranked.Statement.{statement}

@@ -1,5 +1,5 @@
 -- `rank_in` takes the zeros before the element's bit from the bit.
-use Rattle.seek.specs.Cursors.{unused}
+use Rattle.walklaws.specs.Cursors.{unused}
 use Rattle.kinds.specs.Ranks.{rankBy}
 use borrow.Author.Needs.{needs}
 use Rattle.kinds.proofs.rank_in.Statement.{statement}

@@ -1,5 +1,5 @@
 use borrow.Author.Needs.{needs}
-use Rattle.query.specs.Lists.{partAt}
+use Rattle.querylaws.specs.Lists.{partAt}
 use Rattle.phrase.proofs.part_at.Statement.{statement}
 use Rattle.phrase.proofs.part_at.Tie as tie
 

@@ -1,6 +1,6 @@
 -- `pass_on` stays where word i has passed b already, and else passes on from there.
 use borrow.Author.Needs.{needs}
-use Rattle.query.specs.Lists.{shapeIn}
+use Rattle.querylaws.specs.Lists.{shapeIn}
 use Rattle.phrase.proofs.WordLaws.{passed-there, passed-on}
 use Rattle.phrase.proofs.pass_on.Statement.{statement}
 use Rattle.phrase.proofs.pass_on.Tie as tie

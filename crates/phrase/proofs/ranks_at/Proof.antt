@@ -2,7 +2,7 @@
 use Prim.Native.Nat.{_+_}
 use native.Mathlib.Omega.{arith}
 use borrow.Author.Needs.{needs}
-use Rattle.query.specs.Lists.{shapeIn}
+use Rattle.querylaws.specs.Lists.{shapeIn}
 use Rattle.phrase.proofs.WordLaws.{walked, ranks-told}
 use Rattle.phrase.proofs.ranks_at.Statement.{statement}
 use Rattle.phrase.proofs.ranks_at.Tie as tie

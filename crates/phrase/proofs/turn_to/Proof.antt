@@ -3,7 +3,7 @@ use mathlib.Core.Path.{ap, _∙_}
 use native.Mathlib.Omega.{arith}
 use borrow.Author.Needs.{needs}
 use lib.ListN.{length-set}
-use Rattle.query.specs.Lists.{shapeIn}
+use Rattle.querylaws.specs.Lists.{shapeIn}
 use Rattle.span.specs.Walks.{past}
 use Rattle.phrase.specs.Words.{elementsAt}
 use Rattle.phrase.proofs.WordLaws.{walked}

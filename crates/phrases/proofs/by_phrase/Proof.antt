@@ -2,9 +2,9 @@
 use mathlib.Core.Path.{sym, _∙_}
 use native.Mathlib.Omega.{arith}
 use lib.ListN.{length}
-use Rattle.phrases.specs.Asked.{foundIn}
+use Rattle.triallaws.specs.Asked.{foundIn}
 use borrow.Author.Tests.{ltb-true, not-true, not-false}
-use Rattle.phrases.proofs.AnswerLaws.{answer-none, answer-whole, laid-some}
+use Rattle.triallaws.proofs.AnswerLaws.{answer-none, answer-whole, laid-some}
 use borrow.Author.Needs.{needs}
 use Rattle.phrases.proofs.by_phrase.Statement.{statement}
 use Rattle.phrases.proofs.by_phrase.Tie as tie

@@ -4,8 +4,8 @@ use native.Mathlib.Omega.{arith}
 use borrow.Author.Tests.{lt-ltb}
 use lib.ListN.{length}
 use borrow.Author.Needs.{needs}
-use Rattle.phrases.specs.Asked.{foundIn}
-use Rattle.phrases.proofs.PairLaws.{found-few}
+use Rattle.triallaws.specs.Asked.{foundIn}
+use Rattle.triallaws.proofs.PairLaws.{found-few}
 use Rattle.phrases.proofs.fits.Statement.{statement}
 use Rattle.phrases.proofs.fits.Tie as tie
 

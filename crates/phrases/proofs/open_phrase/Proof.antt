@@ -2,7 +2,7 @@
 use Rattle.rules.specs.Index.{indexT}
 use Rattle.questions.proofs.GoodLaws.{words-parts}
 use Rattle.wordlists.proofs.LyingLaws.{word-below}
-use Rattle.phrases.proofs.AnswerLaws.{good-asked}
+use Rattle.triallaws.proofs.AnswerLaws.{good-asked}
 use borrow.Author.Needs.{needs}
 use Rattle.phrases.proofs.open_phrase.Statement.{statement}
 use Rattle.phrases.proofs.open_phrase.Tie as tie

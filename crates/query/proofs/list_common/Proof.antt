@@ -2,7 +2,7 @@
 use mathlib.Core.Path.{refl, _∙_}
 use native.Mathlib.Omega.{arith}
 use borrow.Author.Needs.{needs}
-use Rattle.query.proofs.NewLaws.{new-running}
+use Rattle.querylaws.proofs.NewLaws.{new-running}
 use Rattle.query.proofs.list_common.Statement.{statement}
 use Rattle.query.proofs.list_common.Tie as tie
 

@@ -6,11 +6,11 @@ use Prim.Native.Nat.{_-_, _^_, _<_}
 use native.Mathlib.Omega.{arith}
 use borrow.Author.Needs.{needs}
 use borrow.Author.Tests.{ltb-true, not-true, not-false, lt-ltb}
-use Rattle.seek.specs.Cursors.{unused}
-use Rattle.query.specs.Queries.{seeksOf}
-use Rattle.query.proofs.ScanLaws.{Scanning, scanning-start, scanning-seekable, scanning-found, scanning-some}
-use Rattle.query.proofs.ScanLaws.{scanning-none, scanning-less, scanning-larger, scanning-same, scanning-stops}
-use Rattle.query.proofs.ScanLaws.{scanning-lists}
+use Rattle.walklaws.specs.Cursors.{unused}
+use Rattle.querylaws.specs.Queries.{seeksOf}
+use Rattle.querylaws.proofs.ScanLaws.{Scanning, scanning-start, scanning-seekable, scanning-found, scanning-some}
+use Rattle.querylaws.proofs.ScanLaws.{scanning-none, scanning-less, scanning-larger, scanning-same, scanning-stops}
+use Rattle.querylaws.proofs.ScanLaws.{scanning-lists}
 use Rattle.query.proofs.scan_lists.Statement.{statement}
 use Rattle.query.proofs.scan_lists.Tie as tie
 

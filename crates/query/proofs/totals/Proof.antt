@@ -4,9 +4,9 @@ use Prim.Native.Nat.{_+_, _-_, _≤_}
 use native.Mathlib.Omega.{arith}
 use borrow.Author.Needs.{needs}
 use lib.ListN.{drop}
-use Rattle.seek.specs.Cursors.{unused}
-use Rattle.query.specs.Queries.{total, seeksOf, looksOf}
-use Rattle.query.proofs.QueryLaws.{total-drop, total-none}
+use Rattle.walklaws.specs.Cursors.{unused}
+use Rattle.querylaws.specs.Queries.{total, seeksOf, looksOf}
+use Rattle.querylaws.proofs.QueryLaws.{total-drop, total-none}
 use Rattle.query.proofs.totals.Statement.{statement}
 use Rattle.query.proofs.totals.Tie as tie
 

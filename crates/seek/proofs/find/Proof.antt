@@ -6,10 +6,10 @@ use native.Mathlib.Omega.{arith}
 use borrow.Author.Needs.{needs}
 use borrow.Author.Tests.{leb-true, leb-false, eqb-true, eqb-false}
 use Rattle.rules.specs.ReadList.{listU, decode}
-use Rattle.seek.specs.Cursors.{Moving}
-use Rattle.seek.proofs.OpenLaws.{open-U, open-within, open-n, open-length, open-rising, open-ruled}
-use Rattle.seek.proofs.StartLaws.{own-inside}
-use Rattle.seek.proofs.RuleLaws.{landing-stays, landing-none, landing-end, landing-walked}
+use Rattle.walklaws.specs.Cursors.{Moving}
+use Rattle.walklaws.proofs.OpenLaws.{open-U, open-within, open-n, open-length, open-rising, open-ruled}
+use Rattle.walklaws.proofs.StartLaws.{own-inside}
+use Rattle.walklaws.proofs.RuleLaws.{landing-stays, landing-none, landing-end, landing-walked}
 use Rattle.seek.proofs.find.Statement.{statement}
 use Rattle.seek.proofs.find.Tie as tie
 

@@ -2,8 +2,8 @@
 use mathlib.Core.Path.{_≡_}
 use Prim.Native.Nat.{ℕ, _+_}
 use borrow.Author.Needs.{needs}
-use Rattle.seek.specs.declared.Cursor.{Cursor}
-use Rattle.seek.specs.Cursors.{held, landing, looksFor, movedTo}
+use Rattle.walklaws.specs.declared.Cursor.{Cursor}
+use Rattle.walklaws.specs.Cursors.{held, landing, looksFor, movedTo}
 use Rattle.seek.proofs.seek.Statement.{statement}
 use Rattle.seek.proofs.seek.Tie as tie
 

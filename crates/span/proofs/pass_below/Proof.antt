@@ -4,8 +4,8 @@ use Prim.Native.Nat.{ℕ, _+_, _-_, _*_, _^_, _≤_, _<_}
 use native.Mathlib.Omega.{arith}
 use borrow.Author.Tests.{leb-true, leb-false}
 use lib.Count.{trailingZeros}
-use Rattle.readlist.specs.Open.{OneAt}
-use Rattle.readlist.proofs.ReadLaws.{open-reads}
+use Rattle.readlaws.specs.Open.{OneAt}
+use Rattle.readlaws.proofs.ReadLaws.{open-reads}
 use Rattle.span.specs.Walks.{PassedTo, Passing, OnesLeft}
 use Rattle.span.proofs.WalkLaws.{passing-on}
 use Rattle.span.proofs.OnesLaws.{ones-place, ones-drop}

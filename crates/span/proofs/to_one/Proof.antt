@@ -2,7 +2,7 @@
 use Prim.Native.Nat.{_+_, _-_, _<_}
 use native.Mathlib.Omega.{arith}
 use Rattle.rules.specs.Runs.{wordsFor}
-use Rattle.seek.proofs.OpenLaws.{words-few, look-fits}
+use Rattle.walklaws.proofs.OpenLaws.{words-few, look-fits}
 use Rattle.span.specs.Walks.{OnesLeft}
 use Rattle.span.proofs.OnesLaws.{ones-go-on, ones-next}
 use Rattle.span.proofs.to_one.Statement.{statement}

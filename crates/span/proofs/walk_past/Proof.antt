@@ -2,9 +2,9 @@
 use native.Mathlib.Omega.{arith}
 use borrow.Author.Needs.{needs}
 use Rattle.rules.specs.ReadList.{listU, decode}
-use Rattle.readlist.proofs.ReadLaws.{open-reads, one-ranks}
+use Rattle.readlaws.proofs.ReadLaws.{open-reads, one-ranks}
 use Rattle.seeklaws.proofs.FirstLaws.{rising-below}
-use Rattle.seek.proofs.OpenLaws.{open-U, open-length, open-rising}
+use Rattle.walklaws.proofs.OpenLaws.{open-U, open-length, open-rising}
 use Rattle.span.proofs.WalkLaws.{walk-past}
 use Rattle.span.proofs.walk_past.Statement.{statement}
 use Rattle.span.proofs.walk_past.Tie as tie

@@ -11,7 +11,7 @@ use Rattle.rules.specs.ReadTerm.{listsOf, termRefusal}
 use Rattle.cardlaws.proofs.Theorems.{accepted-term}
 use Rattle.parts.specs.Places.{Walkable}
 use Rattle.parts.proofs.PlaceLaws.{after-held, part-front}
-use Rattle.findterm.proofs.FindLaws.{term-walks, start-held, start-part}
+use Rattle.findlaws.proofs.FindLaws.{term-walks, start-held, start-part}
 use Rattle.wordlists.specs.Lying.{listOf, Lying}
 use Rattle.wordlists.proofs.LyingLaws.{rest-within, list-lies}
 use Rattle.wordlists.proofs.list_in.Statement.{statement}

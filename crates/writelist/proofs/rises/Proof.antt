@@ -6,8 +6,8 @@ use native.Mathlib.Numerals.{add-one}
 use native.Mathlib.Omega.{arith}
 use borrow.Author.Needs.{needs}
 use lib.ListN.{length, getD}
-use Rattle.writelist.proofs.RiseLaws.{rising-none, climbs-end, Compared}
-use Rattle.writelist.proofs.RiseLaws.{compared-none, compared-fell, compared-falls, compared-on}
+use Rattle.filllaws.proofs.RiseLaws.{rising-none, climbs-end, Compared}
+use Rattle.filllaws.proofs.RiseLaws.{compared-none, compared-fell, compared-falls, compared-on}
 use Rattle.writelist.proofs.rises.Statement.{statement}
 use Rattle.writelist.proofs.rises.Tie as tie
 

@@ -10,9 +10,9 @@ use Rattle.rules.specs.List.{block}
 use Rattle.rules.specs.Write.{laid}
 use Rattle.rules.specs.Term.{lentWord, sums, placed, termBlock}
 use Rattle.laws.proofs.RoomLaws.{length-laid}
-use Rattle.writeterm.proofs.PieceLaws.{part-long, piece-laid, header-laid}
-use Rattle.writeterm.proofs.ShapedLaws.{headOf, head-long, pages-ask, counts-ask, places-ask}
-use Rattle.writeterm.proofs.ShapedLaws.{pages-long, counts-long, block-long, pieces-are}
+use Rattle.wordlaws.proofs.PieceLaws.{part-long, piece-laid, header-laid}
+use Rattle.wordlaws.proofs.ShapedLaws.{headOf, head-long, pages-ask, counts-ask, places-ask}
+use Rattle.wordlaws.proofs.ShapedLaws.{pages-long, counts-long, block-long, pieces-are}
 use Rattle.writeterm.proofs.fill_term.Statement.{statement}
 use Rattle.writeterm.proofs.fill_term.Tie as tie
 

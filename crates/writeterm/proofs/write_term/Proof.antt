@@ -12,8 +12,8 @@ use Rattle.termlaws.specs.Words.{Writable}
 use Rattle.termlaws.proofs.BlockLaws.{term-short}
 use Rattle.termlaws.proofs.Theorems.{writes}
 use Rattle.writelist.proofs.WriteLaws.{u-of}
-use Rattle.writeterm.specs.Lists.{Shaped}
-use Rattle.writeterm.proofs.ShapedLaws.{bounds-of, shaped-of, block-long}
+use Rattle.wordlaws.specs.Lists.{Shaped}
+use Rattle.wordlaws.proofs.ShapedLaws.{bounds-of, shaped-of, block-long}
 use Rattle.writeterm.proofs.AnswerLaws.{answer-limit, answer-lists, answer-reach, answer-room}
 use Rattle.writeterm.proofs.write_term.Statement.{statement}
 use Rattle.writeterm.proofs.write_term.Tie as tie

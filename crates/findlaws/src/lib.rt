@@ -1,0 +1,1 @@
+// Where terms and lists lie in a card: specs/ and proofs/ alone.

@@ -1,0 +1,17 @@
+-- `number` reads one number of the 64.
+use Prim.Native.Nat.{_+_, _*_}
+use native.Mathlib.Omega.{arith}
+use borrow.Author.Needs.{needs}
+use Rattle.inhand.proofs.number.Statement.{statement}
+use Rattle.inhand.proofs.number.Tie as tie
+
+cast-result : tie.Need-cast-result
+cast-result c =
+    let a = c .before .args in
+    omega (arith, c .shared-slice-known .given (8 * a .i + a .j))
+
+pub number-spec : {M : Type 1} → statement M
+number-spec =
+    tie.close
+    (tie.spec (λ c. search needs) (λ c. search needs) (λ c. search needs) (λ c. search needs) cast-result
+    (λ c. search needs))

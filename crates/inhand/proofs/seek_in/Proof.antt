@@ -1,0 +1,35 @@
+-- `seek_in` seeks on the part of the card that the list's numbers name, and moves the hand alone.
+use mathlib.Core.Path.{refl}
+use borrow.Author.Needs.{needs}
+use Rattle.querylaws.specs.Lists.{partAt, pagesAt}
+use Rattle.inhand.proofs.seek_in.Statement.{statement}
+use Rattle.inhand.proofs.seek_in.Tie as tie
+
+seek-requires : tie.Need-seek-requires
+unfolding partAt pagesAt
+seek-requires c κs =
+    let p = c .before .before .before .before .before .before .pre in
+    let from = c .before .before .before .number .ensures in
+    let to = c .before .before .number2 .ensures in
+    rw (from, to, c .shape-in .ensures) (p .list .opened, rw (p .list .bound) (p .held), p .seeks, p .looks)
+
+returns : tie.Need-returns
+unfolding partAt pagesAt
+returns c =
+    let p = c .before .before .before .before .before .before .before .pre in
+    let from = c .before .before .before .before .number .ensures in
+    let to = c .before .before .before .number2 .ensures in
+    (refl, rw (c .seek .ensures, from, to, p .list .bound))
+
+pub seek-in-spec : {M : Type 1} → statement M
+seek-in-spec =
+    tie.close
+    (tie.spec
+    (λ c κs. search needs)
+    (λ c κs. search needs)
+    (λ c. search needs)
+    (λ c. search needs)
+    (λ c. search needs)
+    (λ c κs. search needs)
+    seek-requires
+    returns)

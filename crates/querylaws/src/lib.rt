@@ -1,0 +1,49 @@
+// The cursors of a question's lists, and the laws of the step rule on them.
+
+ghost use mathlib.Core.Path.{_≡_};
+ghost use Rattle.querylaws.specs.Queries.{newQuery};
+use walklaws::Cursor;
+use walklaws::SPENT;
+
+// The cursors of a question's lists, the lead's first.
+pub struct Query {
+    pub cursors: [Cursor; 8],
+}
+
+impl Query {
+    // A query that no seek has moved.
+    pub fn new() -> Query
+        ensures { λ r. ⌜ r ≡ newQuery ⌝ }
+    {
+        let cursor = Cursor::new();
+        Query {
+            cursors: [cursor; 8],
+        }
+    }
+}
+
+// The query, and the cursor of it that is in hand.
+pub struct InHand {
+    pub q: Query,
+    pub hand: Cursor,
+}
+
+// A query, how many pages it found before it stopped, and the mark of the page that it stopped at: page + 1, or SPENT.
+pub struct Scan {
+    pub q: Query,
+    pub found: usize,
+    pub mark: u32,
+}
+
+// A query, and the mark of a page: page + 1, or SPENT.
+pub struct Turn {
+    pub q: Query,
+    pub mark: u32,
+}
+
+// How many pages were found, and the seeks and looks that they took.
+pub struct Listed {
+    pub found: usize,
+    pub seeks: u32,
+    pub looks: u32,
+}

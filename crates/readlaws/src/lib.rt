@@ -1,0 +1,1 @@
+// What is known of an accepted list block, and the laws of reading in it: specs/ and proofs/ alone.

@@ -1,0 +1,31 @@
+// Runs of bits in bytes: their words, and fields that may lie over two.
+
+ghost use mathlib.Core.Path.{_≡_};
+ghost use Prim.Native.Nat.{_+_, _*_, _/_, _%_, _<_, _≤_};
+ghost use lib.ListN.{length};
+ghost use Rattle.rules.specs.Runs.{runWord, field, wordsFor};
+
+// Word k of the run that starts at byte `at`.
+pub fn run_word(s: &[u8], at: usize, k: usize) -> u64
+    requires { ⌜ at + 8 * k + 8 ≤ length (now s) ⌝ }
+    ensures { λ r. ⌜ r ≡ runWord (now (s .entry)) at k ⌝ }
+{
+    numbers::read_u64(s, at + 8 * k)
+}
+
+// The w bits of the run from its bit o on.
+pub fn low_field(s: &[u8], at: usize, o: usize, w: usize) -> u64
+    requires { ⌜ (at + 8 * wordsFor (o + w) ≤ length (now s)) × (w ≤ 32) ⌝ }
+    ensures { λ r. ⌜ r ≡ field (now (s .entry)) at o w ⌝ }
+{
+    if w == 0 {
+        return 0;
+    }
+    let k = o / 64;
+    let b = o % 64;
+    let lo = run_word(s, at, k);
+    if b + w <= 64 {
+        return fields::field_of(lo, 0, b, w);
+    }
+    fields::field_of(lo, run_word(s, at, k + 1), b, w)
+}

@@ -1,0 +1,152 @@
+-- From page to page: the cursors after a turn, words that have the pages ahead, and what a page gives for a word alone.
+use mathlib.Core.Path.{_≡_, ap, ap₂, _∙_}
+use mathlib.Core.List.{List}
+use Prim.Native.Nat.{ℕ, _+_, _-_, _*_, _^_, _≤_, _<_}
+use native.Mathlib.Decide.{decLt, ℕ-discrete}
+use native.Mathlib.Omega.{arith}
+use lib.ListN.{length, getD, length-replicate, getD-replicate}
+use Rattle.rules.specs.declared.Refusal.the-variants.{Accepted}
+use Rattle.rules.specs.ReadList.{listU, decode}
+use Rattle.rules.specs.ReadTerm.{pagesOf, termRefusal}
+use Rattle.rules.specs.Questions.{starts, wordsIn}
+use Rattle.termlaws.proofs.ReadLaws.{pages-listed}
+use Rattle.seeklaws.proofs.FirstLaws.{rising-lt}
+use Rattle.commonlaws.specs.Readers.{OnPage, AllOnPage}
+use Rattle.walklaws.specs.Cursors.{spentMark}
+use Rattle.querylaws.specs.declared.Query.{Query}
+use Rattle.querylaws.specs.declared.Turn.{Turn}
+use Rattle.querylaws.specs.Lists.{partAt, shapeIn}
+use Rattle.querylaws.specs.Queries.{readerAt, leadIn, othersIn, Apt, Turned}
+use Rattle.querylaws.proofs.RunLaws.{came}
+use Rattle.querylaws.proofs.TurnLaws.{turned-page}
+use Rattle.span.specs.declared.Walk.{Walk}
+use Rattle.span.specs.Walks.{past}
+use Rattle.span.proofs.WalkLaws.{walk-new}
+use Rattle.span.proofs.SpanLaws.{page-in}
+use Rattle.phrase.specs.declared.Ranks.{Ranks}
+use Rattle.phrase.specs.Words.{elementsAt, walkIn, ranksOf, Walked}
+use Rattle.phrase.proofs.Theorems.{lone-starts}
+use Rattle.openlists.specs.Places.{slotOf}
+use Rattle.kinds.specs.Ranks.{rankBy}
+use Rattle.kinds.proofs.RankLaws.{all-on}
+use Rattle.triallaws.specs.Asked.{termAt, newWalks, Asked, OnAll, Ahead}
+use Rattle.triallaws.proofs.RankLaws.{is-ranked, page-there, from-is, to-is, positions-small}
+
+-- ---- the cursors after a turn
+
+pub turned-least : (s pg : List ℕ) (k : ℕ) (q : Query) (b : ℕ) → Apt s pg k q b → (t : Turn) → Turned s pg k q b t
+    → (t .mark ≡ spentMark → ⊥) → b ≤ t .mark - 1
+turned-least s pg k q b a t u h =
+    let p = turned-page s pg k q b a t u h in
+    let hit = rw (p .3) at (came s pg k q b a .ends) in
+    omega (arith, p .2, hit .later)
+
+pub turned-on : (s ts pg : List ℕ) (q : Query) (b : ℕ) → Apt s pg (length ts) q b → (t : Turn)
+    → Turned s pg (length ts) q b t → (t .mark ≡ spentMark → ⊥) → OnAll s ts pg (t .q) (t .mark - 1)
+turned-on s ts pg q b a t u h =
+    let k : ℕ = length ts in
+    let p = turned-page s pg k q b a t u h in
+    let hit = rw (p .3) at (came s pg k q b a .ends) in
+    let e : t .mark - 1 ≡ p .0 = omega (arith, p .2) in
+    let first : OnPage (p .0) (leadIn s pg (t .q)) = rw (u .lead) (hit .on-page .0) in
+    let rest : AllOnPage (p .0) (othersIn s pg k (t .q)) = rw (u .others) (hit .on-page .1) in
+    record {
+      eight = u .eight;
+      held = u .running (t .mark) h (omega arith) .apt .held;
+      on-page = λ i l. rw e (elim (ℕ-discrete i 0) [
+        | yes z ↦ rw z first
+        | no z ↦ all-on (p .0) (readerAt s pg (t .q)) (k - 1) 1 rest i (omega arith) (omega arith)
+      ]);
+    }
+
+-- ---- from page to page
+
+-- no element of any list is passed
+new-walk : (i : ℕ) → i < 8 → _≡_ {A = Walk} (walkIn newWalks i) (record { next = 0; past = 0; place = 0 })
+new-walk i h =
+    let x : getD newWalks (3 * i) 0 ≡ 0 = getD-replicate 24 (3 * i) 0 0 (omega arith) in
+    let y : getD newWalks (3 * i + 1) 0 ≡ 0 = getD-replicate 24 (3 * i + 1) 0 0 (omega arith) in
+    let z : getD newWalks (3 * i + 2) 0 ≡ 0 = getD-replicate 24 (3 * i + 2) 0 0 (omega arith) in
+    rw (x, y, z)
+
+pub ahead-new : (s ts : List ℕ) (lead : ℕ) (pg ct ps : List ℕ) → Asked s ts lead pg ct ps
+    → Ahead s ts ct ps newWalks newWalks 0
+ahead-new s ts lead pg ct ps a = record {
+  counted-room = length-replicate {A = ℕ} 24 0;
+  walked-room = length-replicate {A = ℕ} 24 0;
+  each = λ i h.
+      let z = new-walk i (omega (arith, a .pages .lists .few)) in
+      let n : walkIn newWalks i .next ≡ 0 = ap (λ (v : Walk). v .next) z in
+      record {
+        counted = rw z (walk-new (partAt s ct i) (shapeIn ct i) (a .counts .slot i h .block .opened));
+        walked = rw z (walk-new (partAt s ps i) (shapeIn ps i) (a .positions .slot i h .block .opened));
+        ahead = λ r l b. (omega (arith, n), omega (arith, n));
+      };
+}
+
+-- what has the pages from b on ahead has those from d on
+pub ahead-more : (s ts ct ps cw pw : List ℕ) (b d : ℕ) → b ≤ d → Ahead s ts ct ps cw pw b → Ahead s ts ct ps cw pw d
+ahead-more s ts ct ps cw pw b d l f = record {
+  counted-room = f .counted-room;
+  walked-room = f .walked-room;
+  each = λ i h. record {
+    counted = f .each i h .counted;
+    walked = f .each i h .walked;
+    ahead = λ r m g. f .each i h .ahead r m (omega arith);
+  };
+}
+
+-- a page behind that of a rank has a larger one
+pub rank-later : (t : List ℕ) → termRefusal t ≡ Accepted → (r q p : ℕ) → r < length (decode (pagesOf t))
+    → getD (decode (pagesOf t)) r 0 ≡ p → p + 1 ≤ getD (decode (pagesOf t)) q 0 → r < q
+rank-later t a r q p h e l =
+    elim (decLt r q) [
+      | yes g ↦ g
+      | no g ↦ elim (ℕ-discrete r q) [
+        | yes d ↦ absurd (omega (arith, ap (λ (j : ℕ). getD (decode (pagesOf t)) j 0) d))
+        | no d ↦ absurd (omega (
+          arith,
+          rising-lt 0 (listU (pagesOf t)) (decode (pagesOf t)) (pages-listed t a .rises) q r
+              (omega (arith, d)) h,
+        ))
+      ]
+    ]
+
+module _ (s ts : List ℕ) (lead : ℕ) (pg ct ps : List ℕ) (a : Asked s ts lead pg ct ps) (p : ℕ) where
+  -- ---- a word alone
+
+  pub lone-counted : (q : Query) → OnAll s ts pg q p → length ts ≡ 1 → (cw pw : List ℕ) → Ahead s ts ct ps cw pw p
+      → (x : Ranks) → x ≡ ranksOf (elementsAt s ct 0) (rankBy pg q (slotOf lead 0)) → (after : List ℕ)
+      → Walked s ct cw 0 (rankBy pg q (slotOf lead 0) + 1) after
+      → (x .from ≤ x .to) × (x .to - x .from ≡ starts (wordsIn s ts) p) × (x .to - x .from < 2 ^ 32)
+      × Ahead s ts ct ps after pw (p + 1)
+  lone-counted q o one cw pw f x is after w =
+      let h : 0 < length ts = a .pages .lists .some in
+      let t : List ℕ = termAt s ts 0 in
+      let rank : ℕ = rankBy pg q (slotOf lead 0) in
+      let r = is-ranked s ts lead pg ct ps a q p o 0 h in
+      let e = page-there s ts lead pg ct ps a q p o 0 h in
+      let from = from-is s ts lead pg ct ps a q p o 0 h x is in
+      let to = to-is s ts lead pg ct ps a q p o 0 h x is in
+      let g = page-in t (a .accepts 0 h) rank r in
+      let n = positions-small s ts lead pg ct ps a q p o 0 h in (
+        omega (arith, from, to, g .some),
+        ap₂ (λ (u v : ℕ). u - v) to from ∙ lone-starts s ts p rank one (a .accepts 0 h) r e,
+        omega (arith, to, g .within, n),
+        record {
+          counted-room = w .readable .room;
+          walked-room = f .walked-room;
+          each = λ i l.
+              let z : i ≡ 0 = omega arith in
+              rw z (record {
+                counted = w .readable .on;
+                walked = f .each 0 h .walked;
+                ahead =
+                    λ j m b. (
+                      omega (arith, w .at, rank-later t (a .accepts 0 h) rank j p r e b),
+                      f .each 0 h .ahead j
+                          m (omega arith) .1,
+                    );
+              });
+        },
+      )

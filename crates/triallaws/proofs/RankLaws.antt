@@ -1,0 +1,260 @@
+-- The rank of a page by the cursor that is on it, and a word turned to the page by its rank.
+use mathlib.Core.Path.{_≡_, sym, ap, ap₂, _∙_}
+use mathlib.Core.List.{List}
+use Prim.Native.Nat.{ℕ, _+_, _≤_, _<_}
+use native.Mathlib.Decide.{ℕ-discrete}
+use native.Mathlib.Omega.{arith}
+use lib.ListN.{length, getD}
+use Rattle.rules.specs.ReadList.{listN, decode}
+use Rattle.rules.specs.ReadTerm.{pagesOf, countsOf, positionsOf, readWord}
+use Rattle.rules.specs.Index.{wordOf}
+use Rattle.rules.specs.Questions.{pagesIn as pagesOn}
+use Rattle.listlaws.proofs.ReadLaws.{accepted-length}
+use Rattle.termlaws.proofs.PassedLaws.{accepted-passed}
+use Rattle.termlaws.proofs.Theorems.{accepted-lists}
+use Rattle.readlaws.proofs.ReadLaws.{open-reads}
+use Rattle.walklaws.proofs.OpenLaws.{open-n, open-length}
+use Rattle.querylaws.specs.declared.Query.{Query}
+use Rattle.querylaws.specs.Lists.{numberOf, partAt, shapeIn, pagesAt, ListAt}
+use Rattle.span.specs.declared.Walk.{Walk}
+use Rattle.span.specs.Walks.{past}
+use Rattle.span.specs.Spans.{positionsBefore, PageIn}
+use Rattle.span.proofs.SpanLaws.{page-in}
+use Rattle.phrase.specs.declared.Ranks.{Ranks}
+use Rattle.phrase.specs.Words.{elementsAt, walkIn, ranksOf, baseIn, endIn, withSpan, Readable, Walked, TermAt}
+use Rattle.phrase.proofs.WordLaws.{spans-long, span-there, span-here}
+use Rattle.phrase.proofs.StandLaws.{ready-more, ready-begun}
+use Rattle.phrase.proofs.Theorems.{page-bounds}
+use Rattle.openlists.specs.Places.{sourceOf, slotOf}
+use Rattle.openlists.proofs.SourceLaws.{slot-lt, source-slot}
+use Rattle.wordlists.specs.Lying.{listOf}
+use Rattle.wordlists.proofs.OpenLaws.{lead-within, slot-pages}
+use Rattle.kinds.specs.Ranks.{rankBy}
+use Rattle.kinds.proofs.RankLaws.{Ranked, ranked}
+use Rattle.trial.specs.declared.Trial.{Trial}
+use Rattle.triallaws.specs.Asked.{termAt, Asked, OnAll, AheadOf, TurnedTo, Trying}
+
+-- ---- the words' lists
+
+module _ (s ts : List ℕ) (lead : ℕ) (pg ct ps : List ℕ) (a : Asked s ts lead pg ct ps) where
+  abbrev k : ℕ
+  k = length ts
+
+  module _ (i : ℕ) (h : i < k) where
+    -- where the pages of word i stand
+    abbrev slot : ℕ
+    slot = slotOf lead i
+
+    pub slot-within : slot < k
+    slot-within = slot-lt lead i k (lead-within s ts pg (a .pages) lead (a .leads)) h
+
+    pub asked-list : ListAt s pg slot
+    asked-list = a .pages .lists .each slot slot-within
+
+    asked-pages : pagesAt s pg slot ≡ decode (pagesOf (termAt s ts i))
+    unfolding pagesOn wordOf readWord
+    asked-pages = slot-pages s ts pg (a .pages) lead (a .leads) i h
+
+    -- as many counts as pages
+    same-count : length (pagesAt s pg slot) ≡ numberOf ct i 7
+    unfolding listOf countsOf shapeIn
+    same-count =
+        let t = termAt s ts i in
+        let y = a .counts .slot i h in
+        ap length asked-pages ∙ accepted-length (pagesOf t) (accepted-lists t (a .accepts i h) .pages)
+        ∙ sym (accepted-passed t (a .accepts i h) .counts-n)
+        ∙ sym (ap listN (y .part-is)) ∙ open-n (partAt s ct i) (shapeIn ct i) (y .block .opened)
+
+    -- ---- a page that all cursors are on
+
+    module _ (q : Query) (p : ℕ) (o : OnAll s ts pg q p) where
+      pub asked-rank : Ranked s pg q slot p
+      asked-rank = ranked s pg q slot p asked-list (o .held slot slot-within) (o .on-page slot slot-within)
+
+      pub rank-counted : rankBy pg q slot < numberOf ct i 7
+      rank-counted = rw (← same-count) (asked-rank .within)
+
+  -- ---- one word more is turned
+
+  module _ (q : Query) (p : ℕ) (o : OnAll s ts pg q p) (i : ℕ) (h : i < k) where
+    abbrev t : List ℕ
+    t = termAt s ts i
+
+    abbrev rank : ℕ
+    rank = rankBy pg q (slotOf lead i)
+
+    pub is-ranked : rank < length (decode (pagesOf t))
+    is-ranked =
+        let e = asked-pages i h in
+        rw e at (asked-rank i h q p o .within)
+
+    pub page-there : getD (decode (pagesOf t)) rank 0 ≡ p
+    page-there =
+        let e = asked-pages i h in
+        rw e at (asked-rank i h q p o .there)
+
+    counts-part : partAt s ct i ≡ countsOf t
+    unfolding listOf countsOf
+    counts-part = a .counts .slot i h .part-is
+
+    positions-part : partAt s ps i ≡ positionsOf t
+    unfolding listOf positionsOf
+    positions-part = a .positions .slot i h .part-is
+
+    on-page : PageIn t rank
+    on-page = page-in t (a .accepts i h) rank is-ranked
+
+    -- there are few positions
+    pub positions-small : length (decode (positionsOf t)) ≤ 16777216
+    unfolding shapeIn
+    positions-small =
+        let o = a .positions .slot i h .block .opened in
+        let r = open-reads (partAt s ps i) (shapeIn ps i) o in
+        omega (
+          arith,
+          r .below,
+          r .within,
+          open-length (partAt s ps i) (shapeIn ps i) o,
+          ap
+              (λ (l : List ℕ). length (decode l)) positions-part,
+        )
+
+    -- what is asked where the page's ranks are read
+    pub rank-ready : (cw pw : List ℕ) → length cw ≡ 24 → AheadOf s ts ct ps cw pw p i → Readable s ct cw i
+        × (walkIn cw i .next ≤ rank) × (rank < numberOf ct i 7)
+    rank-ready cw pw r f = (
+      record { block = a .counts .slot i h .block; room = r; on = f .counted },
+      f .ahead rank is-ranked (rw page-there (omega arith)) .0,
+      rank-counted i h q p o,
+    )
+
+    module _ (x : Ranks) (is : x ≡ ranksOf (elementsAt s ct i) rank) where
+      pub from-is : x .from ≡ positionsBefore t rank
+      from-is = rw (is, counts-part)
+
+      pub to-is : x .to ≡ positionsBefore t (rank + 1)
+      to-is = rw (is, counts-part)
+
+      -- what is asked where the word is turned to them
+      pub turn-ready : (cw pw : List ℕ) → length pw ≡ 24 → AheadOf s ts ct ps cw pw p i → Readable s ps pw i
+          × (walkIn pw i .next ≤ x .from) × (x .from ≤ numberOf ps i 7)
+      unfolding shapeIn
+      turn-ready cw pw r f =
+          let b = a .positions .slot i h .block in
+          let n = open-length (partAt s ps i) (shapeIn ps i) (b .opened) in (
+            record { block = b; room = r; on = f .walked },
+            omega (arith, from-is, f .ahead rank is-ranked (rw page-there (omega arith)) .1),
+            omega (
+              arith,
+              from-is,
+              on-page .some,
+              on-page .within,
+              n,
+              ap (λ (l : List ℕ). length (decode l))
+                  positions-part,
+            ),
+          )
+
+      module _ (at : Trial) (cw pw xs cw′ pw′ xs′ : List ℕ) (y : Trying s ts lead ct ps p at cw pw xs)
+          (next : slotOf lead i ≡ at .turned) (c : Walked s ct cw i (rank + 1) cw′) (w : Walked s ps pw i (x .from) pw′)
+          (m : xs′ ≡ withSpan xs i (past (elementsAt s ps i) (x .from)) (x .to)) where
+        few : i < 8
+        few = omega (arith, a .pages .lists .few)
+
+        abbrev term-here : TermAt s ps xs′ p i t
+        term-here =
+            let e = span-here xs i (past (elementsAt s ps i) (x .from)) (x .to) (y .spans-room) few in
+            record {
+              accepts = a .accepts i h;
+              rank = rank;
+              ranked = is-ranked;
+              page-is = page-there;
+              part-is = positions-part;
+              base-is = rw m (e .0 ∙ ap₂ past (ap decode positions-part) from-is);
+              end-is = rw m (e .1 ∙ to-is);
+            }
+
+        turned-here : TurnedTo s ts ct ps p (at .start) cw′ pw′ xs′ i
+        turned-here =
+            let on = w .readable .on in
+            let before : walkIn pw′ i .past ≡ baseIn xs′ i =
+            on .past-is ∙ ap (past (elementsAt s ps i)) (w .at ∙ from-is)
+            ∙ rw positions-part (sym (term-here .base-is)) in
+            record {
+              term = term-here;
+              counted = record { on = c .readable .on; at = c .at };
+              ready =
+                  ready-more s ps xs′ pw′ i (baseIn xs′ i) (baseIn xs′ i + at .start + i) (omega arith)
+                  (ready-begun s ps xs′ pw′ i (w .readable .room) on before
+                  (omega (arith, w .at, from-is, term-here .end-is, on-page .some))
+                  (page-bounds s ps xs′ p i t term-here .0));
+            }
+
+        -- the other words are as they were
+        module _ (j : ℕ) (d : j ≡ i → ⊥) where
+          turned-there : TurnedTo s ts ct ps p (at .start) cw pw xs j → TurnedTo s ts ct ps p (at .start) cw′ pw′ xs′ j
+          turned-there u =
+              let e = span-there xs i (past (elementsAt s ps i) (x .from)) (x .to) j d in
+              let base : baseIn xs′ j ≡ baseIn xs j = rw m (e .0) in
+              let end : endIn xs′ j ≡ endIn xs j = rw m (e .1) in
+              let v = u .term in
+              record {
+                term = record {
+                  accepts = v .accepts;
+                  rank = v .rank;
+                  ranked = v .ranked;
+                  page-is = v .page-is;
+                  part-is = v .part-is;
+                  base-is = base ∙ v .base-is;
+                  end-is = end ∙ v .end-is;
+                };
+                counted = rw (c .others j d) (u .counted);
+                ready = record {
+                  room = w .readable .room;
+                  short = omega (arith, end, u .ready .short);
+                  passing = rw (end, base, w .others j d) (u .ready .passing);
+                };
+              }
+
+          ahead-there : AheadOf s ts ct ps cw pw p j → AheadOf s ts ct ps cw′ pw′ p j
+          ahead-there f =
+              let u = c .others j d in
+              let v = w .others j d in
+              record {
+                counted = rw u (f .counted);
+                walked = rw v (f .walked);
+                ahead = λ r l b.
+                    let e = f .ahead r l b in (
+                      omega (arith, e .0, ap (λ (z : Walk). z .next) u),
+                      omega (arith, e .1, ap (λ (z : Walk). z .next) v),
+                    );
+              }
+
+        pub trying-turned : Trying s ts lead ct ps p (record {
+          turned = at .turned + 1;
+          start = at .start;
+          standing = at .standing;
+          count = at .count;
+        }) cw′ pw′ xs′
+        trying-turned = record {
+          counted-room = c .readable .room;
+          walked-room = w .readable .room;
+          spans-room = rw m (spans-long xs i (past (elementsAt s ps i) (x .from)) (x .to) ∙ y .spans-room);
+          some = y .some;
+          order = omega (arith, y .order);
+          within = omega (arith, next, slot-within i h);
+          small = y .small;
+          words = λ j l g. elim (ℕ-discrete j i) [
+            | yes e ↦ rw e turned-here
+            | no e ↦ turned-there j e (y .words j l (omega (arith, apart j e)))
+          ];
+          others = λ j l g. elim (ℕ-discrete j i) [
+            | yes e ↦ absurd (omega (arith, next, ap (slotOf lead) e))
+            | no e ↦ ahead-there j e (y .others j l (omega arith))
+          ];
+          stand = y .stand;
+          counted = y .counted;
+        }
+          where
+            apart : (j : ℕ) → (j ≡ i → ⊥) → slotOf lead j ≡ at .turned → ⊥
+            apart j e z = e (sym (source-slot lead j) ∙ ap (sourceOf lead) (z ∙ sym next) ∙ source-slot lead i)

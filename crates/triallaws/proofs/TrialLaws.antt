@@ -1,0 +1,284 @@
+-- Laws of counting the starts on a page: how it begins, what a word's next start leaves, and what it ends with.
+use mathlib.Core.Bool.{true, false}
+use mathlib.Core.Path.{_≡_, refl, sym, ap, _∙_}
+use mathlib.Core.List.{List, _∷_, map}
+use Prim.Native.Nat.{ℕ, _+_, _-_, _*_, _^_, _≤_, _<_}
+use native.Mathlib.Nat.{zero-add}
+use native.Mathlib.Decide.{decLt, ℕ-discrete}
+use native.Mathlib.Omega.{arith}
+use borrow.Author.Tests.{eq-eqb, ne-eqb, lt-ltb, le-ltb}
+use lib.ListN.{length}
+use Rattle.rules.specs.ReadList.{listU}
+use Rattle.rules.specs.ReadTerm.{positionsOf}
+use Rattle.rules.specs.Limits.{limit}
+use Rattle.rules.specs.Questions.{member, positionsOn, starts, wordsIn}
+use Rattle.walklaws.proofs.OpenLaws.{open-within}
+use Rattle.querylaws.specs.declared.Query.{Query}
+use Rattle.querylaws.specs.Lists.{span, partAt, shapeIn}
+use Rattle.querylaws.proofs.SpanLaws.{span-cons}
+use Rattle.span.specs.declared.Walk.{Walk}
+use Rattle.span.proofs.SpanLaws.{before-mono}
+use Rattle.phrase.specs.Starts.{standsIn, startsIn, startsBelow}
+use Rattle.phrase.specs.Words.{walkIn, baseIn, pageAt, Ready, Sought, BlockAt}
+use Rattle.phrase.proofs.StartLaws.{stands-fails, stands-all, starts-in, Rises, rises-more, below-found, below-skip}
+use Rattle.phrase.proofs.StartLaws.{below-le, starts-below}
+use Rattle.phrase.proofs.StandLaws.{ready-same, ready-more}
+use Rattle.phrase.proofs.Theorems.{words-map, page-positions, page-bounds, positions-rise}
+use Rattle.openlists.specs.Places.{sourceOf, slotOf}
+use Rattle.openlists.proofs.SourceLaws.{slot-lt, source-lt, source-slot, slot-source}
+use Rattle.wordlists.proofs.OpenLaws.{lead-within}
+use Rattle.kinds.specs.Ranks.{rankBy}
+use Rattle.trial.specs.declared.Trial.{Trial}
+use Rattle.triallaws.specs.Asked.{termAt, positionsHere, pageHere, Asked, OnAll, AheadOf, Ahead, TurnedTo}
+use Rattle.trial.specs.Tries.{triedAt}
+use Rattle.triallaws.specs.Asked.{Trying}
+use Rattle.triallaws.proofs.RankLaws.{is-ranked, page-there}
+use Rattle.triallaws.proofs.PageLaws.{rank-later}
+
+-- how much is left to be tried: starts, and for each the words
+abbrev pub left : Trial → ℕ
+left at = (16777217 - at .start) * 8 + (8 - at .standing)
+
+-- ---- the beginning
+
+pub trying-begins : (s ts : List ℕ) (lead : ℕ) (ct ps : List ℕ) (p : ℕ) (cw pw xs : List ℕ) → 0 < length ts
+    → length xs ≡ 16 → Ahead s ts ct ps cw pw p
+    → Trying s ts lead ct ps p (record { turned = 0; start = 0; standing = 0; count = 0 }) cw pw xs
+unfolding startsBelow
+trying-begins s ts lead ct ps p cw pw xs n r f = record {
+  counted-room = f .counted-room;
+  walked-room = f .walked-room;
+  spans-room = r;
+  some = n;
+  order = omega arith;
+  within = omega arith;
+  small = omega arith;
+  words = λ i h l. absurd (omega arith);
+  others = λ i h l. f .each i h;
+  stand = λ i h l. absurd (omega arith);
+  counted = refl;
+}
+
+module _ (s ts : List ℕ) (lead : ℕ) (pg ct ps : List ℕ) (a : Asked s ts lead pg ct ps) (p : ℕ) (at : Trial)
+    (cw pw xs : List ℕ) (y : Trying s ts lead ct ps p at cw pw xs) where
+  abbrev k : ℕ
+  k = length ts
+
+  -- the word to be tried
+  abbrev i : ℕ
+  i = sourceOf lead (at .standing)
+
+  pub next-within : i < k
+  next-within = source-lt lead (at .standing) k (lead-within s ts pg (a .pages) lead (a .leads)) (y .some)
+
+  pub next-slot : slotOf lead i ≡ at .standing
+  next-slot = slot-source lead (at .standing)
+
+  pub counted-few : at .count ≤ at .start
+  counted-few = omega (arith, y .counted, below-le (pageHere s ts p) (at .start))
+
+  module _ (turned : at .standing < at .turned) where
+    word : TurnedTo s ts ct ps p (at .start) cw pw xs i
+    word = y .words i next-within (omega (arith, next-slot))
+
+    -- what is asked where its start is sought
+    pub seek-ready : BlockAt s ps i × (length xs ≡ 16) × (baseIn xs i < 2 ^ 32) × (at .start < 2 ^ 32)
+        × Ready s ps xs pw i (baseIn xs i + at .start + i)
+    seek-ready =
+        let b = a .positions .slot i next-within .block in (
+          b,
+          y .spans-room,
+          omega (
+            arith,
+            page-bounds s ps xs p i (termAt s ts i) (word .term) .1,
+            open-within (partAt s ps i) (shapeIn ps i) (b .opened),
+          ),
+          omega (arith, y .small),
+          word .ready,
+        )
+
+    module _ (next : ℕ) (after : List ℕ) (t : Sought s ps xs pw i (at .start) next after) where
+      here : pageAt s ps xs i ≡ positionsHere s ts p i
+      here = page-positions s ps xs p i (termAt s ts i) (word .term)
+
+      -- a number that the word does not have is no start
+      no-start : (d : ℕ) → member (d + i) (pageAt s ps xs i) ≡ false → standsIn (pageHere s ts p) d ≡ false
+      unfolding pageHere
+      no-start d e =
+          stands-fails (positionsHere s ts p) k 0 d i next-within (rw (zero-add i, ← here) e)
+
+      -- the words stand ready for that start and for later ones
+      words-later : (n : ℕ) → at .start ≤ n → (j : ℕ) → j < k → slotOf lead j < at .turned
+          → TurnedTo s ts ct ps p n cw after xs j
+      words-later n l j h g =
+          let u = y .words j h g in
+          record {
+            term = u .term;
+            counted = u .counted;
+            ready = ready-more s ps xs after j (baseIn xs j + at .start + j) (baseIn xs j + n + j) (omega arith)
+                (elim (ℕ-discrete j i) [
+                  | yes e ↦ rw e (t .ready)
+                  | no e ↦ ready-same s ps xs pw after j (baseIn xs j + at .start + j) (t .ready .room) (t .others j e)
+                      (u .ready)
+                ]);
+          }
+
+      others-later : (j : ℕ) → j < k → at .turned ≤ slotOf lead j → AheadOf s ts ct ps cw after p j
+      others-later j h g =
+          let f = y .others j h g in
+          let e : walkIn after j ≡ walkIn pw j =
+          t .others j (λ z. omega (arith, ap (slotOf lead) z, next-slot)) in
+          record {
+            counted = f .counted;
+            walked = rw e (f .walked);
+            ahead = λ r l b.
+                let g = f .ahead r l b in
+                (g .0, omega (arith, g .1, ap (λ (v : Walk). v .next) e));
+          }
+
+      -- ---- a start that the word allows
+
+      module _ (some : next ≡ 2 ^ 32 → ⊥) where
+        -- none lies before it
+        later : startsBelow (pageHere s ts p) next ≡ startsBelow (pageHere s ts p) (at .start)
+        later =
+            below-skip (pageHere s ts p) (at .start) next (t .found some .0)
+            (λ d l h. no-start d (t .first some d l h))
+
+        -- the word stands at the start that was tried
+        stands-there : next ≡ at .start → member (at .start + i) (positionsHere s ts p i) ≡ true
+        stands-there e = rw (e, here) at (t .found some .2)
+
+        -- so do those that were tried before it
+        all-stand : next ≡ at .start → (j : ℕ) → j < k → slotOf lead j < at .standing + 1
+            → member (at .start + j) (positionsHere s ts p j) ≡ true
+        all-stand e j h l =
+            elim (ℕ-discrete j i) [
+              | yes z ↦ rw z (stands-there e)
+              | no z ↦ y .stand j h (apart (slotOf lead j) l (λ g.
+                  z (sym (source-slot lead j) ∙ ap (sourceOf lead) g)))
+            ]
+          where
+            apart : (m : ℕ) → m < at .standing + 1 → (m ≡ at .standing → ⊥) → m < at .standing
+            apart m l g = omega arith
+
+        all-there : next ≡ at .start → (at .standing + 1 < k → ⊥) → standsIn (pageHere s ts p) (at .start) ≡ true
+        unfolding pageHere
+        all-there e g =
+            stands-all (positionsHere s ts p) k 0 (at .start) (λ j h.
+            rw (zero-add j) (all-stand e j h
+            (omega (arith, slot-lt lead j k (lead-within s ts pg (a .pages) lead (a .leads)) h))))
+
+        goes-on : (n m c : ℕ) → at .start ≤ n → n ≤ limit → m < k → m ≤ at .turned
+            → ((j : ℕ) → j < k → slotOf lead j < m → member (n + j) (positionsHere s ts p j) ≡ true)
+            → c ≡ startsBelow (pageHere s ts p) n
+            → Trying s ts lead ct ps p (record { turned = at .turned; start = n; standing = m; count = c }) cw after xs
+        goes-on n m c l small few order stand count = record {
+          counted-room = y .counted-room;
+          walked-room = t .ready .room;
+          spans-room = y .spans-room;
+          some = few;
+          order = order;
+          within = y .within;
+          small = small;
+          words = words-later n l;
+          others = others-later;
+          stand = stand;
+          counted = count;
+        }
+
+        pub trying-goes : Trying s ts lead ct ps p (triedAt at next k) cw after xs
+        unfolding triedAt
+        trying-goes =
+            let f = t .found some in
+            elim (ℕ-discrete next (at .start)) [
+              | yes e ↦ elim (decLt (at .standing + 1) k) [
+                | yes h ↦ rw (eq-eqb next (at .start) e, lt-ltb (at .standing + 1) k h)
+                    (goes-on (at .start) (at .standing + 1) (at .count) (omega arith) (y .small) h (omega arith)
+                    (all-stand e) (y .counted))
+                | no h ↦ rw (eq-eqb next (at .start) e, le-ltb (at .standing + 1) k (omega arith))
+                    (goes-on (at .start + 1) 0 (at .count + 1) (omega arith) (omega (arith, f .1)) (omega (arith, y .some))
+                    (omega arith) (λ j l g. absurd (omega arith))
+                    (ap (λ (c : ℕ). c + 1) (y .counted) ∙ sym (below-found (pageHere s ts p) (at .start) (all-there e h))))
+              ]
+              | no e ↦ rw (ne-eqb next (at .start) e)
+                  (goes-on next 0 (at .count) (f .0) (omega (arith, f .1)) (omega (arith, y .some)) (omega arith)
+                  (λ j l g. absurd (omega arith)) (y .counted ∙ sym later))
+            ]
+
+        -- what is left to be tried becomes less
+        pub trying-less : k ≤ 8 → left (triedAt at next k) < left at
+        unfolding triedAt
+        trying-less few =
+            let f = t .found some in
+            elim (ℕ-discrete next (at .start)) [
+              | yes e ↦ elim (decLt (at .standing + 1) k) [
+                | yes h ↦ rw (eq-eqb next (at .start) e, lt-ltb (at .standing + 1) k h) (omega arith)
+                | no h ↦ rw (eq-eqb next (at .start) e, le-ltb (at .standing + 1) k (omega arith))
+                    (omega (arith, y .some, f .1))
+              ]
+              | no e ↦ rw (ne-eqb next (at .start) e) (omega (arith, y .some, f .0, f .1))
+            ]
+
+      -- ---- the end
+
+      module _ (q : Query) (o : OnAll s ts pg q p) (none : next ≡ 2 ^ 32) where
+        none-later : (n : ℕ) → at .start ≤ n → startsBelow (pageHere s ts p) n ≡ at .count
+        none-later n l =
+            below-skip (pageHere s ts p) (at .start) n l (λ d g h. no-start d (t .none none d g)) ∙ sym (y .counted)
+
+        -- the starts before it are all
+        all-counted : at .count ≡ starts (wordsIn s ts) p
+        unfolding pageHere
+        all-counted =
+            let h : 0 < k = a .pages .lists .some in
+            let f : ℕ → List ℕ = positionsHere s ts p in
+            let U : ℕ = listU (positionsOf (termAt s ts 0)) in
+            let z : k - 0 ≡ k = omega arith in
+            let cons : pageHere s ts p ≡ f 0 ∷ span f 1 (k - 1) = rw z at (span-cons f 0 k h) in
+            let words : pageHere s ts p ≡ map (positionsOn p) (wordsIn s ts) =
+            words-map s (positionsOn p) f ts 0 (λ j l. ap f (zero-add j)) in
+            let rises : Rises 0 (at .start + U) (f 0) =
+            rises-more 0 U (at .start + U) (f 0) (omega arith)
+            (positions-rise (termAt s ts 0) (a .accepts 0 h) (rankBy pg q (slotOf lead 0))
+            (is-ranked s ts lead pg ct ps a q p o 0 h) p (page-there s ts lead pg ct ps a q p o 0 h)) in
+            sym (starts-in p (wordsIn s ts) ∙ ap startsIn (sym words ∙ cons)
+            ∙ starts-below (f 0) (span f 1 (k - 1)) (at .start + U) rises
+            ∙ ap (λ (l : List (List ℕ)). startsBelow l (at .start + U)) (sym cons)
+            ∙ none-later (at .start + U) (omega arith))
+
+        pub trying-ends : (at .count ≡ starts (wordsIn s ts) p) × (at .count < 2 ^ 32) × Ahead s ts ct ps cw after (p + 1)
+        trying-ends = (
+          all-counted,
+          omega (arith, counted-few, y .small),
+          record {
+            counted-room = y .counted-room;
+            walked-room = t .ready .room;
+            each = λ j h. elim (decLt (slotOf lead j) (at .turned)) [
+              | yes g ↦
+                  let d = words-later (at .start) (omega arith) j h g in
+                  let v = d .term in
+                  record {
+                    counted = d .counted .on;
+                    walked = d .ready .passing .on;
+                    ahead = λ r l b.
+                        let e = rank-later (termAt s ts j) (v .accepts) (v .rank) r p (v .ranked) (v .page-is) b in (
+                          omega (arith, d .counted .at, e),
+                          omega (
+                            arith,
+                            d .ready .passing .inside,
+                            v .end-is,
+                            before-mono (termAt s ts j) (v .accepts) (v .rank + 1) r (omega (arith, e)) (omega arith),
+                          ),
+                        );
+                  }
+              | no g ↦
+                  let f = others-later j h (omega arith) in
+                  record {
+                    counted = f .counted;
+                    walked = f .walked;
+                    ahead = λ r l b. f .ahead r l (omega arith);
+                  }
+            ];
+          },
+        )
