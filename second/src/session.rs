@@ -116,13 +116,14 @@ impl<'a> Shared<'a> {
         self.differences.load(Ordering::Relaxed)
     }
 
-    /// Does every job, and adds up what the threads have counted.
+    /// Does every job, with this thread as one of those at work, and adds up what they have counted.
     fn work_on_all_threads(&self) -> Result<Tally, String> {
         std::thread::scope(|scope| {
             let start = |number| scope.spawn(move || Worker::work(self, number));
-            let workers: Vec<_> = (0..self.options.threads).map(start).collect();
-            let ended: Vec<_> = workers.into_iter().map(|worker| worker.join()).collect();
-            let mut tally = Tally::default();
+            let others: Vec<_> = (1..self.options.threads).map(start).collect();
+            let own = Worker::work(self, 0);
+            let ended: Vec<_> = others.into_iter().map(|worker| worker.join()).collect();
+            let mut tally = own?;
             for counted in ended {
                 tally.add(&counted.map_err(|_| "a thread broke off")??);
             }
