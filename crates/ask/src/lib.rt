@@ -11,6 +11,7 @@ ghost use Rattle.rules.specs.Ask.{asked, put, fitted};
 ghost use Rattle.rules.specs.Promises.{Answered};
 ghost use Rattle.questions.specs.Formed.{formed, answersTo};
 ghost use Rattle.questions.specs.Wrote.{Wrote};
+use rules::INDEX_T_AT;
 use rules::Outcome;
 use rules::Refusal;
 
@@ -76,7 +77,7 @@ pub fn ask(card: &[u8], questions: &[u32], room: &mut [u32]) -> Outcome
             used: 0,
         };
     }
-    let t = numbers::read_u16(card, 9) as usize;
+    let t = numbers::read_u16(card, INDEX_T_AT) as usize;
     if !questions::well_formed(questions, t) {
         return Outcome {
             refusal: Refusal::Question,

@@ -6,7 +6,14 @@ ghost use lib.ListN.{length, drop};
 ghost use Rattle.rules.specs.Index.{termsRefusal};
 ghost use Rattle.rules.specs.Promises.{IndexChecked};
 ghost use Rattle.checkindex.specs.Terms.{wordRefusal, wordInside};
+use rules::INDEX_HEADER;
+use rules::INDEX_N_AT;
+use rules::INDEX_T_AT;
+use rules::LIMIT;
+use rules::LIST_U_AT;
 use rules::Refusal;
+use rules::TERM_HEADER;
+use rules::TERM_LIMIT;
 
 // The refusal of a term block that should be of pages below n.
 fn check_word(block: &[u8], n: usize) -> Refusal
@@ -17,7 +24,7 @@ fn check_word(block: &[u8], n: usize) -> Refusal
         return term;
     }
     let pages = findterm::pages_of(block);
-    if numbers::read_u32(pages, 5) as usize != n {
+    if numbers::read_u32(pages, LIST_U_AT) as usize != n {
         return Refusal::Parts;
     }
     Refusal::Accepted
@@ -28,7 +35,7 @@ fn check_inside(s: &[u8], at: usize, n: usize) -> Refusal
     requires { ⌜ at ≤ length (now s) ⌝ }
     ensures { λ r. ⌜ r ≡ wordInside n (drop at (now (s .entry))) ⌝ }
 {
-    let front = parts::check_front(s, at, 44);
+    let front = parts::check_front(s, at, TERM_HEADER);
     if !parts::passed(front) {
         return front;
     }
@@ -59,18 +66,18 @@ pub fn check_terms(s: &[u8], t: usize, n: usize) -> Refusal
 pub fn check_index(card: &[u8]) -> Refusal
     ensures { λ r. ⌜ IndexChecked (now (card .entry)) r ⌝ }
 {
-    let head = parts::check_head(card, 11);
+    let head = parts::check_head(card, INDEX_HEADER);
     if !parts::passed(head) {
         return head;
     }
-    let n = numbers::read_u32(card, 5) as usize;
-    if 16777216 < n {
+    let n = numbers::read_u32(card, INDEX_N_AT) as usize;
+    if LIMIT < n {
         return Refusal::Limit;
     }
-    let t = numbers::read_u16(card, 9) as usize;
-    if 4096 < t {
+    let t = numbers::read_u16(card, INDEX_T_AT) as usize;
+    if TERM_LIMIT < t {
         return Refusal::Limit;
     }
     let end = card.len();
-    check_terms(&card[11..end], t, n)
+    check_terms(&card[INDEX_HEADER..end], t, n)
 }

@@ -2,26 +2,32 @@
 
 ghost use Prim.Native.Nat.{_<_};
 ghost use Rattle.rules.specs.Promises.{ListChecked};
+use rules::LIMIT;
+use rules::LIST_HEADER;
+use rules::LIST_N_AT;
+use rules::LIST_U_AT;
 use rules::Refusal;
+use rules::VERSION;
+use rules::VERSION_AT;
 
 // The refusal of a list block.
 pub fn check_list(block: &[u8]) -> Refusal
     ensures { λ r. ⌜ ListChecked (now (block .entry)) r ⌝ }
 {
-    if block.len() < 13 {
+    if block.len() < LIST_HEADER {
         return Refusal::Short;
     }
     if numbers::read_u32(block, 0) as usize != block.len() {
         return Refusal::Length;
     }
-    if block[4] != 1 {
+    if block[VERSION_AT] != VERSION {
         return Refusal::Version;
     }
-    let u = numbers::read_u32(block, 5) as usize;
-    if 16777216 < u {
+    let u = numbers::read_u32(block, LIST_U_AT) as usize;
+    if LIMIT < u {
         return Refusal::Limit;
     }
-    let n = numbers::read_u32(block, 9) as usize;
+    let n = numbers::read_u32(block, LIST_N_AT) as usize;
     if u < n {
         return Refusal::Layout;
     }

@@ -10,6 +10,8 @@ ghost use Rattle.rules.specs.Runs.{wordsFor};
 ghost use Rattle.checklaws.specs.Check.{Tells, Clear, Holds, Pointed, Stands, nextLow, Ready};
 use checklaws::Low;
 use checklaws::Mid;
+use rules::POINTER_SIZE;
+use rules::POINTER_ZERO_AT;
 use shape::Shape;
 
 // Whether the run's bits from number `size` on, which are in its last word, are 0.
@@ -56,7 +58,7 @@ fn pointer_ok(s: &[u8], q: usize, x: u64, base: usize, i: usize) -> bool
     requires { ⌜ (13 + 4 * q ≤ length (now s)) × (q ≤ 2 ^ 18) × (base ≤ 2 ^ 26) × (i ≤ 2 ^ 26) ⌝ }
     ensures { λ r. ⌜ Tells r (Stands x base i (256 * q) (beAt 4 (now (s .entry)) (9 + 4 * q))) ⌝ }
 {
-    let p = numbers::read_u32(s, 9 + 4 * q) as usize;
+    let p = numbers::read_u32(s, POINTER_ZERO_AT + POINTER_SIZE * q) as usize;
     if p <= base {
         return false;
     }
@@ -78,7 +80,7 @@ pub fn next_pointer(s: &[u8], g: Shape, m: Mid, x: u64, k: usize) -> usize
 {
     let i = m.i;
     let next = m.next;
-    if g.lower <= 9 + 4 * next {
+    if g.lower <= POINTER_ZERO_AT + POINTER_SIZE * next {
         return next;
     }
     if 64 * k + 64 < 256 * next + i + u64::count_ones(x) as usize {

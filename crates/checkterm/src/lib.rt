@@ -12,14 +12,19 @@ ghost use Rattle.rules.specs.Parts.{inside};
 ghost use Rattle.rules.specs.ReadTerm.{listsOf};
 ghost use Rattle.rules.specs.Promises.{TermChecked};
 ghost use Rattle.checkterm.specs.Lists.{listsRefusal, disagreeing, restRefusal, ListsIn};
+use rules::LIST_HEADER;
+use rules::LIST_N_AT;
+use rules::LIST_U_AT;
+use rules::LISTS_AT;
 use rules::Refusal;
+use rules::TERM_HEADER;
 
 // The refusal of the list block at byte `at`, where the bytes behind it are what remains of the term.
 fn check_inside(block: &[u8], at: usize) -> Refusal
     requires { ⌜ at ≤ length (now block) ⌝ }
     ensures { λ r. ⌜ r ≡ inside listHeader listRefusal (drop at (now (block .entry))) ⌝ }
 {
-    let front = parts::check_front(block, at, 13);
+    let front = parts::check_front(block, at, LIST_HEADER);
     if !parts::passed(front) {
         return front;
     }
@@ -31,7 +36,7 @@ fn check_lists(block: &[u8]) -> Refusal
     requires { ⌜ 5 ≤ length (now block) ⌝ }
     ensures { λ r. ⌜ r ≡ listsRefusal 3 (listsOf (now (block .entry))) ⌝ }
 {
-    let mut at = 5;
+    let mut at = LISTS_AT;
     let mut left: usize = 3;
     while 0 < left {
         let r = check_inside(block, at);
@@ -62,17 +67,17 @@ fn disagree(pages: &[u8], counts: &[u8], positions: &[u8]) -> bool
         × (listRefusal (now positions) ≡ Accepted) ⌝ }
     ensures { λ r. ⌜ r ≡ disagreeing (now (pages .entry)) (now (counts .entry)) (now (positions .entry)) ⌝ }
 {
-    if numbers::read_u32(counts, 9) != numbers::read_u32(pages, 9) {
+    if numbers::read_u32(counts, LIST_N_AT) != numbers::read_u32(pages, LIST_N_AT) {
         return true;
     }
-    let total = numbers::read_u32(counts, 5);
+    let total = numbers::read_u32(counts, LIST_U_AT);
     if total as usize != next_of(counts) {
         return true;
     }
-    if numbers::read_u32(positions, 9) != total {
+    if numbers::read_u32(positions, LIST_N_AT) != total {
         return true;
     }
-    numbers::read_u32(positions, 5) as usize != next_of(positions)
+    numbers::read_u32(positions, LIST_U_AT) as usize != next_of(positions)
 }
 
 // The refusal of what follows the lists: bytes left over, and then lists that disagree.
@@ -80,13 +85,13 @@ fn check_rest(block: &[u8]) -> Refusal
     requires { ⌜ ListsIn (now block) ⌝ }
     ensures { λ r. ⌜ r ≡ restRefusal (now (block .entry)) ⌝ }
 {
-    let rest = parts::blocks_from(block, 5, 2);
+    let rest = parts::blocks_from(block, LISTS_AT, 2);
     let positions = parts::part_at(rest, 0);
     if positions.len() < rest.len() {
         return Refusal::Layout;
     }
-    let pages = parts::block_of(block, 5, 0);
-    let counts = parts::block_of(block, 5, 1);
+    let pages = parts::block_of(block, LISTS_AT, 0);
+    let counts = parts::block_of(block, LISTS_AT, 1);
     if disagree(pages, counts, positions) {
         return Refusal::Parts;
     }
@@ -97,7 +102,7 @@ fn check_rest(block: &[u8]) -> Refusal
 pub fn check_term(block: &[u8]) -> Refusal
     ensures { λ r. ⌜ TermChecked (now (block .entry)) r ⌝ }
 {
-    let head = parts::check_head(block, 44);
+    let head = parts::check_head(block, TERM_HEADER);
     if !parts::passed(head) {
         return head;
     }

@@ -6,7 +6,15 @@ ghost use lib.ListN.{length};
 ghost use Rattle.rules.specs.Write.{laid};
 ghost use Rattle.rules.specs.Index.{indexFront, closeRefusal};
 ghost use Rattle.rules.specs.Promises.{IndexClosed};
+use rules::FOUR_BYTES;
+use rules::INDEX_HEADER;
+use rules::INDEX_N_AT;
+use rules::INDEX_T_AT;
+use rules::LIMIT;
 use rules::Refusal;
+use rules::TERM_LIMIT;
+use rules::VERSION;
+use rules::VERSION_AT;
 use rules::Written;
 
 // The refusal of closing, before anything is written.
@@ -16,19 +24,19 @@ fn close_refusal(buffer: &[u8], used: usize, n: usize, t: usize) -> Refusal
     if buffer.len() < used {
         return Refusal::Room;
     }
-    if used < 11 {
+    if used < INDEX_HEADER {
         return Refusal::Short;
     }
-    if 4294967296 <= used {
+    if FOUR_BYTES <= used {
         return Refusal::Limit;
     }
-    if 16777216 < n {
+    if LIMIT < n {
         return Refusal::Limit;
     }
-    if 4096 < t {
+    if TERM_LIMIT < t {
         return Refusal::Limit;
     }
-    checkindex::check_terms(&buffer[11..used], t, n)
+    checkindex::check_terms(&buffer[INDEX_HEADER..used], t, n)
 }
 
 // Writes the header of an index of `used` bytes.
@@ -37,9 +45,9 @@ fn write_front(buffer: &mut [u8], used: usize, n: usize, t: usize)
     ensures { λ _. ⌜ now (buffer .exit) ≡ laid (indexFront used n t) (now (buffer .entry)) ⌝ }
 {
     numbers::write_u32(buffer, 0, used as u64);
-    buffer[4] = 1;
-    numbers::write_u32(buffer, 5, n as u64);
-    numbers::write_u16(buffer, 9, t as u64);
+    buffer[VERSION_AT] = VERSION;
+    numbers::write_u32(buffer, INDEX_N_AT, n as u64);
+    numbers::write_u16(buffer, INDEX_T_AT, t as u64);
 }
 
 // Closes an index of t terms of pages below n in the first `used` bytes: the first 11 are its header's.

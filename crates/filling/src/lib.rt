@@ -12,6 +12,10 @@ ghost use Rattle.filllaws.specs.Filling.{Full, Closed};
 use filllaws::Filling;
 use filllaws::Lows;
 use filllaws::Ups;
+use rules::LIST_N_AT;
+use rules::LIST_U_AT;
+use rules::VERSION;
+use rules::VERSION_AT;
 use shape::Shape;
 
 // Writes the header of a block of shape g; no element is laid yet.
@@ -20,9 +24,9 @@ pub fn begin(room: &mut [u8], g: Shape) -> Filling
     ensures { λ r. ⌜ Partly g [] r (now (room .entry)) (now (room .exit)) ⌝ }
 {
     numbers::write_u32(room, 0, g.end as u64);
-    room[4] = 1;
-    numbers::write_u32(room, 5, g.u as u64);
-    numbers::write_u32(room, 9, g.n as u64);
+    room[VERSION_AT] = VERSION;
+    numbers::write_u32(room, LIST_U_AT, g.u as u64);
+    numbers::write_u32(room, LIST_N_AT, g.n as u64);
     Filling {
         count: 0,
         lows: Lows {

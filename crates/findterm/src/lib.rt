@@ -7,13 +7,15 @@ ghost use Rattle.rules.specs.Parts.{after, part};
 ghost use Rattle.rules.specs.ReadTerm.{listsOf, pagesOf, termRefusal};
 ghost use Rattle.rules.specs.Index.{indexT, termPart, indexRefusal};
 ghost use Rattle.findlaws.specs.Starts.{TermThere, TermAt};
+use rules::INDEX_HEADER;
+use rules::LISTS_AT;
 
 // Term number t.
 pub fn find_term(card: &[u8], t: usize) -> &[u8]
     requires { ⌜ (indexRefusal (now card) ≡ Accepted) × (t < indexT (now card)) ⌝ }
     ensures { λ r. ⌜ now r ≡ termPart t (now (card .entry)) ⌝ }
 {
-    parts::block_of(card, 11, t)
+    parts::block_of(card, INDEX_HEADER, t)
 }
 
 // The term that starts at byte `at`, as the part of the card that it is.
@@ -29,7 +31,7 @@ pub fn lists_from(term: &[u8], k: usize) -> &[u8]
     requires { ⌜ (termRefusal (now term) ≡ Accepted) × (k < 3) ⌝ }
     ensures { λ r. ⌜ now r ≡ after k (listsOf (now (term .entry))) ⌝ }
 {
-    parts::blocks_from(term, 5, k)
+    parts::blocks_from(term, LISTS_AT, k)
 }
 
 // List number k.

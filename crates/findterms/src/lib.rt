@@ -6,6 +6,7 @@ ghost use lib.ListN.{length};
 ghost use Rattle.rules.specs.declared.Refusal.the-variants.{Accepted};
 ghost use Rattle.rules.specs.Index.{indexRefusal};
 ghost use Rattle.findlaws.specs.Starts.{Below, Found, LeastFrom, Put};
+use rules::INDEX_HEADER;
 
 // More than any number of a term.
 const NONE: usize = 4294967296;
@@ -49,7 +50,7 @@ pub fn find_terms(card: &[u8], terms: &[u32], starts: &mut [usize])
     ensures { λ _. ⌜ Found (now (card .entry)) (now (terms .entry)) (now (starts .exit)) ⌝ }
 {
     let mut t = 0;
-    let mut rest = &card[11..];
+    let mut rest = &card[INDEX_HEADER..];
     let mut next = least_from(terms, 0);
     while next < NONE {
         let left = parts::blocks_from(rest, 0, next - t);

@@ -10,6 +10,7 @@ ghost use Rattle.rules.specs.Common.{leadOf};
 ghost use Rattle.shape.specs.Shape.{shapeOf};
 ghost use Rattle.openlists.specs.Places.{bytesOf, placePart, placePages, placedIn, numbersOf, numbersAt};
 ghost use Rattle.openlists.specs.Places.{sourceOf, Within, PlaceOk, Places, Alike, Slots, Opened};
+use rules::LIST_N_AT;
 
 // The bytes at place i.
 fn part_of<'a>(card: &'a [u8], places: &[u32], i: usize) -> &'a [u8]
@@ -26,7 +27,7 @@ fn length_of(card: &[u8], places: &[u32], i: usize) -> usize
     requires { ⌜ (i < 8) × PlaceOk (now card) (now places) i ⌝ }
     ensures { λ r. ⌜ r ≡ length (placePages (now (card .entry)) (now (places .entry)) i) ⌝ }
 {
-    numbers::read_u32(part_of(card, places, i), 9) as usize
+    numbers::read_u32(part_of(card, places, i), LIST_N_AT) as usize
 }
 
 // The place of the shortest list, the first of equals.

@@ -9,6 +9,8 @@ ghost use Rattle.rules.specs.Parts.{after, part};
 ghost use Rattle.laws.specs.Blocks.{blockAt};
 ghost use Rattle.parts.specs.Places.{headRefusal, frontRefusal, Held, Walkable};
 use rules::Refusal;
+use rules::VERSION;
+use rules::VERSION_AT;
 
 // Whether nothing is refused.
 pub fn passed(r: Refusal) -> bool
@@ -31,7 +33,7 @@ pub fn check_head(block: &[u8], h: usize) -> Refusal
     if numbers::read_u32(block, 0) as usize != block.len() {
         return Refusal::Length;
     }
-    if block[4] != 1 {
+    if block[VERSION_AT] != VERSION {
         return Refusal::Version;
     }
     Refusal::Accepted

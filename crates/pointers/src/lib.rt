@@ -5,6 +5,8 @@ ghost use Prim.Native.Nat.{_+_, _-_, _*_, _/_, _≤_, _<_};
 ghost use lib.Dec.{leb};
 ghost use Rattle.readlaws.specs.Open.{Open, shapeIn, pointersIn, pointerOf, HighEnd, Among, LastBefore};
 ghost use Rattle.readlaws.specs.Open.{Sought};
+use rules::LIST_HEADER;
+use rules::POINTER_SIZE;
 use shape::Shape;
 
 // The number of the last pointer.
@@ -12,7 +14,7 @@ pub fn last_pointer(g: Shape) -> usize
     requires { ⌜ 13 ≤ g .lower ⌝ }
     ensures { λ r. ⌜ r ≡ pointersIn g ⌝ }
 {
-    (g.lower - 13) / 4
+    (g.lower - LIST_HEADER) / POINTER_SIZE
 }
 
 // Whether pointer number i has at most `rank` ones before it.

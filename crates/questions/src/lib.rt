@@ -6,6 +6,7 @@ ghost use Prim.Native.Nat.{_+_, _≤_, _<_};
 ghost use lib.ListN.{length, drop};
 ghost use Rattle.rules.specs.Questions.{allBelow, goodQuestion, countOf};
 ghost use Rattle.questions.specs.Formed.{pairGood, wordsGood, formed};
+use rules::PHRASE_LIMIT;
 
 // Whether every one of the numbers is below t.
 fn all_below(args: &[u32], t: usize) -> bool
@@ -38,7 +39,7 @@ fn words_good(args: &[u32], t: usize) -> bool
     if args.len() < 1 {
         return false;
     }
-    if 8 < args.len() {
+    if PHRASE_LIMIT < args.len() {
         return false;
     }
     all_below(args, t)

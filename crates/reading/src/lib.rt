@@ -9,6 +9,10 @@ ghost use Rattle.rules.specs.ReadList.{listU, listN, decode, listRefusal};
 ghost use Rattle.shape.specs.Shape.{shapeOf};
 ghost use Rattle.readlaws.specs.Open.{Open, shapeIn, pointersIn, PointerAt};
 ghost use Rattle.readlaws.specs.Open.{OneAt};
+use rules::LIST_N_AT;
+use rules::LIST_U_AT;
+use rules::POINTER_SIZE;
+use rules::POINTER_ZERO_AT;
 use shape::Shape;
 
 // The shape of an accepted block.
@@ -16,8 +20,8 @@ pub fn shape_at(block: &[u8]) -> Shape
     requires { ⌜ listRefusal (now block) ≡ Accepted ⌝ }
     ensures { λ r. ⌜ r ≡ shapeOf (listU (now (block .entry))) (listN (now (block .entry))) ⌝ }
 {
-    let u = numbers::read_u32(block, 5) as usize;
-    let n = numbers::read_u32(block, 9) as usize;
+    let u = numbers::read_u32(block, LIST_U_AT) as usize;
+    let n = numbers::read_u32(block, LIST_N_AT) as usize;
     shape::shape_of(u, n)
 }
 
@@ -39,7 +43,7 @@ pub fn pointer_in(block: &[u8], i: usize) -> usize
     if i == 0 {
         return 0;
     }
-    numbers::read_u32(block, 9 + 4 * i) as usize
+    numbers::read_u32(block, POINTER_ZERO_AT + POINTER_SIZE * i) as usize
 }
 
 // The same of a block whose shape is g.

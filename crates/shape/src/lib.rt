@@ -5,6 +5,8 @@ ghost use Prim.Native.Nat.{_^_, _<_, _≤_};
 ghost use Rattle.rules.specs.Limits.{limit};
 ghost use Rattle.rules.specs.List.{width};
 ghost use Rattle.shape.specs.Shape.{shapeOf};
+use rules::LIST_HEADER;
+use rules::POINTER_SIZE;
 
 // U, n and w; the bits of the upper run; and the bytes at which the runs start and the block ends.
 pub struct Shape {
@@ -36,14 +38,14 @@ pub fn shape_of(u: usize, n: usize) -> Shape
             n,
             w: 0,
             bits: 0,
-            lower: 13,
-            upper: 13,
-            end: 13,
+            lower: LIST_HEADER,
+            upper: LIST_HEADER,
+            end: LIST_HEADER,
         };
     }
     let w = width(u, n);
     let zeros = u >> w;
-    let lower = 13 + 4 * (zeros / 256);
+    let lower = LIST_HEADER + POINTER_SIZE * (zeros / 256);
     let upper = lower + 8 * ((n * w + 63) / 64);
     Shape {
         u,

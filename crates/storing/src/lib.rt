@@ -5,6 +5,8 @@ ghost use Prim.Native.Nat.{_+_, _-_, _*_, _/_, _^_, _<_, _≤_, min};
 ghost use lib.ListN.{length};
 ghost use Rattle.filllaws.specs.Filling.{Stored, Flushed, Lower};
 use filllaws::Lows;
+use rules::POINTER_SIZE;
+use rules::POINTER_ZERO_AT;
 
 // The lesser of two numbers.
 pub fn lesser(a: usize, b: usize) -> usize
@@ -38,7 +40,11 @@ pub fn put_pointers(room: &mut [u8], next: usize, high: usize, count: usize) -> 
 {
     let end = high / 256 + 1;
     for q in next..end {
-        numbers::write_u32(room, 9 + 4 * q, (256 * q + count) as u64);
+        numbers::write_u32(
+            room,
+            POINTER_ZERO_AT + POINTER_SIZE * q,
+            (256 * q + count) as u64,
+        );
     }
     end
 }

@@ -6,6 +6,7 @@ ghost use Prim.Native.Nat.{_+_, _≤_, _<_};
 ghost use lib.ListN.{length};
 ghost use Rattle.rules.specs.Term.{lentWord, total, next, placed, places, positive, inOrderByPage, validWord};
 ghost use Rattle.wordlaws.specs.Reach.{summing, capped, fallAt, fallsIn, Reached};
+use rules::LIMIT;
 use wordlaws::Reach;
 
 // Whether every count is at least 1 and their sum is n.
@@ -29,8 +30,8 @@ fn counts_fit(counts: &[u32], n: usize) -> bool
 fn capped(x: usize) -> usize
     ensures { λ r. ⌜ r ≡ capped x ⌝ }
 {
-    if 16777216 < x {
-        return 16777217;
+    if LIMIT < x {
+        return LIMIT + 1;
     }
     x
 }

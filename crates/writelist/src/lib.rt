@@ -5,6 +5,7 @@ ghost use mathlib.Core.Path.{_≡_};
 ghost use Prim.Native.Nat.{_-_, _<_};
 ghost use Rattle.rules.specs.List.{rising};
 ghost use Rattle.rules.specs.Promises.{ListWritten};
+use rules::LIMIT;
 use rules::Refusal;
 use rules::Written;
 
@@ -32,7 +33,7 @@ pub fn rises(u: usize, list: &[u32]) -> bool
 pub fn write_list(u: u32, list: &[u32], room: &mut [u8]) -> Written
     ensures { λ r. ⌜ ListWritten u (now (list .entry)) (now (room .entry)) r (now (room .exit)) ⌝ }
 {
-    if 16777216 < u {
+    if LIMIT < u as usize {
         return Written {
             refusal: Refusal::Limit,
             size: 0,

@@ -9,7 +9,11 @@ ghost use Rattle.rules.specs.Term.{lentWord, next};
 ghost use Rattle.rules.specs.Term.{termBlock};
 ghost use Rattle.rules.specs.Promises.{TermWritten};
 ghost use Rattle.wordlaws.specs.Lists.{Shaped};
+use rules::LIMIT;
+use rules::LISTS_AT;
 use rules::Refusal;
+use rules::VERSION;
+use rules::VERSION_AT;
 use rules::Written;
 use shape::Shape;
 
@@ -30,11 +34,11 @@ fn fill_term(
         ≡ laid (termBlock (p .u) (lentWord (now (pages .entry)) (now (counts .entry)) (now (positions .entry))))
         (now (room .entry)) ⌝ }
 {
-    let second = 5 + p.end;
+    let second = LISTS_AT + p.end;
     let third = second + c.end;
     numbers::write_u32(room, 0, (third + q.end) as u64);
-    room[4] = 1;
-    filling::fill(&mut room[5..], p, pages);
+    room[VERSION_AT] = VERSION;
+    filling::fill(&mut room[LISTS_AT..], p, pages);
     fillsums::fill_sums(&mut room[second..], c, counts);
     fillplaces::fill_places(&mut room[third..], q, counts, positions);
 }
@@ -51,7 +55,7 @@ pub fn write_term(
     ensures { λ r. ⌜ TermWritten n (lentWord (now (pages .entry)) (now (counts .entry)) (now (positions .entry)))
         (now (room .entry)) r (now (room .exit)) ⌝ }
 {
-    if 16777216 < n {
+    if LIMIT < n as usize {
         return Written {
             refusal: Refusal::Limit,
             size: 0,
@@ -64,7 +68,7 @@ pub fn write_term(
             size: 0,
         };
     }
-    if 16777216 < word.next {
+    if LIMIT < word.next {
         return Written {
             refusal: Refusal::Limit,
             size: 0,
@@ -73,7 +77,7 @@ pub fn write_term(
     let p = shape::shape_of(n as usize, pages.len());
     let c = shape::shape_of(positions.len(), counts.len());
     let q = shape::shape_of(word.next, positions.len());
-    let size = 5 + p.end + c.end + q.end;
+    let size = LISTS_AT + p.end + c.end + q.end;
     if room.len() < size {
         return Written {
             refusal: Refusal::Room,
