@@ -1,10 +1,10 @@
 -- Laws of the terms of an index as they are checked: each answer of the loop, and of the index behind its header.
-use mathlib.Core.Bool.{Bool, true, false, cond, not, _||_}
+use mathlib.Core.Bool.{Bool, true, false, cond, not}
 use mathlib.Core.Path.{_≡_, refl, sym, ap, _∙_}
 use mathlib.Core.List.{List}
 use Prim.Native.Nat.{ℕ, suc, _≤_, _<_}
 use borrow.Author.Tests.{lt-ltb, le-ltb}
-use lib.Dec.{ltb, eqb}
+use lib.Dec.{eqb}
 use lib.ListN.{length, take, drop}
 use Rattle.rules.specs.declared.Refusal.{Refusal}
 use Rattle.rules.specs.declared.Refusal.the-variants.{Accepted, Limit, Layout, Parts}
@@ -19,7 +19,7 @@ use Rattle.laws.proofs.HeadLaws.{head-then}
 use Rattle.laws.proofs.PartLaws.{inside-then}
 use Rattle.cardlaws.proofs.TermsLaws.{terms-bad, terms-other, terms-next}
 use Rattle.parts.specs.Places.{headRefusal}
-use Rattle.checkindex.specs.Terms.{wordRefusal, wordInside}
+use Rattle.checkindex.specs.Terms.{wordRefusal, wordInside, bodyRefusal}
 
 -- the block at the front, and then its N
 word-then : (N : ℕ) (s : List ℕ) → wordInside N s ≡ andThen (inside termHeader termRefusal s)
@@ -69,25 +69,21 @@ module _ (T N : ℕ) (s : List ℕ) (none : T ≡ 0) where
   unfolding termsRefusal
   terms-done h = rw (none, le-ltb 0 (length s) h)
 
--- ---- the limits, and then x
+-- ---- the limits, and then the terms
 
-abbrev pub limited : ℕ → ℕ → Refusal → Refusal
-limited N T x = cond (ltb limit N || ltb termLimit T) Limit x
-
-module _ (N T : ℕ) (x : Refusal) where
-  pub over-N : limit < N → limited N T x ≡ Limit
+module _ (T N : ℕ) (s : List ℕ) where
+  pub over-N : limit < N → bodyRefusal T N s ≡ Limit
   over-N h = rw (lt-ltb limit N h)
 
-  pub over-T : N ≤ limit → termLimit < T → limited N T x ≡ Limit
+  pub over-T : N ≤ limit → termLimit < T → bodyRefusal T N s ≡ Limit
   over-T l h = rw (le-ltb limit N l, lt-ltb termLimit T h)
 
-  pub within-limits : N ≤ limit → T ≤ termLimit → limited N T x ≡ x
+  pub within-limits : N ≤ limit → T ≤ termLimit → bodyRefusal T N s ≡ termsRefusal T N s
   within-limits l h = rw (le-ltb limit N l, le-ltb termLimit T h)
 
 -- ---- the index
 
-pub index-then : (s : List ℕ) → indexRefusal s ≡ andThen (headRefusal indexHeader s) (limited (indexN s) (indexT s)
-    (termsRefusal (indexT s) (indexN s) (drop indexHeader s)))
+pub index-then : (s : List ℕ) → indexRefusal s
+    ≡ andThen (headRefusal indexHeader s) (bodyRefusal (indexT s) (indexN s) (drop indexHeader s))
 unfolding indexRefusal
-index-then s =
-    head-then indexHeader s (limited (indexN s) (indexT s) (termsRefusal (indexT s) (indexN s) (drop indexHeader s)))
+index-then s = head-then indexHeader s (bodyRefusal (indexT s) (indexN s) (drop indexHeader s))

@@ -5,7 +5,7 @@ ghost use Prim.Native.Nat.{_≤_};
 ghost use lib.ListN.{length, drop};
 ghost use Rattle.rules.specs.Index.{termsRefusal};
 ghost use Rattle.rules.specs.Promises.{IndexChecked};
-ghost use Rattle.checkindex.specs.Terms.{wordRefusal, wordInside};
+ghost use Rattle.checkindex.specs.Terms.{wordRefusal, wordInside, bodyRefusal};
 use rules::INDEX_HEADER;
 use rules::INDEX_N_AT;
 use rules::INDEX_T_AT;
@@ -16,7 +16,7 @@ use rules::TERM_HEADER;
 use rules::TERM_LIMIT;
 
 // The refusal of a term block that should be of pages below n.
-fn check_word(block: &[u8], n: usize) -> Refusal
+fn check_term_below(block: &[u8], n: usize) -> Refusal
     ensures { λ r. ⌜ r ≡ wordRefusal n (now (block .entry)) ⌝ }
 {
     let term = checkterm::check_term(block);
@@ -31,7 +31,7 @@ fn check_word(block: &[u8], n: usize) -> Refusal
 }
 
 // The refusal of the term block at byte `at`, where the bytes behind it are what remains of the index.
-fn check_inside(s: &[u8], at: usize, n: usize) -> Refusal
+fn check_term_at(s: &[u8], at: usize, n: usize) -> Refusal
     requires { ⌜ at ≤ length (now s) ⌝ }
     ensures { λ r. ⌜ r ≡ wordInside n (drop at (now (s .entry))) ⌝ }
 {
@@ -39,17 +39,17 @@ fn check_inside(s: &[u8], at: usize, n: usize) -> Refusal
     if !parts::passed(front) {
         return front;
     }
-    check_word(parts::part_at(s, at), n)
+    check_term_below(parts::part_at(s, at), n)
 }
 
 // The refusal of t term blocks of pages below n, and of what is left behind them.
-pub fn check_terms(s: &[u8], t: usize, n: usize) -> Refusal
+fn check_terms(s: &[u8], t: usize, n: usize) -> Refusal
     ensures { λ r. ⌜ r ≡ termsRefusal t n (now (s .entry)) ⌝ }
 {
     let mut at = 0;
     let mut left = t;
     while 0 < left {
-        let r = check_inside(s, at, n);
+        let r = check_term_at(s, at, n);
         if !parts::passed(r) {
             return r;
         }
@@ -62,6 +62,19 @@ pub fn check_terms(s: &[u8], t: usize, n: usize) -> Refusal
     Refusal::Accepted
 }
 
+// The refusal of an index behind its header: n or t over its limit, and then its terms.
+pub fn check_body(s: &[u8], t: usize, n: usize) -> Refusal
+    ensures { λ r. ⌜ r ≡ bodyRefusal t n (now (s .entry)) ⌝ }
+{
+    if LIMIT < n {
+        return Refusal::Limit;
+    }
+    if TERM_LIMIT < t {
+        return Refusal::Limit;
+    }
+    check_terms(s, t, n)
+}
+
 // The refusal of an index.
 pub fn check_index(card: &[u8]) -> Refusal
     ensures { λ r. ⌜ IndexChecked (now (card .entry)) r ⌝ }
@@ -71,13 +84,6 @@ pub fn check_index(card: &[u8]) -> Refusal
         return head;
     }
     let n = numbers::read_u32(card, INDEX_N_AT) as usize;
-    if LIMIT < n {
-        return Refusal::Limit;
-    }
     let t = numbers::read_u16(card, INDEX_T_AT) as usize;
-    if TERM_LIMIT < t {
-        return Refusal::Limit;
-    }
-    let end = card.len();
-    check_terms(&card[INDEX_HEADER..end], t, n)
+    check_body(&card[INDEX_HEADER..], t, n)
 }

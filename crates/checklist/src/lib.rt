@@ -7,21 +7,14 @@ use rules::LIST_HEADER;
 use rules::LIST_N_AT;
 use rules::LIST_U_AT;
 use rules::Refusal;
-use rules::VERSION;
-use rules::VERSION_AT;
 
 // The refusal of a list block.
 pub fn check_list(block: &[u8]) -> Refusal
     ensures { λ r. ⌜ ListChecked (now (block .entry)) r ⌝ }
 {
-    if block.len() < LIST_HEADER {
-        return Refusal::Short;
-    }
-    if numbers::read_u32(block, 0) as usize != block.len() {
-        return Refusal::Length;
-    }
-    if block[VERSION_AT] != VERSION {
-        return Refusal::Version;
+    let head = parts::check_head(block, LIST_HEADER);
+    if !parts::passed(head) {
+        return head;
     }
     let u = numbers::read_u32(block, LIST_U_AT) as usize;
     if LIMIT < u {

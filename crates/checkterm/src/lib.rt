@@ -20,7 +20,7 @@ use rules::Refusal;
 use rules::TERM_HEADER;
 
 // The refusal of the list block at byte `at`, where the bytes behind it are what remains of the term.
-fn check_inside(block: &[u8], at: usize) -> Refusal
+fn check_list_at(block: &[u8], at: usize) -> Refusal
     requires { ⌜ at ≤ length (now block) ⌝ }
     ensures { λ r. ⌜ r ≡ inside listHeader listRefusal (drop at (now (block .entry))) ⌝ }
 {
@@ -39,7 +39,7 @@ fn check_lists(block: &[u8]) -> Refusal
     let mut at = LISTS_AT;
     let mut left: usize = 3;
     while 0 < left {
-        let r = check_inside(block, at);
+        let r = check_list_at(block, at);
         if !parts::passed(r) {
             return r;
         }

@@ -12,7 +12,7 @@ use Rattle.rules.specs.declared.Refusal.the-variants.{Accepted, Short, Limit, R
 use Rattle.rules.specs.Refusal.{accepted}
 use Rattle.rules.specs.Limits.{indexHeader, fourBytes}
 use Rattle.rules.specs.Bytes.{be}
-use Rattle.rules.specs.Index.{indexFront, termsRefusal, closeRefusal, closeIndex}
+use Rattle.rules.specs.Index.{indexFront, closeRefusal, closeIndex}
 use Rattle.rules.specs.Write.{refused, laid}
 use Rattle.laws.proofs.ByteLaws.{length-be, sets-then}
 use Rattle.laws.proofs.RefusalLaws.{told-passed, accepted-true}
@@ -21,7 +21,7 @@ use Rattle.cardlaws.specs.Cards.{Closable}
 use Rattle.cardlaws.proofs.PassedLaws.{accepted-closable}
 use Rattle.cardlaws.proofs.FrontLaws.{length-front}
 use Rattle.cardlaws.proofs.CloseLaws.{drop-take}
-use Rattle.checkindex.proofs.TermsLaws.{limited}
+use Rattle.checkindex.specs.Terms.{bodyRefusal}
 
 module _ (buffer : List ℕ) (used N T : ℕ) where
   pub close-room : length buffer < used → closeRefusal buffer used N T ≡ Room
@@ -39,7 +39,7 @@ module _ (buffer : List ℕ) (used N T : ℕ) where
       close-long h = rw (le-ltb (length buffer) used fits, le-ltb used indexHeader header, le-leb fourBytes used h)
 
       pub close-next : used < fourBytes
-          → closeRefusal buffer used N T ≡ limited N T (termsRefusal T N (drop indexHeader (take used buffer)))
+          → closeRefusal buffer used N T ≡ bodyRefusal T N (drop indexHeader (take used buffer))
       unfolding closeRefusal
       close-next h = rw (le-ltb (length buffer) used fits, le-ltb used indexHeader header, lt-leb fourBytes used h)
 

@@ -10,9 +10,7 @@ use rules::FOUR_BYTES;
 use rules::INDEX_HEADER;
 use rules::INDEX_N_AT;
 use rules::INDEX_T_AT;
-use rules::LIMIT;
 use rules::Refusal;
-use rules::TERM_LIMIT;
 use rules::VERSION;
 use rules::VERSION_AT;
 use rules::Written;
@@ -30,13 +28,7 @@ fn close_refusal(buffer: &[u8], used: usize, n: usize, t: usize) -> Refusal
     if FOUR_BYTES <= used {
         return Refusal::Limit;
     }
-    if LIMIT < n {
-        return Refusal::Limit;
-    }
-    if TERM_LIMIT < t {
-        return Refusal::Limit;
-    }
-    checkindex::check_terms(&buffer[INDEX_HEADER..used], t, n)
+    checkindex::check_body(&buffer[INDEX_HEADER..used], t, n)
 }
 
 // Writes the header of an index of `used` bytes.

@@ -5,14 +5,16 @@ use mathlib.Core.List.{List}
 use Prim.Native.Nat.{ℕ, _≤_, _<_}
 use borrow.Author.Tests.{le-ltb, lt-ltb, eq-eqb, ne-eqb, ltb-false, not-false}
 use lib.Dec.{ltb, eqb, lit<}
-use lib.ListN.{length, getD}
+use lib.ListN.{length}
 use Rattle.rules.specs.declared.Refusal.{Refusal}
-use Rattle.rules.specs.declared.Refusal.the-variants.{Accepted, Short, Length, Version, Limit, Layout, Runs}
-use Rattle.rules.specs.Limits.{limit, version, listHeader}
+use Rattle.rules.specs.declared.Refusal.the-variants.{Accepted, Limit, Layout, Runs}
+use Rattle.rules.specs.Refusal.{andThen}
+use Rattle.rules.specs.Limits.{limit, listHeader}
 use Rattle.rules.specs.List.{size}
 use Rattle.rules.specs.ReadList.{stated, listU, listN, decode, isBlock, listRefusal}
 use Rattle.laws.proofs.RefusalLaws.{test-passed, equal-passed, or-parts}
-use Rattle.laws.proofs.HeadLaws.{head-short, head-length, head-version, head-next, head-passed}
+use Rattle.laws.specs.Blocks.{Headed, headTests}
+use Rattle.laws.proofs.HeadLaws.{head-next, head-then, head-passed}
 use Rattle.listlaws.specs.Sound.{Framed}
 
 -- ---- each refusal
@@ -24,51 +26,38 @@ module _ (s : List ℕ) where
       (cond (not (isBlock s (listU s) (decode s))) Runs Accepted)
 
   -- the tests behind the first three
-  abbrev tests : Refusal
+  abbrev pub tests : Refusal
   tests = cond (ltb limit (listU s)) Limit left
 
-  pub refuse-short : length s < listHeader → listRefusal s ≡ Short
+  -- the first three tests, and then the others
+  pub list-then : listRefusal s ≡ andThen (headTests listHeader s Accepted) tests
   unfolding listRefusal
-  refuse-short h = head-short listHeader s tests h
+  list-then = head-then listHeader s tests
 
-  module _ (header : listHeader ≤ length s) where
-    pub refuse-length : (stated s ≡ length s → ⊥) → listRefusal s ≡ Length
+  module _ (headed : Headed listHeader s) where
+    after-head : listRefusal s ≡ tests
     unfolding listRefusal
-    refuse-length h = head-length listHeader s tests header h
+    after-head = head-next listHeader s tests headed
 
-    module _ (length-stated : stated s ≡ length s) where
-      pub refuse-version : (getD s 4 0 ≡ version → ⊥) → listRefusal s ≡ Version
-      unfolding listRefusal
-      refuse-version h = head-version listHeader s tests header length-stated h
+    pub refuse-limit : limit < listU s → listRefusal s ≡ Limit
+    refuse-limit h = after-head ∙ rw (lt-ltb limit (listU s) h)
 
-      module _ (version-is : getD s 4 0 ≡ version) where
-        after-version : listRefusal s ≡ tests
-        unfolding listRefusal
-        after-version = head-next listHeader s tests (record {
-          header = header;
-          states = length-stated;
-          version-is = version-is;
-        })
+    module _ (within : listU s ≤ limit) where
+      after-limit : listRefusal s ≡ left
+      after-limit = after-head ∙ rw (le-ltb limit (listU s) within)
 
-        pub refuse-limit : limit < listU s → listRefusal s ≡ Limit
-        refuse-limit h = after-version ∙ rw (lt-ltb limit (listU s) h)
+      pub refuse-many : listU s < listN s → listRefusal s ≡ Layout
+      refuse-many h = after-limit ∙ rw (lt-ltb (listU s) (listN s) h)
 
-        module _ (within : listU s ≤ limit) where
-          after-limit : listRefusal s ≡ left
-          after-limit = after-version ∙ rw (le-ltb limit (listU s) within)
-
-          pub refuse-many : listU s < listN s → listRefusal s ≡ Layout
-          refuse-many h = after-limit ∙ rw (lt-ltb (listU s) (listN s) h)
-
-          pub refuse-size : listN s ≤ listU s → (length s ≡ size (listU s) (listN s) → ⊥) → listRefusal s ≡ Layout
-          refuse-size b h =
-              after-limit ∙ rw (le-ltb (listU s) (listN s) b, ne-eqb (length s) (size (listU s) (listN s)) h)
+      pub refuse-size : listN s ≤ listU s → (length s ≡ size (listU s) (listN s) → ⊥) → listRefusal s ≡ Layout
+      refuse-size b h =
+          after-limit ∙ rw (le-ltb (listU s) (listN s) b, ne-eqb (length s) (size (listU s) (listN s)) h)
 
 -- ---- what the first five leave
 
 pub framed-refusal : (s : List ℕ) → Framed s → listRefusal s ≡ cond (not (isBlock s (listU s) (decode s))) Runs Accepted
 framed-refusal s f =
-    after-limit s (f .header) (f .length-stated) (f .version-is) (f .within)
+    after-limit s (record { header = f .header; states = f .length-stated; version-is = f .version-is }) (f .within)
     ∙ rw (le-ltb (listU s) (listN s) (f .below), eq-eqb (length s) (size (listU s) (listN s)) (f .length-is))
 
 pub framed-accepted : (s : List ℕ) → Framed s → isBlock s (listU s) (decode s) ≡ true → listRefusal s ≡ Accepted

@@ -47,7 +47,7 @@ returns c =
     let l = r .before .before in
     let a = l .before .before .args in
     let rest = drop (l .loop .at) (a .s .now) in
-    told-stop (p .result) (r .check-inside .result) (wordInside (a .n) rest) (p .ensures) (r .check-inside .ensures)
+    told-stop (p .result) (r .check-term-at .result) (wordInside (a .n) rest) (p .ensures) (r .check-term-at .ensures)
     (termsRefusal (l .loop .left - 1) (a .n) (drop (stated rest) rest)) (c .if1 .taken)
     ∙ more (r .before)
 
@@ -60,8 +60,8 @@ term-at c =
     let r = c .before .before in
     let l = r .before .before in
     let a = l .before .before .args in
-    told-passed (p .result) (r .check-inside .result) (wordInside (a .n) (drop (l .loop .at) (a .s .now))) (p .ensures)
-    (r .check-inside .ensures) (c .if1 .left)
+    told-passed (p .result) (r .check-term-at .result) (wordInside (a .n) (drop (l .loop .at) (a .s .now))) (p .ensures)
+    (r .check-term-at .ensures) (c .if1 .left)
 
 here : (c : tie.Else1 Inv-loop μ-loop)
     → let l = c .before .before .before .before in

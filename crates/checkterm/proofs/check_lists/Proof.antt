@@ -48,8 +48,8 @@ returns c =
     let r = c .before .before in
     let l = r .before .before in
     let rest = drop (l .loop .at) (l .before .before .args .block .now) in
-    told-stop (c .before .passed .result) (r .check-inside .result) (inside listHeader listRefusal rest)
-    (c .before .passed .ensures) (r .check-inside .ensures)
+    told-stop (c .before .passed .result) (r .check-list-at .result) (inside listHeader listRefusal rest)
+    (c .before .passed .ensures) (r .check-list-at .ensures)
     (listsRefusal (l .loop .left - 1) (drop (stated rest) rest)) (c .if1 .taken)
     ∙ more (r .before)
 
@@ -59,9 +59,9 @@ list-at : (c : tie.Else1 Inv-loop μ-loop)
 list-at c =
     let r = c .before .before in
     let l = r .before .before in
-    told-passed (c .before .passed .result) (r .check-inside .result)
+    told-passed (c .before .passed .result) (r .check-list-at .result)
     (inside listHeader listRefusal (drop (l .loop .at) (l .before .before .args .block .now)))
-    (c .before .passed .ensures) (r .check-inside .ensures) (c .if1 .left)
+    (c .before .passed .ensures) (r .check-list-at .ensures) (c .if1 .left)
 
 here : (c : tie.Else1 Inv-loop μ-loop)
     → let l = c .before .before .before .before in

@@ -1,10 +1,10 @@
--- `check_inside` gives the refusal: of the length of the block first, and then of the part that it states.
+-- `check_list_at` gives the refusal: of the length of the block first, and then of the part that it states.
 use borrow.Author.Needs.{needs}
 use lib.Dec.{lit≤}
 use Rattle.rules.specs.ReadList.{listRefusal}
 use Rattle.parts.proofs.PlaceLaws.{front-held, front-refused, front-answers}
-use Rattle.checkterm.proofs.check_inside.Statement.{statement}
-use Rattle.checkterm.proofs.check_inside.Tie as tie
+use Rattle.checkterm.proofs.check_list_at.Statement.{statement}
+use Rattle.checkterm.proofs.check_list_at.Tie as tie
 
 returns : tie.Need-returns
 returns c =
@@ -33,7 +33,7 @@ returns-2 c =
     (f .check-front .ensures) listRefusal
     (m .result .now) (c .check-list .result) (e .if1 .left) (m .ensures) (c .check-list .ensures)
 
-pub check-inside-spec : {M : Type 1} → statement M
-check-inside-spec =
+pub check-list-at-spec : {M : Type 1} → statement M
+check-list-at-spec =
     tie.close
     (tie.spec (λ c κs. search needs) (λ c κs. search needs) returns part-at-requires (λ c κs. search needs) returns-2)

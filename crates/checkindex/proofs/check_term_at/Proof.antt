@@ -1,10 +1,10 @@
--- `check_inside` gives the refusal: of the length of the block first, and then of the part that it states.
+-- `check_term_at` gives the refusal: of the length of the block first, and then of the part that it states.
 use borrow.Author.Needs.{needs}
 use lib.Dec.{lit≤}
 use Rattle.parts.proofs.PlaceLaws.{front-held, front-refused, front-answers}
 use Rattle.checkindex.specs.Terms.{wordRefusal}
-use Rattle.checkindex.proofs.check_inside.Statement.{statement}
-use Rattle.checkindex.proofs.check_inside.Tie as tie
+use Rattle.checkindex.proofs.check_term_at.Statement.{statement}
+use Rattle.checkindex.proofs.check_term_at.Tie as tie
 
 returns : tie.Need-returns
 returns c =
@@ -31,9 +31,9 @@ returns-2 c =
     let a = f .before .before .args in
     front-answers 44 (a .at) (a .s .now) (p .result) (f .check-front .result) (p .ensures) (f .check-front .ensures)
     (wordRefusal (a .n))
-    (m .result .now) (c .check-word .result) (e .if1 .left) (m .ensures) (c .check-word .ensures)
+    (m .result .now) (c .check-term-below .result) (e .if1 .left) (m .ensures) (c .check-term-below .ensures)
 
-pub check-inside-spec : {M : Type 1} → statement M
-check-inside-spec =
+pub check-term-at-spec : {M : Type 1} → statement M
+check-term-at-spec =
     tie.close
     (tie.spec (λ c κs. search needs) (λ c κs. search needs) returns part-at-requires (λ c κs. search needs) returns-2)

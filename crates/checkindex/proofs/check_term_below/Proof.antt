@@ -1,4 +1,4 @@
--- `check_word` gives the refusal of the term, and where it has passed compares the U of its pages.
+-- `check_term_below` gives the refusal of the term, and where it has passed compares the U of its pages.
 use mathlib.Core.Bool.{cond, not}
 use mathlib.Core.Path.{_≡_, sym, ap, _∙_}
 use native.Mathlib.Omega.{arith}
@@ -13,8 +13,8 @@ use Rattle.laws.proofs.RefusalLaws.{told-stop, told-passed, andThen-next}
 use Rattle.listlaws.proofs.RefusalLaws.{accepted-framed}
 use Rattle.termlaws.proofs.Theorems.{accepted-lists}
 use Rattle.checkindex.specs.Terms.{wordRefusal}
-use Rattle.checkindex.proofs.check_word.Statement.{statement}
-use Rattle.checkindex.proofs.check_word.Tie as tie
+use Rattle.checkindex.proofs.check_term_below.Statement.{statement}
+use Rattle.checkindex.proofs.check_term_below.Tie as tie
 
 returns : tie.Need-returns
 returns c =
@@ -66,8 +66,8 @@ returns-3 c =
     sym (by-N u
     ∙ rw (eq-eqb (u .read-u32 .result) (u .before .before .before .before .before .before .args .n) (c .if2 .left)))
 
-pub check-word-spec : {M : Type 1} → statement M
-check-word-spec =
+pub check-term-below-spec : {M : Type 1} → statement M
+check-term-below-spec =
     tie.close
     (tie.spec (λ c κs. search needs) (λ c κs. search needs) returns
     (λ c κs. term-at c) read-u32-requires returns-2 returns-3)
