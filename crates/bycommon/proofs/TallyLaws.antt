@@ -10,7 +10,7 @@ use Rattle.rules.specs.Index.{indexN}
 use Rattle.rules.specs.Common.{Tally}
 use Rattle.rules.specs.Questions.{listsIn, numbered, byCommon}
 use Rattle.commonlaws.proofs.CommonLaws.{common-listed}
-use Rattle.querylaws.specs.Listings.{wholeFrom, fitted}
+use Rattle.querylaws.specs.Listings.{wholeIn, fitted}
 use Rattle.querylaws.proofs.ListingLaws.{fitted-all}
 use Rattle.wordlists.specs.Opened.{OpenedPages}
 use Rattle.wordlists.proofs.OpenLaws.{opened-some}
@@ -46,7 +46,7 @@ put-tally t room ys n a b h e f g k =
 -- ---- the words' lists, opened
 
 module _ (s ts r : List ℕ) (o : OpenedPages s ts r) where
-  pub opened-answer : tallied (wholeFrom s r (length ts) 0) ≡ byCommon (indexN s) (listsIn s ts)
+  pub opened-answer : tallied (wholeIn s r (length ts)) ≡ byCommon (indexN s) (listsIn s ts)
   unfolding tallied byCommon
   opened-answer = rw (o .rule, common-listed (indexN s) (listsIn s ts) (opened-some s ts r o) (o .rise))
 

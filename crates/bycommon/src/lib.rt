@@ -10,17 +10,17 @@ ghost use Rattle.rules.specs.Questions.{listsIn, byCommon};
 ghost use Rattle.questions.specs.Formed.{wordsGood};
 ghost use Rattle.questions.specs.Wrote.{Wrote};
 ghost use Rattle.querylaws.specs.Lists.{Lists};
-ghost use Rattle.querylaws.specs.Listings.{wholeFrom};
+ghost use Rattle.querylaws.specs.Listings.{wholeIn};
 ghost use Rattle.bycommon.specs.Tallies.{tallied};
 
 // Puts the answer into room that is enough for it.
 fn put_common(card: &[u8], shapes: &[u32], k: usize, room: &mut [u32]) -> usize
     requires { ⌜ Lists (now card) (now shapes) k
-        × (length (wholeFrom (now card) (now shapes) k 0 .listed) + 3 ≤ length (now room)) ⌝ }
-    ensures { λ r. ⌜ Wrote (tallied (wholeFrom (now (card .entry)) (now (shapes .entry)) k 0)) (now (room .entry)) r
+        × (length (wholeIn (now card) (now shapes) k .listed) + 3 ≤ length (now room)) ⌝ }
+    ensures { λ r. ⌜ Wrote (tallied (wholeIn (now (card .entry)) (now (shapes .entry)) k)) (now (room .entry)) r
         (now (room .exit)) ⌝ }
 {
-    let listed = query::list_common(card, shapes, k, 0, &mut room[3..]);
+    let listed = query::list_common(card, shapes, k, &mut room[3..]);
     room[0] = (listed.found + 2) as u32;
     room[1] = listed.seeks;
     room[2] = listed.looks;
@@ -41,7 +41,7 @@ pub fn by_common(card: &[u8], terms: &[u32], room: &mut [u32]) -> usize
         return put_common(card, &shapes, k, room);
     }
     let mut none = [0u32; 0];
-    let counted = query::list_common(card, &shapes, k, 0, &mut none);
+    let counted = query::list_common(card, &shapes, k, &mut none);
     if room.len() < counted.found + 3 {
         return 0;
     }

@@ -1,17 +1,15 @@
 // Common pages of up to eight lists by the step rule: the cursors travel as one query by value, and the lists' numbers
 // are lent beside it.
 
-ghost use mathlib.Core.Bool.{true};
 ghost use mathlib.Core.Path.{_≡_};
 ghost use Prim.Native.Nat.{_^_, _<_};
 ghost use lib.ListN.{length, set};
 ghost use Rattle.querylaws.specs.Lists.{Lists};
-ghost use Rattle.querylaws.specs.Queries.{newQuery, seeksOf, looksOf, Running, Turned};
-ghost use Rattle.querylaws.specs.Listings.{wholeFrom, fitted, Tells, Scanned};
+ghost use Rattle.querylaws.specs.Queries.{seeksOf, looksOf, Running, Turned};
+ghost use Rattle.querylaws.specs.Listings.{wholeIn, fitted, Tells};
 use querylaws::InHand;
 use querylaws::Listed;
 use querylaws::Query;
-use querylaws::Scan;
 use querylaws::Turn;
 use walklaws::SPENT;
 
@@ -24,24 +22,14 @@ fn put(room: &mut [u32], at: usize, page: u32)
     }
 }
 
-// Goes over the pages at or above the bound that the first k lists share: lists all, as far as the room goes, or stops
-// at the first. It is the one loop of seeks, and the query goes by value through each of them.
-fn scan_lists(
-    card: &[u8],
-    shapes: &[u32],
-    query: Query,
-    k: usize,
-    bound: usize,
-    all: bool,
-    room: &mut [u32],
-) -> Scan
-    requires { ⌜ Running (now card) (now shapes) k query bound × (all ≡ true → query ≡ newQuery) ⌝ }
-    ensures { λ r. ⌜ Scanned (now (card .entry)) (now (shapes .entry)) k query bound all (now (room .entry)) r
-        (now (room .exit)) ⌝ }
+// The next page at or above the bound that the first k lists share; with one list, a plain seek. It is the one loop of
+// seeks, and the query goes by value through each of them.
+pub fn next_common(card: &[u8], shapes: &[u32], query: Query, k: usize, bound: usize) -> Turn
+    requires { ⌜ Running (now card) (now shapes) k query bound ⌝ }
+    ensures { λ r. ⌜ Turned (now (card .entry)) (now (shapes .entry)) k query bound r ⌝ }
 {
     let mut q = query;
     let mut b = bound;
-    let mut found = 0;
     let mut i = 0;
     loop {
         let hand = q.cursors[i];
@@ -52,7 +40,7 @@ fn scan_lists(
         q.cursors[i] = c;
         let mark = c.mark;
         if mark == SPENT {
-            return Scan { q, found, mark };
+            return Turn { q, mark };
         }
         let page = mark as usize - 1;
         if 0 < i && b < page {
@@ -62,28 +50,10 @@ fn scan_lists(
         }
         i += 1;
         b = page;
-        if i < k {
-            continue;
+        if k <= i {
+            return Turn { q, mark };
         }
-        if !all {
-            return Scan { q, found, mark };
-        }
-        put(room, found, mark - 1);
-        found += 1;
-        i = 0;
-        b = mark as usize;
     }
-}
-
-// The next page at or above the bound that the first k lists share; with one list, a plain seek.
-pub fn next_common(card: &[u8], shapes: &[u32], query: Query, k: usize, bound: usize) -> Turn
-    requires { ⌜ Running (now card) (now shapes) k query bound ⌝ }
-    ensures { λ r. ⌜ Turned (now (card .entry)) (now (shapes .entry)) k query bound r ⌝ }
-{
-    let mut none = [0u32; 0];
-    let r = scan_lists(card, shapes, query, k, bound, false, &mut none);
-    let q = r.q;
-    Turn { q, mark: r.mark }
 }
 
 // The seeks and looks of all cursors.
@@ -107,14 +77,24 @@ fn totals(q: Query, found: usize) -> Listed
     }
 }
 
-// Counts the pages at or above the bound that the first k lists share, and lists them at the room's front, as far as it
-// goes.
-pub fn list_common(card: &[u8], shapes: &[u32], k: usize, bound: usize, room: &mut [u32]) -> Listed
+// Counts the pages that the first k lists share, and lists them at the room's front, as far as it goes.
+pub fn list_common(card: &[u8], shapes: &[u32], k: usize, room: &mut [u32]) -> Listed
     requires { ⌜ Lists (now card) (now shapes) k ⌝ }
-    ensures { λ r. ⌜ Tells (wholeFrom (now (card .entry)) (now (shapes .entry)) k bound) r
-        × (now (room .exit) ≡ fitted (wholeFrom (now (card .entry)) (now (shapes .entry)) k bound .listed)
+    ensures { λ r. ⌜ Tells (wholeIn (now (card .entry)) (now (shapes .entry)) k) r
+        × (now (room .exit) ≡ fitted (wholeIn (now (card .entry)) (now (shapes .entry)) k .listed)
         (now (room .entry))) ⌝ }
 {
-    let r = scan_lists(card, shapes, Query::new(), k, bound, true, room);
-    totals(r.q, r.found)
+    let mut q = Query::new();
+    let mut b = 0;
+    let mut found = 0;
+    loop {
+        let turn = next_common(card, shapes, q, k, b);
+        if turn.mark == SPENT {
+            return totals(turn.q, found);
+        }
+        put(room, found, turn.mark - 1);
+        found += 1;
+        q = turn.q;
+        b = turn.mark as usize;
+    }
 }

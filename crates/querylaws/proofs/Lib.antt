@@ -6,4 +6,3 @@ pub mod RunLaws
 pub mod TurnLaws
 pub mod NewLaws
 pub mod ListingLaws
-pub mod ScanLaws

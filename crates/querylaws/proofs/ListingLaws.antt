@@ -6,7 +6,7 @@ use Prim.Native.Nat.{ℕ, suc, _+_, _-_, _≤_, _<_}
 use native.Mathlib.Nat.{zero-add, add-assoc}
 use native.Mathlib.Decide.{decLt}
 use native.Mathlib.Omega.{arith}
-use lib.ListN.{length, getD, set, take, drop, length-append, length-drop}
+use lib.ListN.{length, getD, set, take, drop, length-append, length-drop, length-set}
 use lib.Seq.{length-take-le, take-all, take-nil, drop-cons, append-snoc, take-append-le, set-out, set-at}
 use Rattle.rules.specs.Limits.{limit}
 use Rattle.rules.specs.Seek.{none, page}
@@ -22,7 +22,7 @@ use Rattle.querylaws.specs.declared.Turn.{Turn}
 use Rattle.querylaws.specs.declared.Listed.{Listed}
 use Rattle.querylaws.specs.Lists.{pagesAt, boundIn, Lists}
 use Rattle.querylaws.specs.Queries.{newQuery, readerAt, leadIn, othersIn, seeksOf, looksOf, nextFor, Running, Turned}
-use Rattle.querylaws.specs.Listings.{wholeFrom, fitted, Tells}
+use Rattle.querylaws.specs.Listings.{wholeIn, fitted, Tells}
 use Rattle.querylaws.proofs.ListLaws.{list-length}
 use Rattle.querylaws.proofs.RunLaws.{lead-ready, others-ready}
 use Rattle.querylaws.proofs.TurnLaws.{turned-none, turned-page, turned-fewer}
@@ -91,20 +91,20 @@ module _ (U : ℕ) (n : Next) where
 abbrev restOf : List ℕ → List ℕ → ℕ → Query → ℕ → Tally
 restOf s sh k q b = allRounds (boundIn sh) (leadIn s sh q) (othersIn s sh k q) b
 
-module _ (s sh : List ℕ) (k b₀ : ℕ) where
+module _ (s sh : List ℕ) (k : ℕ) where
   -- the pages ps were found up to the bound b
   pub record Partway (q : Query) (b found : ℕ) (ps : List ℕ) : Type 0 where
     pub running : Running s sh k q b
     pub sized : length ps ≡ found
     pub left : found + leftIn b (leadIn s sh q) ≤ length (pagesAt s sh 0)
-    pub same : counted (seeksOf q) (looksOf q) ps (restOf s sh k q b) ≡ wholeFrom s sh k b₀
+    pub same : counted (seeksOf q) (looksOf q) ps (restOf s sh k q b) ≡ wholeIn s sh k
 
-  pub partway-start : Lists s sh k → Partway newQuery b₀ 0 []
+  pub partway-start : Lists s sh k → Partway newQuery 0 0 []
   partway-start l = record {
-    running = new-running s sh k l b₀;
+    running = new-running s sh k l 0;
     sized = refl;
-    left = unfold readerAt in omega (arith, from-le b₀ (pagesAt s sh 0));
-    same = rw (new-seeks, new-looks) (counted-none (restOf s sh k newQuery b₀) ∙ new-whole s sh k l b₀);
+    left = unfold readerAt in omega (arith, from-le 0 (pagesAt s sh 0));
+    same = rw (new-seeks, new-looks) (counted-none (restOf s sh k newQuery 0) ∙ new-whole s sh k l);
   }
 
   pub partway-few : (q : Query) (b found : ℕ) (ps : List ℕ) → Partway q b found ps → found ≤ limit
@@ -120,12 +120,12 @@ module _ (s sh : List ℕ) (k b₀ : ℕ) where
     rest-next = let a = p .running .apt in rounds-next (boundIn sh) (leadIn s sh q) (othersIn s sh k q) b
         (lead-ready s sh k q b a) (others-ready s sh k q b a)
 
-    so-far : (r : Tally) → onward (boundIn sh) here ≡ r → wholeFrom s sh k b₀ ≡ counted (seeksOf q) (looksOf q) ps r
+    so-far : (r : Tally) → onward (boundIn sh) here ≡ r → wholeIn s sh k ≡ counted (seeksOf q) (looksOf q) ps r
     so-far r e = sym (p .same) ∙ ap (counted (seeksOf q) (looksOf q) ps) (rest-next ∙ e)
 
     same-step : (c j : ℕ) → t .mark ≡ c + 1 → here .found ≡ page c j
         → counted (seeksOf (t .q)) (looksOf (t .q)) (ps ++ (t .mark - 1) ∷ []) (restOf s sh k (t .q) (t .mark))
-        ≡ wholeFrom s sh k b₀
+        ≡ wholeIn s sh k
     same-step c j m e =
         let d : t .mark - 1 ≡ c = omega arith in
         let rest : Tally = allRounds (boundIn sh) (here .lead) (here .others) (c + 1) in
@@ -146,12 +146,12 @@ module _ (s sh : List ℕ) (k b₀ : ℕ) where
 
     pub partway-end : t .mark ≡ spentMark → (r : Listed) → (r .found ≡ found) × (r .seeks ≡ seeksOf (t .q))
         × (r .looks ≡ looksOf (t .q))
-        → (wholeFrom s sh k b₀ .listed ≡ ps) × Tells (wholeFrom s sh k b₀) r
+        → (wholeIn s sh k .listed ≡ ps) × Tells (wholeIn s sh k) r
     unfolding counted nothing
     partway-end h r e =
         let n = onward-none (boundIn sh) here (turned-none s sh k q b (p .running .apt) t u h) in
         let w = so-far (counted (here .seeks) (here .looks) [] nothing) n in
-        let listed : wholeFrom s sh k b₀ .listed ≡ ps = ap (λ (x : Tally). x .listed) w ∙ append-nil ps in (
+        let listed : wholeIn s sh k .listed ≡ ps = ap (λ (x : Tally). x .listed) w ∙ append-nil ps in (
           listed,
           record {
             found = e .0 ∙ sym (p .sized) ∙ ap length (sym listed);
@@ -159,3 +159,34 @@ module _ (s sh : List ℕ) (k b₀ : ℕ) where
             looks = omega (arith, e .2, u .looks, ap (λ (x : Tally). x .looks) w);
           },
         )
+
+-- ---- the pages so far in the room
+
+module _ (s sh : List ℕ) (k : ℕ) (room₀ : List ℕ) where
+  -- the pages up to the bound b are counted, and listed as far as the room goes
+  pub record Listing (q : Query) (b found : ℕ) (room : List ℕ) : Type 0 where
+    pub ps : List ℕ
+    pub partway : Partway s sh k q b found ps
+    pub room-is : room ≡ fitted ps room₀
+    pub long : length room ≡ length room₀
+
+  pub listing-start : Lists s sh k → Listing newQuery 0 0 room₀
+  listing-start l =
+      record { ps = []; partway = partway-start s sh k l; room-is = sym (fitted-none room₀); long = refl }
+
+  module _ (q : Query) (b found : ℕ) (room : List ℕ) (g : Listing q b found room) (t : Turn) (u : Turned s sh k q b t)
+    where
+      pub listing-step : (t .mark ≡ spentMark → ⊥)
+          → Listing (t .q) (t .mark) (found + 1) (set room found (t .mark - 1))
+      listing-step h = record {
+        ps = g .ps ++ (t .mark - 1) ∷ [];
+        partway = partway-step s sh k q b found (g .ps) (g .partway) t u h;
+        room-is = rw (g .room-is, ← g .partway .sized) (fitted-more (g .ps) room₀ (t .mark - 1));
+        long = length-set room found (t .mark - 1) ∙ g .long;
+      }
+
+      pub listing-end : t .mark ≡ spentMark → (r : Listed) → (r .found ≡ found) × (r .seeks ≡ seeksOf (t .q))
+          × (r .looks ≡ looksOf (t .q)) → Tells (wholeIn s sh k) r × (room ≡ fitted (wholeIn s sh k .listed) room₀)
+      listing-end h r e =
+          let end = partway-end s sh k q b found (g .ps) (g .partway) t u h r e in
+          (end .1, g .room-is ∙ ap (λ (xs : List ℕ). fitted xs room₀) (sym (end .0)))

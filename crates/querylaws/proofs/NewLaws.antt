@@ -17,7 +17,7 @@ use Rattle.walklaws.proofs.MoveLaws.{unused-held}
 use Rattle.querylaws.specs.Lists.{span, pagesAt, pagesIn, boundIn, Lists}
 use Rattle.querylaws.specs.Queries.{cursorIn, newQuery, readerAt, leadIn, othersIn}
 use Rattle.querylaws.specs.Queries.{total, seeksOf, looksOf, Apt, Running}
-use Rattle.querylaws.specs.Listings.{ruleFrom, wholeFrom}
+use Rattle.querylaws.specs.Listings.{ruleOn, wholeIn}
 use Rattle.querylaws.proofs.SpanLaws.{span-cons, span-same}
 use Rattle.querylaws.proofs.ListLaws.{list-rises, list-length}
 
@@ -46,9 +46,9 @@ module _ (s sh : List ℕ) where
   unfolding readerAt ruleCursor unused
   new-reader i h = rw (new-cursor i h)
 
-  module _ (k : ℕ) (l : Lists s sh k) (b : ℕ) where
-    new-apt : Apt s sh k newQuery b
-    new-apt = record {
+  module _ (k : ℕ) (l : Lists s sh k) where
+    new-apt : (b : ℕ) → Apt s sh k newQuery b
+    new-apt b = record {
       lists = l;
       eight = unfold newQuery in refl;
       held = λ i h. rw (new-cursor i (omega (arith, l .few))) (unused-held (boundIn sh) (pagesAt s sh i));
@@ -56,20 +56,20 @@ module _ (s sh : List ℕ) where
           (fresh-ready (boundIn sh) b (pagesAt s sh i) (list-rises s sh i (l .each i h)));
     }
 
-    pub new-running : Running s sh k newQuery b
-    new-running =
+    pub new-running : (b : ℕ) → Running s sh k newQuery b
+    new-running b =
         let few : leftIn b (leadIn s sh newQuery) ≤ limit = rw (new-reader 0 (omega arith))
         (omega (arith, from-le b (pagesAt s sh 0), list-length s sh 0 (l .each 0 (l .some)))) in record {
-          apt = new-apt;
+          apt = new-apt b;
           seeks = omega (arith, new-seeks, mul-le-mul-left k few, l .few);
           looks = omega (arith, new-looks);
         }
 
     -- the rule on its readers is the rule on the lists
-    pub new-whole : allRounds (boundIn sh) (leadIn s sh newQuery) (othersIn s sh k newQuery) b ≡ wholeFrom s sh k b
+    pub new-whole : allRounds (boundIn sh) (leadIn s sh newQuery) (othersIn s sh k newQuery) 0 ≡ wholeIn s sh k
     new-whole =
         let z : k - 0 ≡ k = omega arith in
         let e = rw z at (span-cons (pagesAt s sh) 0 k (l .some)) in
         let o = span-same (readerAt s sh newQuery) (λ j. freshOn (pagesAt s sh j)) (k - 1) 1
         (λ j g h. new-reader j (omega (arith, l .few, l .some))) in
-        rw (new-reader 0 (omega arith), o, span-fresh (pagesAt s sh) (k - 1) 1) (unfold pagesIn ruleFrom in rw e)
+        rw (new-reader 0 (omega arith), o, span-fresh (pagesAt s sh) (k - 1) 1) (unfold pagesIn ruleOn in rw e)

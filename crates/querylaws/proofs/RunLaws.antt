@@ -224,16 +224,15 @@ module _ (s sh : List ℕ) (k : ℕ) (q₀ : Query) (b₀ : ℕ) where
         ends = rw (← a) (sym (end-page s sh k q b (m .apt) i h e) ∙ m .ends);
       })
 
-      -- a seek more, of as many as there may be
-      pub midst-counted : (c .mark ≡ spentMark → ⊥) → (seeksOf (withCursor q i c) ≡ seeksOf q + 1)
-          × (seeksOf q < 2 ^ 28)
-      midst-counted e =
+      -- the seeks that may follow are fewer
+      pub midst-less : (c .mark ≡ spentMark → ⊥) → 2 ^ 28 - seeksOf (withCursor q i c) < 2 ^ 28 - seeksOf q
+      midst-less e =
           let n = next-narrow s sh k q₀ b₀ (m .running) in
           let one = rw (← w) at (seek-seeks s sh k q b (m .apt) i h) in
           let f =
           so-far (withCursor q i c) (c .mark - 1) (listAfter i b (c .mark - 1))
           (step-to e (listAfter i b (c .mark - 1)) refl (listAfter-le i b (c .mark - 1) k h)) in
-          (one, omega (arith, f .0, n .seeks-few))
+          omega (arith, one, f .0, n .seeks-few)
 
       module _ (e : c .mark ≡ spentMark → ⊥) where
         -- behind a larger page the lead is next

@@ -28,13 +28,6 @@ pub struct InHand {
     pub hand: Cursor,
 }
 
-// A query, how many pages it found before it stopped, and the mark of the page that it stopped at: page + 1, or SPENT.
-pub struct Scan {
-    pub q: Query,
-    pub found: usize,
-    pub mark: u32,
-}
-
 // A query, and the mark of a page: page + 1, or SPENT.
 pub struct Turn {
     pub q: Query,

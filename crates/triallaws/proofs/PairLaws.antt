@@ -20,7 +20,7 @@ use Rattle.querylaws.specs.declared.Listed.{Listed}
 use Rattle.querylaws.specs.Queries.{newQuery, leadIn, othersIn, seeksOf, looksOf, Turned}
 use Rattle.querylaws.proofs.TurnLaws.{turned-page}
 use Rattle.querylaws.proofs.ListingLaws.{Partway, partway-start, partway-few, partway-step, partway-end}
-use Rattle.querylaws.specs.Listings.{wholeFrom}
+use Rattle.querylaws.specs.Listings.{wholeIn}
 use Rattle.openlists.proofs.FewLaws.{whole-few}
 use Rattle.wordlists.proofs.OpenLaws.{opened-listed}
 use Rattle.questions.proofs.WroteLaws.{laid-snoc, laid-first}
@@ -58,15 +58,15 @@ module _ (ws : List Word) where
 -- ---- all common pages
 
 module _ (s ts : List ℕ) (lead : ℕ) (pg ct ps : List ℕ) (a : Asked s ts lead pg ct ps) where
-  pub whole-found : withStarts (wordsIn s ts) (wholeFrom s pg (length ts) 0 .listed) ≡ foundIn s ts
+  pub whole-found : withStarts (wordsIn s ts) (wholeIn s pg (length ts) .listed) ≡ foundIn s ts
   unfolding foundIn
   whole-found = ap (withStarts (wordsIn s ts)) (opened-listed s ts pg (a .pages))
 
   -- two numbers for each page of the lead are enough
   pub found-few : (length (foundIn s ts) ≤ 2 * numberOf pg 0 7) × (numberOf pg 0 7 ≤ 16777216)
   found-few =
-      let w = whole-few s pg (length ts) 0 (a .pages .lists) in
-      (rw (← whole-found) (omega (arith, with-few (wordsIn s ts) (wholeFrom s pg (length ts) 0 .listed), w .0)), w .1)
+      let w = whole-few s pg (length ts) (a .pages .lists) in
+      (rw (← whole-found) (omega (arith, with-few (wordsIn s ts) (wholeIn s pg (length ts) .listed), w .0)), w .1)
 
 -- ---- the loop over the common pages
 
@@ -84,7 +84,7 @@ module _ (s ts : List ℕ) (lead : ℕ) (pg ct ps room : List ℕ) (a : Asked s 
   pub record Going (q : Query) (cw pw : List ℕ) (b found : ℕ) (now : List ℕ) : Type 0 where
     pub number : ℕ
     pub seen : List ℕ
-    pub partway : Partway s pg (length ts) 0 q b number seen
+    pub partway : Partway s pg (length ts) q b number seen
     pub ahead : Ahead s ts ct ps cw pw b
     pub found-is : found ≡ length (withStarts ws seen)
     pub same : length now ≡ length room
@@ -96,7 +96,7 @@ module _ (s ts : List ℕ) (lead : ℕ) (pg ct ps room : List ℕ) (a : Asked s 
   going-start first e h = record {
     number = 0;
     seen = [];
-    partway = partway-start s pg (length ts) 0 (a .pages .lists);
+    partway = partway-start s pg (length ts) (a .pages .lists);
     ahead = ahead-new s ts lead pg ct ps a;
     found-is = refl;
     same = refl;
@@ -111,7 +111,7 @@ module _ (s ts : List ℕ) (lead : ℕ) (pg ct ps room : List ℕ) (a : Asked s 
           g .found-is,
           with-few ws (g .seen),
           g .partway .sized,
-          partway-few s pg (length ts) 0 q b
+          partway-few s pg (length ts) q b
               (g .number) (g .seen) (g .partway),
         )
 
@@ -120,15 +120,15 @@ module _ (s ts : List ℕ) (lead : ℕ) (pg ct ps room : List ℕ) (a : Asked s 
           × (length (foundIn s ts) < length room → now ≡ laid (0 ∷ foundIn s ts) room)
       going-end h =
           let r : Listed = record { found = g .number; seeks = seeksOf (t .q); looks = looksOf (t .q) } in
-          let e = partway-end s pg (length ts) 0 q b (g .number) (g .seen) (g .partway) t u h r (refl, refl, refl) .0 in
+          let e = partway-end s pg (length ts) q b (g .number) (g .seen) (g .partway) t u h r (refl, refl, refl) .0 in
           let f : withStarts ws (g .seen) ≡ foundIn s ts =
           ap (withStarts ws) (sym e) ∙ whole-found s ts lead pg ct ps a in
           (g .found-is ∙ ap length f, λ l. g .laid-so l ∙ ap (λ (x : List ℕ). laid (0 ∷ x) room) f)
 
       module _ (h : t .mark ≡ spentMark → ⊥) (n : ℕ) (cw′ pw′ : List ℕ) (is : n ≡ starts ws (t .mark - 1))
           (ahead′ : Ahead s ts ct ps cw′ pw′ (t .mark - 1 + 1)) where
-        abbrev next-way : Partway s pg (length ts) 0 (t .q) (t .mark) (g .number + 1) (g .seen ++ (t .mark - 1) ∷ [])
-        next-way = partway-step s pg (length ts) 0 q b (g .number) (g .seen) (g .partway) t u h
+        abbrev next-way : Partway s pg (length ts) (t .q) (t .mark) (g .number + 1) (g .seen ++ (t .mark - 1) ∷ [])
+        next-way = partway-step s pg (length ts) q b (g .number) (g .seen) (g .partway) t u h
 
         more : withStarts ws (g .seen ++ (t .mark - 1) ∷ []) ≡ withStarts ws (g .seen) ++ pairOf (t .mark - 1) n
         more =
@@ -140,7 +140,7 @@ module _ (s ts : List ℕ) (lead : ℕ) (pg ct ps room : List ℕ) (a : Asked s 
         within =
             let rest : List ℕ =
             allRounds (boundIn pg) (leadIn s pg (t .q)) (othersIn s pg (length ts) (t .q)) (t .mark) .listed in
-            let e : (g .seen ++ (t .mark - 1) ∷ []) ++ rest ≡ wholeFrom s pg (length ts) 0 .listed =
+            let e : (g .seen ++ (t .mark - 1) ∷ []) ++ rest ≡ wholeIn s pg (length ts) .listed =
             ap (λ (x : Tally). x .listed) (next-way .same) in
             let f =
             sym (with-more ws (g .seen ++ (t .mark - 1) ∷ []) rest) ∙ ap (withStarts ws) e

@@ -17,7 +17,7 @@ use Rattle.cardlaws.proofs.Theorems.{accepted-term}
 use Rattle.commonlaws.proofs.PickLaws.{lead-leads}
 use Rattle.commonlaws.proofs.CommonLaws.{common-listed}
 use Rattle.querylaws.specs.Lists.{span, pagesAt, pagesIn as allPages}
-use Rattle.querylaws.specs.Listings.{wholeFrom}
+use Rattle.querylaws.specs.Listings.{wholeIn}
 use Rattle.openlists.specs.Places.{placePart, placePages, placedIn, sourceOf, slotOf, Places, Alike, Opened}
 use Rattle.openlists.proofs.SourceLaws.{span-at, slot-lt, source-slot, source-order}
 use Rattle.openlists.proofs.Theorems.{placed-rise, opened-common}
@@ -98,7 +98,7 @@ module _ (s ts r : List ℕ) (o : OpenedPages s ts r) where
   opened-some = rw (length-lists s ts) (o .lists .some)
 
   -- plain reading lists the same pages
-  pub opened-listed : wholeFrom s r (length ts) 0 .listed ≡ commonPages (listsIn s ts)
+  pub opened-listed : wholeIn s r (length ts) .listed ≡ commonPages (listsIn s ts)
   opened-listed =
       ap (λ (t : Tally). t .listed) (o .rule) ∙ common-listed (indexN s) (listsIn s ts) opened-some (o .rise)
 

@@ -11,11 +11,11 @@ use Rattle.rules.specs.Common.{common}
 use Rattle.rules.specs.Questions.{listsIn}
 use Rattle.commonlaws.specs.Readers.{Rise, leadPages, otherPages}
 use Rattle.querylaws.specs.Lists.{pagesIn, boundIn, Lists}
-use Rattle.querylaws.specs.Listings.{wholeFrom}
+use Rattle.querylaws.specs.Listings.{wholeIn}
 
 pub record OpenedPages (s ts r : List ℕ) : Type 0 where
   pub lists : Lists s r (length ts)
   pub pages : pagesIn s r (length ts) ≡ leadPages (listsIn s ts) ∷ otherPages (listsIn s ts)
   pub bound : boundIn r ≡ indexN s
   pub rise : Rise (indexN s) (listsIn s ts)
-  pub rule : wholeFrom s r (length ts) 0 ≡ common (indexN s) (listsIn s ts)
+  pub rule : wholeIn s r (length ts) ≡ common (indexN s) (listsIn s ts)

@@ -2,7 +2,7 @@
 use mathlib.Core.Path.{refl}
 use native.Mathlib.Omega.{arith}
 use lib.ListN.{length}
-use Rattle.querylaws.specs.Listings.{wholeFrom}
+use Rattle.querylaws.specs.Listings.{wholeIn}
 use Rattle.wordlists.specs.Opened.{OpenedPages}
 use Rattle.questions.proofs.WroteLaws.{wrote-none}
 use Rattle.openlists.proofs.FewLaws.{whole-few}
@@ -22,14 +22,14 @@ add-if1 c =
     let p = c .before .before .before in
     let a = p .before .before .before .before .before .args in
     let r = p .open-pages .last .1 .1 .0 in
-    omega (arith, c .number .ensures, whole-few (a .card .now) r (length (a .terms .now)) 0 (opened p .lists) .1)
+    omega (arith, c .number .ensures, whole-few (a .card .now) r (length (a .terms .now)) (opened p .lists) .1)
 
 put-common-requires : tie.Need-put-common-requires
 put-common-requires c κs =
     let p = c .before .before .before .before .before .before in
     let a = p .before .before .before .before .before .args in
     let r = p .open-pages .last .1 .1 .0 in
-    let w = whole-few (a .card .now) r (length (a .terms .now)) 0 (opened p .lists) in
+    let w = whole-few (a .card .now) r (length (a .terms .now)) (opened p .lists) in
     (opened p .lists, omega (arith, c .before .before .before .number .ensures, c .before .before .if1 .taken))
 
 returns : tie.Need-returns
@@ -44,7 +44,7 @@ add-if2 c =
     let p = c .before .before .before .before .before .before .before .before .before in
     let a = p .before .before .before .before .before .args in
     let r = p .open-pages .last .1 .1 .0 in
-    let w = whole-few (a .card .now) r (length (a .terms .now)) 0 (opened p .lists) in
+    let w = whole-few (a .card .now) r (length (a .terms .now)) (opened p .lists) in
     omega (arith, c .before .before .list-common .ensures .0 .found)
 
 returns-2 : tie.Need-returns-2
@@ -52,7 +52,7 @@ returns-2 c =
     let p = c .before .before .before .before .before .before .before .before .before .before in
     let a = p .before .before .before .before .before .args in
     let r = p .open-pages .last .1 .1 .0 in
-    let l = length-tallied (wholeFrom (a .card .now) r (length (a .terms .now)) 0) in
+    let l = length-tallied (wholeIn (a .card .now) r (length (a .terms .now))) in
     rw (← opened-answer (a .card .now) (a .terms .now) r (opened p))
     (wrote-none _ _ _ (omega (arith, c .before .before .before .list-common .ensures .0 .found, c .if2 .taken))
     refl)

@@ -1,7 +1,7 @@
 -- `put_common` lists the pages behind the answer's first three numbers.
 use native.Mathlib.Omega.{arith}
 use lib.ListN.{length-set}
-use Rattle.querylaws.specs.Listings.{wholeFrom}
+use Rattle.querylaws.specs.Listings.{wholeIn}
 use Rattle.openlists.proofs.FewLaws.{whole-few}
 use Rattle.bycommon.proofs.TallyLaws.{put-tally}
 use borrow.Author.Needs.{needs}
@@ -12,7 +12,7 @@ cast-room : tie.Need-cast-room
 cast-room c =
     let l = c .before .before .before in
     let b = l .before .before .before .before .before in
-    let w = whole-few (b .args .card .now) (b .args .shapes .now) (b .args .k) 0 (b .pre .0) in
+    let w = whole-few (b .args .card .now) (b .args .shapes .now) (b .args .k) (b .pre .0) in
     omega (arith, l .list-common .ensures .0 .found)
 
 slice-write-room-2 : tie.Need-slice-write-room-2
@@ -25,8 +25,8 @@ returns : tie.Need-returns
 returns c =
     let l = c .before .before .before .before in
     let b = l .before .before .before .before .before in
-    put-tally (wholeFrom (b .args .card .now) (b .args .shapes .now) (b .args .k) 0) (b .args .room .now)
-    (l .list-common .last .1 .1 .1 .1 .0)
+    put-tally (wholeIn (b .args .card .now) (b .args .shapes .now) (b .args .k)) (b .args .room .now)
+    (l .list-common .last .1 .1 .1 .0)
     (l .list-common .result .found) (l .list-common .result .seeks) (l .list-common .result .looks) (b .pre .1)
     (l .list-common .ensures .1) (l .list-common .ensures .0 .found) (l .list-common .ensures .0 .seeks)
     (l .list-common .ensures .0 .looks)
