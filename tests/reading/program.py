@@ -31,9 +31,6 @@ class Program:
             raise Unread(f"there is no function {path}")
         return self.functions[path]
 
-    def of_crate(self, crate):
-        return list(self.crates[crate].functions.values())
-
     def meaning(self, crate, path):
         """The whole path of a function or a type that a crate's source names."""
         source = self.crates[crate]

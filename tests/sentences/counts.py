@@ -1,29 +1,34 @@
 """Sentences about counts and cursors in all crates: where they are made, moved, kept, summed up and told."""
 from reading import flow, tree
 from reading.compare import compared
+from sentences.names import FRESH, LOOK, LOOKING, LOOP, SEEK, SEEK_IN
 
 # every place at which a field `seeks` or `looks` is read or given
 COUNTS = {
-    "seek::Cursor::new": ["seeks: 0", "looks: 0"],
-    "seek::seek": ["c.looks", "seeks: c.seeks + 1", "c.seeks", "looks: looks"],
+    FRESH: ["seeks: 0", "looks: 0"],
+    SEEK: ["c.looks", "seeks: c.seeks + 1", "c.seeks", "looks: looks"],
     "query::totals": ["c.seeks", "c.looks", "seeks: seeks", "looks: looks"],
     "bycommon::put_common": ["listed.seeks", "listed.looks"],
-    "seeks::show_seek": ["c.looks"],  # the small program that prints single seeks
 }
-# the structs that hold counts, and the query, with the places at which they are made
+# the structs that hold counts
+COUNTING = ["walklaws::Cursor", "querylaws::Listed"]
+# those, the query and what seeks hand on with it, with the places at which they are made
 MADE = {
-    "seek::Cursor": ["seek::Cursor::new", "seek::seek"],
-    "query::Query": ["query::Query::new"],
-    "query::Listed": ["query::totals"],
+    "walklaws::Cursor": [FRESH, SEEK],
+    "querylaws::Query": ["querylaws::Query::new"],
+    "querylaws::InHand": [LOOP],
+    "querylaws::Scan": [LOOP, LOOP],
+    "querylaws::Listed": ["query::totals"],
 }
-# every place from which a function is called that makes, moves or sums up cursors, or that answers by them
+# every place from which a function is called that looks, that makes, moves or sums up cursors, or that answers by them
 CALLS = {
-    "seek::seek": ["query::seek_in", "seeks::show_seek"],
-    "seek::Cursor::new": ["query::Query::new", "seeks::show_seek"],
-    "query::Query::new": ["query::list_common", "kinds::by_bound", "phrases::list_starts"],
-    "query::seek_in": ["query::scan_lists"],
-    "query::scan_lists": ["query::list_common", "query::next_common"],
-    "query::next_common": ["kinds::by_bound", "phrases::list_starts"],  # kinds 2 and 4, which tell no counts
+    LOOK: LOOKING,
+    SEEK: [SEEK_IN],
+    FRESH: ["querylaws::Query::new"],
+    "querylaws::Query::new": ["query::list_common", "kinds::by_bound", "pairs::list_starts"],
+    SEEK_IN: [LOOP],
+    LOOP: ["query::list_common", "query::next_common"],
+    "query::next_common": ["kinds::by_bound", "pairs::list_starts"],  # kinds 2 and 4, which tell no counts
     "query::totals": ["query::list_common"],
     # pages are counted first where the room may be too small for them
     "query::list_common": ["bycommon::by_common", "bycommon::put_common"],
@@ -35,7 +40,7 @@ CALLS = {
 IN_HAND = ("q", "hand")
 TURNS = (tree.If, tree.Match, tree.Loop, tree.For, tree.Leave)
 # functions that take each of their steps once
-STRAIGHT = ["seek::seek", "query::seek_in"]
+STRAIGHT = [SEEK, SEEK_IN]
 
 
 def counts_where_named(program):
@@ -48,12 +53,13 @@ def counts_where_named(program):
                 found.setdefault(f.path, []).append(str(node))
     yield from compared("a count stands in", found, COUNTS)
     for name, fields in program.structs.items():
-        if {"seeks", "looks"} & set(fields) and name not in MADE:
+        if {"seeks", "looks"} & set(fields) and name not in COUNTING:
             yield f"{name}: it has fields for counts"
 
 
 def made_where_named(program):
-    """In all crates cursors, queries and sums of counts are made only at the places of the table."""
+    """In all crates cursors, queries, what seeks hand on with them and sums of counts are made only at the places of the
+    table."""
     found = {}
     for f in program.functions.values():
         for made in tree.every(tree.Made, f.body):
@@ -62,7 +68,8 @@ def made_where_named(program):
 
 
 def called_where_named(program):
-    """In all crates the seek, and what makes, moves or sums up cursors, is called only at the places of the table."""
+    """In all crates the look, the seek, and what makes, moves or sums up cursors, is called only at the places of the
+    table."""
     found = {}
     for f in program.functions.values():
         for callee, _ in program.calls(f):
@@ -79,14 +86,14 @@ def steps_once(program):
 
 def cursor_kept(program):
     """`seek_in` gives the cursor in hand to the seek, and puts in its place what the seek gave back."""
-    f = program.function("query::seek_in")
+    f = program.function(SEEK_IN)
     changes = tree.every(tree.Assign, f.body)
-    seeks = [call for callee, call in program.calls(f) if callee == "seek::seek"]
+    seeks = [call for callee, call in program.calls(f) if callee == SEEK]
     if len(changes) != 1 or len(seeks) != 1:
         yield f"{f.path}: {len(changes)} changes and {len(seeks)} seeks"
         return
     change, given = changes[0], str(seeks[0].arguments[2])
-    if change.sign != "=" or flow.origin(program, f, change.value) != "seek::seek()":
+    if change.sign != "=" or flow.origin(program, f, change.value) != f"{SEEK}()":
         yield f"{f.path}: `{change}` is not what the seek gave back"
     if given != str(change.target) or str(f.body.value) != flow.root(change.target):
         yield f"{f.path}: the seek is given `{given}`, `{change.target}` is changed, `{f.body.value}` given back"
@@ -98,7 +105,7 @@ def query_kept(program):
     for f in program.functions.values():
         stores = [change for change in tree.every(tree.Assign, f.body)
                   if any(field.name == "cursors" for field in tree.every(tree.Field, change.target))]
-        if f.path != "query::scan_lists":
+        if f.path != LOOP:
             yield from (f"{f.path}: `{store}` changes a query's cursors" for store in stores)
         elif len(stores) == 1:
             yield from round_wrong(program, f, stores[0])
@@ -111,7 +118,7 @@ def round_wrong(program, f, store):
     slot, query = str(store.target), flow.root(store.target)
     changes = [change for change in tree.every(tree.Assign, f.body) if flow.root(change.target) == query]
     told = [(str(change.target), flow.origin(program, f, change.value)) for change in changes]
-    if told != [(place, f"query::seek_in().{field}") for place, field in zip((query, slot), IN_HAND)]:
+    if told != [(place, f"{SEEK_IN}().{field}") for place, field in zip((query, slot), IN_HAND)]:
         yield f"{f.path}: the query is changed by {', '.join(f'`{change}`' for change in changes)}"
     starts = [str(let) for let in tree.every(tree.Let, f.body) if let.name == query]
     first = [name for name in f.of_type("Query") if len(flow.mentions(name, f.body)) == 1]
@@ -134,7 +141,7 @@ def between_wrong(program, f, store, changes):
         if not plain or tree.every(TURNS + (tree.Block,), step):
             yield f"{f.path}: `{step}` between a seek and the storing of its cursor"
     given = [[(node.name, str(node.value)) for node in tree.every(tree.Given, step)] for step in steps
-             if flow.origin(program, f, getattr(step, "value", step)) == "query::seek_in()"]
+             if flow.origin(program, f, getattr(step, "value", step)) == f"{SEEK_IN}()"]
     if given != [list(zip(IN_HAND, (flow.root(store.target), steps[0].name)))]:
         yield f"{f.path}: the seek in that round is not given the query and the cursor of `{store.target}`"
 

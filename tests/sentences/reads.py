@@ -3,9 +3,8 @@ from typing import NamedTuple
 
 from reading import flow, tree
 from reading.compare import compared
+from sentences.names import ANSWERS, KIND_3, KINDS, LOOK, LOW_PART, READING, RUN_WORD
 from sentences.written import WRITTEN
-
-KIND_3 = "bycommon::by_common"
 
 
 class Read(NamedTuple):
@@ -19,36 +18,34 @@ class Read(NamedTuple):
 
 # every read of bytes that kind 3 reaches
 READS = {
-    "bits::read_u32": Read(["s[at]", "s[at + 1]", "s[at + 2]", "s[at + 3]"], "the bytes of a number"),
-    "bits::read_u64": Read(["read_u32(s, at)", "read_u32(s, at + 4)"], "the halves of a number"),
-    "bits::run_word": Read(["read_u64(s, at + 8 * k)"], "the word that is asked for"),
+    "numbers::read_u32": Read(["s[at]", "s[at + 1]", "s[at + 2]", "s[at + 3]"], "the bytes of a number"),
+    "numbers::read_u64": Read(["read_u32(s, at)", "read_u32(s, at + 4)"], "the halves of a number"),
+    RUN_WORD: Read(["numbers::read_u64(s, at + 8 * k)"], "the word that is asked for"),
     "parts::blocks_from": Read(
-        ["bits::read_u32(rest, 0)"], "the lengths of the blocks before one", "⌜ Walkable from k (now s) ⌝"),
-    "parts::part_at": Read(["bits::read_u32(s, at)"], "the length of a block", "⌜ Held at (now s) ⌝"),
+        ["numbers::read_u32(rest, 0)"], "the lengths of the blocks before one", "⌜ Walkable from k (now s) ⌝"),
+    "parts::part_at": Read(["numbers::read_u32(s, at)"], "the length of a block", "⌜ Held at (now s) ⌝"),
     "openlists::length_of": Read(
-        ["bits::read_u32(part_of(card, places, i), 9)"], "n in a list's header",
+        ["numbers::read_u32(part_of(card, places, i), 9)"], "n in a list's header",
         "⌜ (i < 8) × PlaceOk (now card) (now places) i ⌝"),
-    "readlist::shape_at": Read(
-        ["bits::read_u32(block, 5)", "bits::read_u32(block, 9)"], "U and n in a list's header",
+    "reading::shape_at": Read(
+        ["numbers::read_u32(block, 5)", "numbers::read_u32(block, 9)"], "U and n in a list's header",
         "⌜ listRefusal (now block) ≡ Accepted ⌝"),
-    "readlist::pointer_in": Read(
-        ["bits::read_u32(block, 9 + 4 * i)"], "pointer number i",
+    "reading::pointer_in": Read(
+        ["numbers::read_u32(block, 9 + 4 * i)"], "pointer number i",
         "⌜ Open (now block) (shapeIn (now block)) × (i ≤ pointersIn (shapeIn (now block))) ⌝"),
-    "seek::low_part": Read(
-        ["bits::run_word(&s[g.lower..g.upper], 0, rank * g.w / 64)",
-         "bits::run_word(&s[g.lower..g.upper], 0, rank * g.w / 64 + 1)"], "words of the lower run"),
-    "seek::look": Read(["bits::run_word(s, upper, k)"], "the word of the upper run that is counted"),
+    LOW_PART: Read(
+        ["runs::run_word(&s[g.lower..g.upper], 0, rank * g.w / 64)",
+         "runs::run_word(&s[g.lower..g.upper], 0, rank * g.w / 64 + 1)"], "words of the lower run"),
+    LOOK: Read(["runs::run_word(s, upper, k)"], "the word of the upper run that is counted"),
 }
-# what may be given the card between its check and the kinds of questions
-KINDS = ["ask::answer_one", KIND_3, "kinds::by_bound", "kinds::by_rank", "phrases::by_phrase"]
 
 
 def card_goes_to_kinds(program):
     """Between the check of the card and the kinds of questions nothing is done with the card but hand it on."""
-    for path in ["ask::answer_all", "ask::answer_one"]:
+    for path in ANSWERS:
         f = program.function(path)
         for use in flow.Bytes(program, f).uses():
-            if use.what != "handed" or program.callee(f, use.node) not in KINDS:
+            if use.what != "handed" or program.callee(f, use.node) not in ANSWERS + KINDS:
                 yield f"{path}: `{use.node}`: the bytes `{use.bytes}` are {use.what}"
 
 
@@ -66,9 +63,9 @@ def bytes_are_followed(program):
 
 
 def reads_in(program, f):
-    """The reads of bytes in a function: a byte, or a call of crate bits that is given bytes."""
+    """The reads of bytes in a function: a byte, or a call of the crates that read bytes which is given some."""
     return [use.node for use in flow.Bytes(program, f).uses() if use.what == "byte"
-            or use.what == "handed" and program.callee(f, use.node).startswith("bits::")]
+            or use.what == "handed" and program.callee(f, use.node).split("::")[0] in READING]
 
 
 def reads_found(program):

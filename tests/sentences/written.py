@@ -3,9 +3,9 @@ from reading.source import read
 
 # what hands out a word and counts it
 LOOK = """
-fn look(s: &[u8], upper: usize, k: usize, looks: &mut u32) -> u64 {
+pub fn look(s: &[u8], upper: usize, k: usize, looks: &mut u32) -> u64 {
     *looks += 1;
-    bits::run_word(s, upper, k)
+    runs::run_word(s, upper, k)
 }
 """
 # the plain sums of the cursors' counts, and what they are summed up of
@@ -40,7 +40,7 @@ pub fn by_common(card: &[u8], terms: &[u32], room: &mut [u32]) -> usize {
     let k = terms.len();
     let mut shapes = [0u32; 64];
     wordlists::open_pages(card, terms, &mut shapes);
-    if query::number(&shapes, 0, 7) + 3 <= room.len() {
+    if inhand::number(&shapes, 0, 7) + 3 <= room.len() {
         return put_common(card, &shapes, k, room);
     }
     let mut none = [0u32; 0];
@@ -57,14 +57,14 @@ pub fn blocks_from(s: &[u8], from: usize, k: usize) -> &[u8] {
     let mut rest = &s[from..];
     let mut i = 0;
     while i < k {
-        let size = bits::read_u32(rest, 0) as usize;
+        let size = numbers::read_u32(rest, 0) as usize;
         rest = &rest[size..];
         i += 1;
     }
     rest
 }
 """
-WRITTEN = {f.path: f for crate, text in [("seek", LOOK), ("query", SUMS), ("bycommon", TOLD), ("parts", WALK)]
+WRITTEN = {f.path: f for crate, text in [("looks", LOOK), ("query", SUMS), ("bycommon", TOLD), ("parts", WALK)]
            for f in read(crate, text).functions.values()}
 
 

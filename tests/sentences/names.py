@@ -1,0 +1,33 @@
+"""The crates and functions that the sentences speak of, each named here once; the tables beside the sentences name
+those that they list."""
+
+# the crates of a seek: its cursor, its looks and its steps
+OF_SEEK = ["walklaws", "looks", "starting", "passing", "landing", "seek"]
+# what other crates may call of them
+SEEK = "seek::seek"
+FRESH = "walklaws::Cursor::new"
+# what hands out a word of the upper run and counts it, and what alone calls it
+LOOK = "looks::look"
+LOOKING = ["looks::next_word", "passing::pass"]
+# what reads words of the lower run
+LOW_PART = "landing::low_part"
+# the function of another crate that a seek hands the list's bytes to
+POINTER = "reading::pointer_at"
+
+# the crates whose functions read the bytes that they are given, and the one of them that reads a word
+READING = ["numbers", "runs"]
+RUN_WORD = "runs::run_word"
+
+# one seek by the cursor in hand, and the one loop that makes seeks
+SEEK_IN = "inhand::seek_in"
+LOOP = "query::scan_lists"
+
+# the way from the card's check to the kinds of questions, and those
+ANSWERS = ["ask::answer_all", "ask::answer_one"]
+KIND_3 = "bycommon::by_common"
+KINDS = [KIND_3, "kinds::by_bound", "kinds::by_rank", "phrases::by_phrase"]
+
+
+def of_seek(program):
+    """The functions of the seek's crates."""
+    return [f for f in program.functions.values() if f.crate in OF_SEEK]
