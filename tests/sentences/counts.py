@@ -58,8 +58,8 @@ def counts_where_named(program):
 
 
 def made_where_named(program):
-    """In all crates cursors, queries, what seeks hand on with them and sums of counts are made only at the places of the
-    table."""
+    """In all crates cursors, queries, what seeks hand on with them and sums of counts are made only at the places of
+    the table."""
     found = {}
     for f in program.functions.values():
         for made in tree.every(tree.Made, f.body):
