@@ -1,11 +1,26 @@
 //! The sample cards S1 to S12 of document 01 and its edges.
 
 use jundefola::{
-    ask, ask_all, check_index, check_list, list_block, Answer, CardWriter, Found, PageStarts,
-    Question, Refusal,
+    ask, ask_all, check_index, check_list, check_term, close_index, list_block, term_block,
+    write_term, Answer, CardWriter, Found, PageStarts, Question, Refusal,
 };
 
 const S1_LIST: [u32; 8] = [3, 4, 7, 13, 14, 15, 21, 43];
+
+/// The term of S9's word, and its card, whose header has 11 bytes.
+const S9_TERM: &str = "00000054 01 \
+     0000001D 01 00000003 00000001 0000000000000001 0000000000000001 \
+     0000001D 01 00000002 00000001 0000000000000001 0000000000000001 \
+     00000015 01 00000003 00000002 0000000000000009";
+const S9_HEADER: &str = "0000005F 01 00000003 0001";
+
+const S12_CARD: &str = "000000A3 01 0000002C 0002 0000004C 01 \
+     0000001D 01 0000002C 00000008 000000000000DE73 00000000000209CD \
+     00000015 01 00000008 00000008 0000000000005555 \
+     00000015 01 00000008 00000008 0000000000005555 0000004C 01 \
+     0000001D 01 0000002C 00000002 00000000000000F4 0000000000000003 \
+     00000015 01 00000002 00000002 0000000000000005 \
+     00000015 01 00000002 00000002 0000000000000005";
 
 /// The bytes of hexadecimal text, blanks aside.
 fn hex(text: &str) -> Vec<u8> {
@@ -55,6 +70,15 @@ fn s1_a_list_of_eight() {
 }
 
 #[test]
+fn s1_by_rank() {
+    let card = card_of_pages(44, &[&S1_LIST]);
+    for (rank, page) in (0..).zip(S1_LIST) {
+        assert_eq!(answer(&card, &[1, 2, 0, rank]), [1, page]);
+    }
+    assert_eq!(answer(&card, &[1, 2, 0, 8]), [0]);
+}
+
+#[test]
 fn s2_an_empty_list() {
     assert_eq!(
         list_block(5, &[]).unwrap(),
@@ -82,6 +106,16 @@ fn s5_to_s7_bounds() {
     assert_eq!(answer(&card, &[2, 2, 0, 44]), [0]);
 }
 
+/// The looks of S1's first seek, beside those of the other word's: that word leads, and is on one page, the bound.
+#[test]
+fn s5_to_s7_looks() {
+    let card = card_of_pages(44, &[&S1_LIST, &[16], &[43]]);
+    // page 21 is found, and then none for the other word: a look each
+    assert_eq!(answer(&card, &[3, 2, 0, 1]), [2, 3, 1 + 1 + 1]);
+    // the other word's last seek is for 44, which takes no look
+    assert_eq!(answer(&card, &[3, 2, 0, 2]), [3, 3, 1 + 1, 43]);
+}
+
 #[test]
 fn s8_a_list_with_a_pointer() {
     let full: Vec<u32> = (0..300).collect();
@@ -89,19 +123,23 @@ fn s8_a_list_with_a_pointer() {
     assert_eq!(block.len(), 97);
     assert_eq!(block[13..17], 512_u32.to_be_bytes());
     // the full list's first seek is for the other word's page; the other word's own seeks take the looks that are left
-    let card = card_of_pages(300, &[&full, &[299], &[255]]);
+    let card = card_of_pages(300, &[&full, &[299], &[255], &[0]]);
     assert_eq!(answer(&card, &[3, 2, 0, 1]), [3, 3, 1 + 2, 299]);
     assert_eq!(answer(&card, &[3, 2, 0, 2]), [3, 3, 1 + 8 + 1, 255]);
+    assert_eq!(answer(&card, &[3, 2, 0, 3]), [3, 3, 1 + 1 + 1, 0]);
+    for bound in [299, 255, 0] {
+        assert_eq!(answer(&card, &[2, 2, 0, bound]), [2, bound, bound]);
+    }
+    assert_eq!(answer(&card, &[2, 2, 0, 300]), [0]);
 }
 
 #[test]
 fn s9_to_s11_a_card_of_one_word() {
     let card = s9_card();
-    let expected = hex("0000005F 01 00000003 0001 00000054 01 \
-         0000001D 01 00000003 00000001 0000000000000001 0000000000000001 \
-         0000001D 01 00000002 00000001 0000000000000001 0000000000000001 \
-         00000015 01 00000003 00000002 0000000000000009");
-    assert_eq!(card, expected);
+    let term = term_block(3, &[1], &[2], &[0, 2]).unwrap();
+    assert_eq!(term, hex(S9_TERM));
+    assert_eq!(check_term(&term), Ok(()));
+    assert_eq!(card, [hex(S9_HEADER), hex(S9_TERM)].concat());
     assert_eq!(answer(&card, &[3, 1, 0]), [3, 2, 2, 1]);
     assert_eq!(answer(&card, &[4, 2, 0, 0]), [0]);
     assert_eq!(answer(&card, &[4, 1, 0]), [2, 1, 2]);
@@ -110,7 +148,90 @@ fn s9_to_s11_a_card_of_one_word() {
 #[test]
 fn s12_common_pages() {
     let card = card_of_pages(44, &[&S1_LIST, &[4, 15]]);
+    assert_eq!(card, hex(S12_CARD));
+    assert_eq!(check_index(&card), Ok(()));
     assert_eq!(answer(&card, &[3, 2, 0, 1]), [4, 5, 5, 4, 15]);
+}
+
+#[test]
+fn a_word_on_no_page() {
+    let empty = "0000000D 01 00000000 00000000";
+    let expected = hex(&["0000002C 01", empty, empty, empty].concat());
+    assert_eq!(term_block(0, &[], &[], &[]).unwrap(), expected);
+}
+
+#[test]
+fn sums_and_positions_past_32_bits() {
+    let refused = |counts: &[u32], positions: &[u32]| {
+        let mut room = vec![0xA5; 96];
+        let refusal = write_term(3, &[1, 2], counts, positions, &mut room).unwrap_err();
+        assert_eq!(room, [0xA5; 96]);
+        refusal
+    };
+    assert_eq!(refused(&[u32::MAX, 3], &[0, 2]), Refusal::Lists);
+    assert_eq!(refused(&[1, 2], &[u32::MAX, 5, 5]), Refusal::Lists);
+    assert_eq!(refused(&[1, 1], &[u32::MAX, 5]), Refusal::Limit);
+    let limit_before_lists = term_block(16_777_217, &[], &[1], &[]);
+    assert_eq!(limit_before_lists, Err(Refusal::Limit));
+}
+
+#[test]
+fn s9_cut() {
+    let card = s9_card();
+    assert_eq!(check_index(&card[..94]), Err(Refusal::Length));
+    assert_eq!(check_index(&card[1..]), Err(Refusal::Length));
+    assert_eq!(check_index(&card[..11]), Err(Refusal::Length));
+    assert_eq!(check_index(&card[..10]), Err(Refusal::Short));
+}
+
+/// A byte of S9's card set, how that is refused, and how it is with N = 4 as well, so that only the order decides.
+#[test]
+fn s9_damaged() {
+    use Refusal::{Layout, Length, Limit, Parts, Short, Version};
+    let damages = [
+        (4, 2, Version, Version),
+        (5, 2, Limit, Limit),
+        (9, 0x10, Limit, Limit),
+        (10, 0, Layout, Layout),
+        (10, 2, Short, Parts),
+        (14, 0x53, Length, Length),
+        (15, 0, Version, Version),
+        (19, 0x1C, Layout, Layout),
+        (53, 3, Parts, Parts),
+        (94, 0x05, Parts, Parts),
+    ];
+    for (at, byte, alone, with_n) in damages {
+        let mut card = s9_card();
+        card[at] = byte;
+        assert_eq!(check_index(&card), Err(alone));
+        card[8] = 4;
+        assert_eq!(check_index(&card), Err(with_n));
+    }
+    let mut card = s9_card();
+    card[8] = 4;
+    assert_eq!(check_index(&card), Err(Parts));
+}
+
+#[test]
+fn s9_closed() {
+    let card = s9_card();
+    let close = |used, n, t| {
+        let mut buffer = card.clone();
+        let report = close_index(&mut buffer, used, n, t);
+        (report, buffer)
+    };
+    let refused = |refusal| (Err(refusal), card.clone());
+    assert_eq!(close(96, 3, 1), refused(Refusal::Room));
+    assert_eq!(close(10, 3, 1), refused(Refusal::Short));
+    assert_eq!(close(95, 3, 4097), refused(Refusal::Limit));
+    assert_eq!(close(95, 3, 65_537), refused(Refusal::Limit));
+    assert_eq!(close(95, 16_777_217, 1), refused(Refusal::Limit));
+    assert_eq!(close(95, 4, 1), refused(Refusal::Parts));
+    assert_eq!(close(95, 3, 1), (Ok(95), card.clone()));
+    let (report, without_words) = close(11, 0, 0);
+    assert_eq!(report, Ok(11));
+    assert_eq!(check_index(&without_words[..11]), Ok(()));
+    assert_eq!(without_words[11..], card[11..]);
 }
 
 #[test]
