@@ -27,6 +27,15 @@ def uses_above(listing):
             yield f"{crate}: what it lists is not in the order of the file"
 
 
+def uses_are_used(listing):
+    """A crate lists none but those that its files name, and those whose structs its functions or what they call are
+    given or give back."""
+    for crate, uses in listing.listed.items():
+        if crate in listing.folders:
+            used = listing.named(crate) | {whole.split("::")[0] for whole in listing.types(crate)}
+            yield from (f"{crate}: it does not use {name}" for name in uses if name not in used)
+
+
 def map_has_groups(listing):
     """README's map has a row for each group, in their order, with the crates of the group and no others."""
     rows = listing.rows()
@@ -37,4 +46,4 @@ def map_has_groups(listing):
             yield f"README.md: {crate} is in the group {group} here or there, but not in both"
 
 
-SENTENCES = [each_folder_once, each_in_a_group, uses_above, map_has_groups]
+SENTENCES = [each_folder_once, each_in_a_group, uses_above, uses_are_used, map_has_groups]
