@@ -20,6 +20,7 @@ use Rattle.shape.specs.declared.Shape.{Shape}
 use Rattle.shape.specs.Shape.{shapeOf}
 use Rattle.filllaws.specs.Filling.{Fitting}
 use Rattle.writelist.proofs.WriteLaws.{u-of, n-of, end-of, fitting-of}
+use Rattle.wordlaws.specs.declared.Shapes.{Shapes}
 use Rattle.wordlaws.specs.Lists.{Sums, Places, Shaped}
 
 -- ---- a writable word
@@ -45,24 +46,33 @@ bounds-of N ps cs qs w =
     }
 
 pub shaped-of : (N k : ℕ) (ps cs qs : List ℕ) → Writable N (lentWord ps cs qs) → k ≡ next 0 (places (lentWord ps cs qs))
-    → (p c q : Shape) → p ≡ shapeOf N (length ps) → c ≡ shapeOf (length qs) (length cs) → q ≡ shapeOf k (length qs)
-    → Shaped p c q ps cs qs
-shaped-of N k ps cs qs w e p c q f g h =
-    let u = u-of N (length ps) p f in
+    → (g : Shapes) → g .pages ≡ shapeOf N (length ps) → g .counts ≡ shapeOf (length qs) (length cs)
+    → g .positions ≡ shapeOf k (length qs) → Shaped g ps cs qs
+shaped-of N k ps cs qs w e g a b d =
+    let u = u-of N (length ps) (g .pages) a in
     record {
       writable = rw u w;
-      pages-are = f ∙ ap (λ m. shapeOf m (length ps)) (sym u);
-      counts-are = rw (valid-agreeing N (lentWord ps cs qs) (w .valid) .summed) g;
-      places-are = rw (← e) h;
+      pages-are = a ∙ ap (λ m. shapeOf m (length ps)) (sym u);
+      counts-are = rw (valid-agreeing N (lentWord ps cs qs) (w .valid) .summed) b;
+      places-are = rw (← e) d;
     }
 
 -- ---- its lists
 
 -- a term's header, of lists of these shapes
-abbrev pub headOf : Shape → Shape → Shape → List ℕ
-headOf p c q = be 4 (5 + p .end + c .end + q .end) ++ (version ∷ [])
+abbrev pub headOf : Shapes → List ℕ
+headOf g = be 4 (5 + g .pages .end + g .counts .end + g .positions .end) ++ (version ∷ [])
 
-module _ {p c q : Shape} {ps cs qs : List ℕ} (s : Shaped p c q ps cs qs) where
+module _ {g : Shapes} {ps cs qs : List ℕ} (s : Shaped g ps cs qs) where
+  abbrev p : Shape
+  p = g .pages
+
+  abbrev c : Shape
+  c = g .counts
+
+  abbrev q : Shape
+  q = g .positions
+
   abbrev t : Word
   t = lentWord ps cs qs
 
@@ -123,11 +133,11 @@ module _ {p c q : Shape} {ps cs qs : List ℕ} (s : Shaped p c q ps cs qs) where
   pub block-long : length (termBlock (p .u) t) ≡ 5 + p .end + c .end + q .end
   block-long = term-length (p .u) t (s .writable) ∙ omega (arith, pages-long, counts-end, places-end)
 
-  pub head-long : length (headOf p c q) ≡ 5
+  pub head-long : length (headOf g) ≡ 5
   head-long = length-append (be 4 (5 + p .end + c .end + q .end)) (version ∷ [])
       ∙ omega (arith, length-be 4 (5 + p .end + c .end + q .end))
 
-  pub pieces-are : ((headOf p c q ++ block (p .u) ps) ++ block (c .u) (sums 0 cs)) ++ block (q .u) (placed 0 cs qs)
+  pub pieces-are : ((headOf g ++ block (p .u) ps) ++ block (c .u) (sums 0 cs)) ++ block (q .u) (placed 0 cs qs)
       ≡ termBlock (p .u) t
   unfolding termBlock sized places
   pieces-are =

@@ -2,7 +2,7 @@
 --
 --   Sums g cs room     the sums of cs make a list of shape g, and the room holds its block
 --   Places g cs ps room  the elements of the positions ps likewise
---   Shaped p c q ps cs qs  p, c and q are the shapes of the lists of a writable word
+--   Shaped g ps cs qs  g are the shapes of the lists of a writable word
 use mathlib.Core.Bool.{true}
 use mathlib.Core.Path.{_≡_}
 use mathlib.Core.List.{List}
@@ -14,6 +14,7 @@ use Rattle.termlaws.specs.Words.{Writable}
 use Rattle.shape.specs.declared.Shape.{Shape}
 use Rattle.shape.specs.Shape.{shapeOf}
 use Rattle.filllaws.specs.Filling.{Fitting}
+use Rattle.wordlaws.specs.declared.Shapes.{Shapes}
 
 pub record Sums (g : Shape) (cs room : List ℕ) : Type 0 where
   pub fitting : Fitting g room
@@ -28,8 +29,8 @@ pub record Places (g : Shape) (cs ps room : List ℕ) : Type 0 where
   pub counted : positive cs ≡ true
   pub rises : rising 0 (g .u) (placed 0 cs ps) ≡ true
 
-pub record Shaped (p c q : Shape) (ps cs qs : List ℕ) : Type 0 where
-  pub writable : Writable (p .u) (lentWord ps cs qs)
-  pub pages-are : p ≡ shapeOf (p .u) (length ps)
-  pub counts-are : c ≡ shapeOf (total cs) (length cs)
-  pub places-are : q ≡ shapeOf (next 0 (places (lentWord ps cs qs))) (length qs)
+pub record Shaped (g : Shapes) (ps cs qs : List ℕ) : Type 0 where
+  pub writable : Writable (g .pages .u) (lentWord ps cs qs)
+  pub pages-are : g .pages ≡ shapeOf (g .pages .u) (length ps)
+  pub counts-are : g .counts ≡ shapeOf (total cs) (length cs)
+  pub places-are : g .positions ≡ shapeOf (next 0 (places (lentWord ps cs qs))) (length qs)

@@ -1,5 +1,7 @@
 // What the writing of a word asks of its lists, and the laws of their tests and of their places.
 
+use shape::Shape;
+
 // Whether positions are in order, and if so the first number past their last.
 pub struct Reach {
     pub ok: bool,
@@ -10,4 +12,11 @@ pub struct Reach {
 pub struct Turn {
     pub page: usize,
     pub end: usize,
+}
+
+// The shapes of a word's three lists.
+pub struct Shapes {
+    pub pages: Shape,
+    pub counts: Shape,
+    pub positions: Shape,
 }

@@ -5,9 +5,9 @@ ghost use mathlib.Core.Path.{_≡_};
 ghost use Prim.Native.Nat.{_+_, _≤_, _<_};
 ghost use lib.ListN.{length};
 ghost use Rattle.rules.specs.Write.{laid};
-ghost use Rattle.rules.specs.Term.{lentWord, next};
-ghost use Rattle.rules.specs.Term.{termBlock};
+ghost use Rattle.rules.specs.Term.{lentWord, next, places, termBlock};
 ghost use Rattle.rules.specs.Promises.{TermWritten};
+ghost use Rattle.termlaws.specs.Words.{Writable};
 ghost use Rattle.wordlaws.specs.Lists.{Shaped};
 use rules::LIMIT;
 use rules::LISTS_AT;
@@ -15,32 +15,58 @@ use rules::Refusal;
 use rules::VERSION;
 use rules::VERSION_AT;
 use rules::Written;
-use shape::Shape;
+use wordlaws::Shapes;
 
 // Writes the block of a word whose lists have these shapes: its header, and behind it the lists, each straight into its
 // part.
-fn fill_term(
-    room: &mut [u8],
-    p: Shape,
-    c: Shape,
-    q: Shape,
+fn fill_term(room: &mut [u8], g: Shapes, pages: &[u32], counts: &[u32], positions: &[u32])
+    requires { ⌜ Shaped g (now pages) (now counts) (now positions)
+        × (5 + g .pages .end + g .counts .end + g .positions .end ≤ length (now room)) ⌝ }
+    ensures { λ _. ⌜ now (room .exit) ≡ laid
+        (termBlock (g .pages .u) (lentWord (now (pages .entry)) (now (counts .entry)) (now (positions .entry))))
+        (now (room .entry)) ⌝ }
+{
+    let second = LISTS_AT + g.pages.end;
+    let third = second + g.counts.end;
+    numbers::write_u32(room, 0, (third + g.positions.end) as u64);
+    room[VERSION_AT] = VERSION;
+    filling::fill(&mut room[LISTS_AT..], g.pages, pages);
+    fillsums::fill_sums(&mut room[second..], g.counts, counts);
+    fillplaces::fill_places(&mut room[third..], g.positions, counts, positions);
+}
+
+// Writes the block of a word that has passed its tests, the elements of whose positions end at `reach`; or tells that
+// the room is too small.
+fn write_tested(
+    n: usize,
+    reach: usize,
     pages: &[u32],
     counts: &[u32],
     positions: &[u32],
-)
-    requires { ⌜ Shaped p c q (now pages) (now counts) (now positions)
-        × (5 + p .end + c .end + q .end ≤ length (now room)) ⌝ }
-    ensures { λ _. ⌜ now (room .exit)
-        ≡ laid (termBlock (p .u) (lentWord (now (pages .entry)) (now (counts .entry)) (now (positions .entry))))
-        (now (room .entry)) ⌝ }
+    room: &mut [u8],
+) -> Written
+    requires { ⌜ Writable n (lentWord (now pages) (now counts) (now positions))
+        × (reach ≡ next 0 (places (lentWord (now pages) (now counts) (now positions)))) ⌝ }
+    ensures { λ r. ⌜ TermWritten n (lentWord (now (pages .entry)) (now (counts .entry)) (now (positions .entry)))
+        (now (room .entry)) r (now (room .exit)) ⌝ }
 {
-    let second = LISTS_AT + p.end;
-    let third = second + c.end;
-    numbers::write_u32(room, 0, (third + q.end) as u64);
-    room[VERSION_AT] = VERSION;
-    filling::fill(&mut room[LISTS_AT..], p, pages);
-    fillsums::fill_sums(&mut room[second..], c, counts);
-    fillplaces::fill_places(&mut room[third..], q, counts, positions);
+    let g = Shapes {
+        pages: shape::shape_of(n, pages.len()),
+        counts: shape::shape_of(positions.len(), counts.len()),
+        positions: shape::shape_of(reach, positions.len()),
+    };
+    let size = LISTS_AT + g.pages.end + g.counts.end + g.positions.end;
+    if room.len() < size {
+        return Written {
+            refusal: Refusal::Room,
+            size: 0,
+        };
+    }
+    fill_term(room, g, pages, counts, positions);
+    Written {
+        refusal: Refusal::Accepted,
+        size,
+    }
 }
 
 // Writes a word's block at the front of the room: pages below n, how often the word is on each, and the positions of
@@ -74,19 +100,5 @@ pub fn write_term(
             size: 0,
         };
     }
-    let p = shape::shape_of(n as usize, pages.len());
-    let c = shape::shape_of(positions.len(), counts.len());
-    let q = shape::shape_of(word.next, positions.len());
-    let size = LISTS_AT + p.end + c.end + q.end;
-    if room.len() < size {
-        return Written {
-            refusal: Refusal::Room,
-            size: 0,
-        };
-    }
-    fill_term(room, p, c, q, pages, counts, positions);
-    Written {
-        refusal: Refusal::Accepted,
-        size,
-    }
+    write_tested(n as usize, word.next, pages, counts, positions, room)
 }

@@ -31,16 +31,16 @@ from-places c = from-counts (c .before .before .before .before)
 
 -- the pieces, and those that lie before the counts and before the positions
 abbrev head : tie.Start → List ℕ
-head s = headOf (s .args .p) (s .args .c) (s .args .q)
+head s = headOf (s .args .g)
 
 abbrev pages : tie.Start → List ℕ
-pages s = block (s .args .p .u) (s .args .pages .now)
+pages s = block (s .args .g .pages .u) (s .args .pages .now)
 
 abbrev counts : tie.Start → List ℕ
-counts s = block (s .args .c .u) (sums 0 (s .args .counts .now))
+counts s = block (s .args .g .counts .u) (sums 0 (s .args .counts .now))
 
 abbrev places : tie.Start → List ℕ
-places s = block (s .args .q .u) (placed 0 (s .args .counts .now) (s .args .positions .now))
+places s = block (s .args .g .positions .u) (placed 0 (s .args .counts .now) (s .args .positions .now))
 
 abbrev front : tie.Start → List ℕ
 front s = head s ++ pages s
@@ -49,7 +49,7 @@ abbrev middle : tie.Start → List ℕ
 middle s = front s ++ counts s
 
 abbrev whole : tie.Start → List ℕ
-whole s = termBlock (s .args .p .u) (lentWord (s .args .pages .now) (s .args .counts .now) (s .args .positions .now))
+whole s = termBlock (s .args .g .pages .u) (lentWord (s .args .pages .now) (s .args .counts .now) (s .args .positions .now))
 
 -- the room behind the header, the pages, the counts and the positions
 abbrev headed : tie.After-slice-known2 → List ℕ
@@ -63,14 +63,14 @@ paged c =
 abbrev counted : tie.After-slice-known4 → List ℕ
 counted c =
     let r = paged (c .before .before .before .before) in
-    let u = 5 + from-counts c .args .p .end in
+    let u = 5 + from-counts c .args .g .pages .end in
     putMid u (length r - u) r (c .before .before .fill-sums .last .0)
 
 abbrev filled : tie.After-slice-known5 → List ℕ
 filled c =
     let a = from-places c .args in
     let r = counted (c .before .before .before .before) in
-    let u = 5 + a .p .end + a .c .end in
+    let u = 5 + a .g .pages .end + a .g .counts .end in
     putMid u (length r - u) r (c .before .before .fill-places .last .0)
 
 -- it holds the pieces, each behind those before it
@@ -79,7 +79,7 @@ head-laid c =
     let s = from-head c in
     let a = s .args in
     ap (λ l. set l 4 1) (c .before .before .write-u32 .ensures)
-    ∙ header-laid (5 + a .p .end + a .c .end + a .q .end) 1 (a .room .now) (omega (arith, s .pre .1))
+    ∙ header-laid (5 + a .g .pages .end + a .g .counts .end + a .g .positions .end) 1 (a .room .now) (omega (arith, s .pre .1))
 
 pages-laid : (c : tie.After-slice-known3) → paged c ≡ laid (front (from-pages c)) (from-pages c .args .room .now)
 pages-laid c =
@@ -88,17 +88,17 @@ pages-laid c =
     piece-laid (head s) (pages s) (s .args .room .now) 5 (headed b) (c .before .before .fill .last .0)
     (head-long (s .pre .0)) (head-laid b) (c .before .before .fill .ensures)
 
-behind-pages : (s : tie.Start) → length (front s) ≡ 5 + s .args .p .end
+behind-pages : (s : tie.Start) → length (front s) ≡ 5 + s .args .g .pages .end
 behind-pages s = length-append (head s) (pages s) ∙ omega (arith, head-long (s .pre .0), pages-long (s .pre .0))
 
 counts-laid : (c : tie.After-slice-known4) → counted c ≡ laid (middle (from-counts c)) (from-counts c .args .room .now)
 counts-laid c =
     let s = from-counts c in
     let b = c .before .before .before .before in
-    piece-laid (front s) (counts s) (s .args .room .now) (5 + s .args .p .end) (paged b)
+    piece-laid (front s) (counts s) (s .args .room .now) (5 + s .args .g .pages .end) (paged b)
     (c .before .before .fill-sums .last .0) (behind-pages s) (pages-laid b) (c .before .before .fill-sums .ensures)
 
-behind-counts : (s : tie.Start) → length (middle s) ≡ 5 + s .args .p .end + s .args .c .end
+behind-counts : (s : tie.Start) → length (middle s) ≡ 5 + s .args .g .pages .end + s .args .g .counts .end
 behind-counts s = length-append (front s) (counts s) ∙ omega (arith, behind-pages s, counts-long (s .pre .0))
 
 term-laid : (c : tie.After-slice-known5) → filled c ≡ laid (whole (from-places c)) (from-places c .args .room .now)
@@ -106,7 +106,7 @@ term-laid c =
     let s = from-places c in
     let a = s .args in
     let b = c .before .before .before .before in
-    piece-laid (middle s) (places s) (a .room .now) (5 + a .p .end + a .c .end) (counted b)
+    piece-laid (middle s) (places s) (a .room .now) (5 + a .g .pages .end + a .g .counts .end) (counted b)
     (c .before .before .fill-places .last .0) (behind-counts s) (counts-laid b)
     (c .before .before .fill-places .ensures)
     ∙ ap (λ l. laid l (a .room .now)) (pieces-are (s .pre .0))
@@ -150,7 +150,7 @@ fill-sums-requires : tie.Need-fill-sums-requires
 fill-sums-requires c κs =
     let s = from-pages (c .before) in
     counts-ask (s .pre .0) _
-    (omega (arith, part-long (5 + s .args .p .end) (paged (c .before)), paged-long (c .before), s .pre .1))
+    (omega (arith, part-long (5 + s .args .g .pages .end) (paged (c .before)), paged-long (c .before), s .pre .1))
 
 sub-fill-places : tie.Need-sub-fill-places
 sub-fill-places c = omega (arith, counted-long c, from-counts c .pre .1)
@@ -161,7 +161,7 @@ part-fill-places-start c = omega (arith, counted-long c, from-counts c .pre .1)
 fill-places-requires : tie.Need-fill-places-requires
 fill-places-requires c κs =
     let s = from-counts (c .before) in
-    let u = 5 + s .args .p .end + s .args .c .end in
+    let u = 5 + s .args .g .pages .end + s .args .g .counts .end in
     places-ask (s .pre .0) _
     (omega (arith, part-long u (counted (c .before)), counted-long (c .before), s .pre .1))
 
