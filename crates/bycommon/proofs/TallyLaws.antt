@@ -10,8 +10,8 @@ use Rattle.rules.specs.Index.{indexN}
 use Rattle.rules.specs.Common.{Tally}
 use Rattle.rules.specs.Questions.{listsIn, numbered, byCommon}
 use Rattle.commonlaws.proofs.CommonLaws.{common-listed}
-use Rattle.querylaws.specs.Listings.{wholeIn, fitted}
-use Rattle.querylaws.proofs.ListingLaws.{fitted-all}
+use Rattle.querylaws.specs.Listings.{wholeIn, laidWithin}
+use Rattle.querylaws.proofs.ListingLaws.{laid-within-all}
 use Rattle.wordlists.specs.Opened.{OpenedPages}
 use Rattle.wordlists.proofs.OpenLaws.{opened-some}
 use Rattle.questions.specs.Wrote.{Wrote}
@@ -29,12 +29,12 @@ front-laid a b c xs (x ∷ y ∷ z ∷ room) h = refl
 
 -- the answer, once its pages are listed behind its first three numbers
 pub put-tally : (t : Tally) (room ys : List ℕ) (n a b : ℕ) → length (t .listed) + 3 ≤ length room → ys
-    ≡ fitted (t .listed) (midOf 3 (length room - 3) room)
+    ≡ laidWithin (t .listed) (midOf 3 (length room - 3) room)
     → n ≡ length (t .listed) → a ≡ t .seeks → b ≡ t .looks
     → Wrote (tallied t) room (n + 3) (set (set (set (putMid 3 (length room - 3) room ys) 0 (n + 2)) 1 a) 2 b)
 unfolding tallied numbered
 put-tally t room ys n a b h e f g k =
-    let whole = fitted-all (t .listed) (drop 3 room) (omega (arith, length-drop 3 room)) in
+    let whole = laid-within-all (t .listed) (drop 3 room) (omega (arith, length-drop 3 room)) in
     let y : ys ≡ laid (t .listed) (drop 3 room) = rw (tail-part 3 room) at e ∙ whole in
     let m : n + 2 ≡ length (t .seeks ∷ t .looks ∷ t .listed) = omega arith in
     let l : putMid 3 (length room - 3) room ys ≡ take 3 room ++ laid (t .listed) (drop 3 room) =

@@ -8,7 +8,7 @@ ghost use Rattle.readlaws.specs.Open.{Open};
 ghost use Rattle.walklaws.specs.Walks.{Paid, Walking};
 ghost use Rattle.walklaws.specs.Walks.{AtOne};
 use shape::Shape;
-use walklaws::Walk;
+use walklaws::Ones;
 
 // Hands out word k of the upper run, and adds one look to the count that it is lent: a seek has the run's words from
 // here alone.
@@ -21,13 +21,13 @@ pub fn look(s: &[u8], upper: usize, k: usize, looks: &mut u32) -> u64
 }
 
 // Goes on from word k to the next, before which the run has `rank` ones.
-pub fn next_word(s: &[u8], g: Shape, k: usize, rank: usize, looks: &mut u32) -> Walk
+pub fn next_word(s: &[u8], g: Shape, k: usize, rank: usize, looks: &mut u32) -> Ones
     requires { ⌜ Open (now s) g × (k + 1 < wordsFor (g .bits)) × (now looks ≤ 2 ^ 31 + k) ⌝ }
     ensures { λ r. ⌜ (r .left ≡ runWord (now (s .entry)) (g .upper) (k + 1)) × (r .k ≡ k + 1) × (r .rank ≡ rank)
         × (now (looks .exit) ≡ now (looks .entry) + 1) ⌝ }
 {
     let next = k + 1;
-    Walk {
+    Ones {
         left: look(s, g.upper, next, looks),
         k: next,
         rank,
@@ -35,7 +35,7 @@ pub fn next_word(s: &[u8], g: Shape, k: usize, rank: usize, looks: &mut u32) -> 
 }
 
 // Passes words with no one left; there is one ahead.
-pub fn to_one(s: &[u8], g: Shape, from: Walk, looks: &mut u32) -> Walk
+pub fn to_one(s: &[u8], g: Shape, from: Ones, looks: &mut u32) -> Ones
     requires { ⌜ Open (now s) g × Walking (now s) g from × (from .rank < g .n) × (now looks ≤ 2 ^ 31 + from .k) ⌝ }
     ensures { λ r. ⌜ AtOne (now (s .entry)) g from r
         × Paid (from .k) (now (looks .entry)) (r .k) (now (looks .exit)) ⌝ }

@@ -6,8 +6,8 @@ ghost use lib.Count.{ones};
 ghost use Rattle.readlaws.specs.Open.{Open};
 ghost use Rattle.walklaws.specs.Walks.{Started, Paid, Skipping, ZeroIn, AtZero, Skipped, Passed};
 use shape::Shape;
-use walklaws::Place;
-use walklaws::Walk;
+use walklaws::Ones;
+use walklaws::StartPlace;
 
 // The bits of a word from a place on, or behind it where `own` is 1.
 fn behind(x: u64, place: usize, own: u32) -> u64
@@ -18,7 +18,7 @@ fn behind(x: u64, place: usize, own: u32) -> u64
 }
 
 // The ones of the run up to the end of the word.
-fn rank_through(at: Walk) -> usize
+fn rank_through(at: Ones) -> usize
     requires { ⌜ at .rank < 2 ^ 32 ⌝ }
     ensures { λ r. ⌜ r ≡ at .rank + ones (at .left) ⌝ }
 {
@@ -26,14 +26,14 @@ fn rank_through(at: Walk) -> usize
 }
 
 // Goes on to zero number h of the run, counted from 1, which is in what is left of the word.
-fn to_zero(at: Walk, h: usize) -> Walk
+fn to_zero(at: Ones, h: usize) -> Ones
     requires { ⌜ ZeroIn h at ⌝ }
     ensures { λ r. ⌜ AtZero h at r ⌝ }
 {
     let j = h + at.rank - 64 * at.k - 1;
     let zeros = !at.left;
     let place = selection::select_by(zeros, selection::running_counts(zeros), j as u32) as usize;
-    Walk {
+    Ones {
         left: fields::from_bit(at.left, place),
         k: at.k,
         rank: at.rank + place - j,
@@ -41,7 +41,7 @@ fn to_zero(at: Walk, h: usize) -> Walk
 }
 
 // Passes words by their counts of ones to the one with zero number h, and stands there.
-fn skip(s: &[u8], g: Shape, h: usize, from: Walk, looks: &mut u32) -> Walk
+fn skip(s: &[u8], g: Shape, h: usize, from: Ones, looks: &mut u32) -> Ones
     requires { ⌜ Open (now s) g × (h + g .n ≤ g .bits) × Skipping (now s) g h from × (now looks ≤ 2 ^ 31 + from .k) ⌝ }
     ensures { λ r. ⌜ Skipped (now (s .entry)) g h r × Paid (from .k) (now (looks .entry)) (r .k) (now (looks .exit)) ⌝ }
 {
@@ -54,7 +54,7 @@ fn skip(s: &[u8], g: Shape, h: usize, from: Walk, looks: &mut u32) -> Walk
 
 // Looks at the word of the start, and passes the cursor's own element, which is below the bound; then passes on to the
 // zero before the bound's high part where that is not near.
-pub fn pass(s: &[u8], g: Shape, b: usize, from: Place, looks: &mut u32) -> Walk
+pub fn pass(s: &[u8], g: Shape, b: usize, from: StartPlace, looks: &mut u32) -> Ones
     requires { ⌜ Open (now s) g × (b < g .u) × Started (now s) g b from × (from .bit < g .bits)
         × (now looks < 2 ^ 31) ⌝ }
     ensures { λ r. ⌜ Passed (now (s .entry)) g b r
@@ -63,7 +63,7 @@ pub fn pass(s: &[u8], g: Shape, b: usize, from: Place, looks: &mut u32) -> Walk
     let h = b >> g.w;
     let k = from.bit / 64;
     let word = looks::look(s, g.upper, k, looks);
-    let at = Walk {
+    let at = Ones {
         left: behind(word, from.bit % 64, from.own),
         k,
         rank: from.bit - from.zeros + from.own as usize,

@@ -6,7 +6,7 @@ ghost use Prim.Native.Nat.{_^_, _<_};
 ghost use lib.ListN.{length, set};
 ghost use Rattle.querylaws.specs.Lists.{Lists};
 ghost use Rattle.querylaws.specs.Queries.{seeksOf, looksOf, Running, Turned};
-ghost use Rattle.querylaws.specs.Listings.{wholeIn, fitted, Tells};
+ghost use Rattle.querylaws.specs.Listings.{wholeIn, laidWithin, Tells};
 use querylaws::InHand;
 use querylaws::Listed;
 use querylaws::Query;
@@ -81,7 +81,7 @@ fn totals(q: Query, found: usize) -> Listed
 pub fn list_common(card: &[u8], shapes: &[u32], k: usize, room: &mut [u32]) -> Listed
     requires { ⌜ Lists (now card) (now shapes) k ⌝ }
     ensures { λ r. ⌜ Tells (wholeIn (now (card .entry)) (now (shapes .entry)) k) r
-        × (now (room .exit) ≡ fitted (wholeIn (now (card .entry)) (now (shapes .entry)) k .listed)
+        × (now (room .exit) ≡ laidWithin (wholeIn (now (card .entry)) (now (shapes .entry)) k .listed)
         (now (room .entry))) ⌝ }
 {
     let mut q = Query::new();

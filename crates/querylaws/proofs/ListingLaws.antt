@@ -22,7 +22,7 @@ use Rattle.querylaws.specs.declared.Turn.{Turn}
 use Rattle.querylaws.specs.declared.Listed.{Listed}
 use Rattle.querylaws.specs.Lists.{pagesAt, boundIn, Lists}
 use Rattle.querylaws.specs.Queries.{newQuery, readerAt, leadIn, othersIn, seeksOf, looksOf, nextFor, Running, Turned}
-use Rattle.querylaws.specs.Listings.{wholeIn, fitted, Tells}
+use Rattle.querylaws.specs.Listings.{wholeIn, laidWithin, Tells}
 use Rattle.querylaws.proofs.ListLaws.{list-length}
 use Rattle.querylaws.proofs.RunLaws.{lead-ready, others-ready}
 use Rattle.querylaws.proofs.TurnLaws.{turned-none, turned-page, turned-fewer}
@@ -39,27 +39,27 @@ laid-more ps room p h =
     (set-at ps (getD room (length ps) 0) (drop (suc (length ps)) room) p (length ps) refl
     ∙ sym (append-snoc ps p (drop (suc (length ps)) room)))
 
-pub fitted-none : (room : List ℕ) → fitted [] room ≡ room
+pub laid-within-none : (room : List ℕ) → laidWithin [] room ≡ room
 unfolding laid
-fitted-none room = rw (take-nil {A = ℕ} (length room))
+laid-within-none room = rw (take-nil {A = ℕ} (length room))
 
-pub fitted-all : (ps room : List ℕ) → length ps ≤ length room → fitted ps room ≡ laid ps room
-fitted-all ps room h = rw (take-all (length room) ps h)
+pub laid-within-all : (ps room : List ℕ) → length ps ≤ length room → laidWithin ps room ≡ laid ps room
+laid-within-all ps room h = rw (take-all (length room) ps h)
 
 -- a store behind the room's end changes nothing
-full : (ps room : List ℕ) (p : ℕ) → length room ≤ length ps → set (fitted ps room) (length ps) p ≡ fitted ps room
+full : (ps room : List ℕ) (p : ℕ) → length room ≤ length ps → set (laidWithin ps room) (length ps) p ≡ laidWithin ps room
 unfolding laid
 full ps room p h =
     let front = take (length room) ps in
     let n : length front ≡ length room = length-take-le (length room) ps h in
-    let l : length (fitted ps room) ≤ length ps =
+    let l : length (laidWithin ps room) ≤ length ps =
     omega (arith, length-append front (drop (length front) room), length-drop (length front) room) in
-    set-out (fitted ps room) (length ps) p l
+    set-out (laidWithin ps room) (length ps) p l
 
-pub fitted-more : (ps room : List ℕ) (p : ℕ) → set (fitted ps room) (length ps) p ≡ fitted (ps ++ p ∷ []) room
-fitted-more ps room p = elim (decLt (length ps) (length room)) [
+pub laid-within-more : (ps room : List ℕ) (p : ℕ) → set (laidWithin ps room) (length ps) p ≡ laidWithin (ps ++ p ∷ []) room
+laid-within-more ps room p = elim (decLt (length ps) (length room)) [
   | yes h ↦
-      rw (fitted-all ps room (omega arith), fitted-all (ps ++ p ∷ []) room (omega (arith, length-append ps (p ∷ []))))
+      rw (laid-within-all ps room (omega arith), laid-within-all (ps ++ p ∷ []) room (omega (arith, length-append ps (p ∷ []))))
       (laid-more ps room p h)
   | no h ↦ full ps room p (omega arith)
       ∙ ap (λ (xs : List ℕ). laid xs room) (sym (take-append-le (length room) ps (p ∷ []) (omega arith)))
@@ -167,12 +167,12 @@ module _ (s sh : List ℕ) (k : ℕ) (room₀ : List ℕ) where
   pub record Listing (q : Query) (b found : ℕ) (room : List ℕ) : Type 0 where
     pub ps : List ℕ
     pub partway : Partway s sh k q b found ps
-    pub room-is : room ≡ fitted ps room₀
+    pub room-is : room ≡ laidWithin ps room₀
     pub long : length room ≡ length room₀
 
   pub listing-start : Lists s sh k → Listing newQuery 0 0 room₀
   listing-start l =
-      record { ps = []; partway = partway-start s sh k l; room-is = sym (fitted-none room₀); long = refl }
+      record { ps = []; partway = partway-start s sh k l; room-is = sym (laid-within-none room₀); long = refl }
 
   module _ (q : Query) (b found : ℕ) (room : List ℕ) (g : Listing q b found room) (t : Turn) (u : Turned s sh k q b t)
     where
@@ -181,12 +181,12 @@ module _ (s sh : List ℕ) (k : ℕ) (room₀ : List ℕ) where
       listing-step h = record {
         ps = g .ps ++ (t .mark - 1) ∷ [];
         partway = partway-step s sh k q b found (g .ps) (g .partway) t u h;
-        room-is = rw (g .room-is, ← g .partway .sized) (fitted-more (g .ps) room₀ (t .mark - 1));
+        room-is = rw (g .room-is, ← g .partway .sized) (laid-within-more (g .ps) room₀ (t .mark - 1));
         long = length-set room found (t .mark - 1) ∙ g .long;
       }
 
       pub listing-end : t .mark ≡ spentMark → (r : Listed) → (r .found ≡ found) × (r .seeks ≡ seeksOf (t .q))
-          × (r .looks ≡ looksOf (t .q)) → Tells (wholeIn s sh k) r × (room ≡ fitted (wholeIn s sh k .listed) room₀)
+          × (r .looks ≡ looksOf (t .q)) → Tells (wholeIn s sh k) r × (room ≡ laidWithin (wholeIn s sh k .listed) room₀)
       listing-end h r e =
           let end = partway-end s sh k q b found (g .ps) (g .partway) t u h r e in
-          (end .1, g .room-is ∙ ap (λ (xs : List ℕ). fitted xs room₀) (sym (end .0)))
+          (end .1, g .room-is ∙ ap (λ (xs : List ℕ). laidWithin xs room₀) (sym (end .0)))

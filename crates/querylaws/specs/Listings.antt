@@ -1,9 +1,9 @@
 -- What listing and counting common pages answer.
 --
---   ruleOn U ls     the step rule on the lists ls, the first of which leads
---   wholeIn s sh k  that, on the first k lists that sh places in the card s
---   Tells t r       r counts the pages, seeks and looks of t
---   fitted xs room  xs at the room's front, as far as it goes
+--   ruleOn U ls         the step rule on the lists ls, the first of which leads
+--   wholeIn s sh k      that, on the first k lists that sh places in the card s
+--   Tells t r           r counts the pages, seeks and looks of t
+--   laidWithin xs room  xs at the room's front, as far as it goes
 use mathlib.Core.Path.{_≡_}
 use mathlib.Core.List.{List, [], _∷_}
 use Prim.Native.Nat.{ℕ}
@@ -27,5 +27,5 @@ pub record Tells (t : Tally) (r : Listed) : Type 0 where
   pub seeks : r .seeks ≡ t .seeks
   pub looks : r .looks ≡ t .looks
 
-abbrev pub fitted : List ℕ → List ℕ → List ℕ
-fitted xs room = laid (take (length room) xs) room
+abbrev pub laidWithin : List ℕ → List ℕ → List ℕ
+laidWithin xs room = laid (take (length room) xs) room

@@ -54,12 +54,14 @@ pub fn pointer_at(block: &[u8], g: Shape, i: usize) -> usize
     pointer_in(block, i)
 }
 
-// The low part of element number i.
+// The low part of element number i, read from the lower run alone: no word of the upper run can be had here.
 pub fn low_at(block: &[u8], g: Shape, i: usize) -> usize
     requires { ⌜ Open (now block) g × (i < g .n) ⌝ }
     ensures { λ r. ⌜ (r ≡ field (now (block .entry)) (g .lower) (i * g .w) (g .w)) × (r < 2 ^ 24) ⌝ }
 {
-    runs::low_field(block, g.lower, i * g.w, g.w) as usize
+    let lower = g.lower;
+    let upper = g.upper;
+    runs::low_field(&block[lower..upper], i * g.w, g.w) as usize
 }
 
 // The element whose one stands at `place` of the upper run with `rank` ones below it.

@@ -13,19 +13,19 @@ pub fn run_word(s: &[u8], at: usize, k: usize) -> u64
     numbers::read_u64(s, at + 8 * k)
 }
 
-// The w bits of the run from its bit o on.
-pub fn low_field(s: &[u8], at: usize, o: usize, w: usize) -> u64
-    requires { ⌜ (at + 8 * wordsFor (o + w) ≤ length (now s)) × (w ≤ 32) ⌝ }
-    ensures { λ r. ⌜ r ≡ field (now (s .entry)) at o w ⌝ }
+// The w bits of a run from its bit o on.
+pub fn low_field(run: &[u8], o: usize, w: usize) -> u64
+    requires { ⌜ (8 * wordsFor (o + w) ≤ length (now run)) × (w ≤ 32) ⌝ }
+    ensures { λ r. ⌜ r ≡ field (now (run .entry)) 0 o w ⌝ }
 {
     if w == 0 {
         return 0;
     }
     let k = o / 64;
     let b = o % 64;
-    let lo = run_word(s, at, k);
+    let lo = run_word(run, 0, k);
     if b + w <= 64 {
         return fields::field_of(lo, 0, b, w);
     }
-    fields::field_of(lo, run_word(s, at, k + 1), b, w)
+    fields::field_of(lo, run_word(run, 0, k + 1), b, w)
 }

@@ -376,7 +376,7 @@ place-byte x j i h b r =
 abbrev before : ℕ → ℕ → ℕ
 before s t = bitAnd ((s * 2 ^ 8) % 2 ^ 64 / 2 ^ (t - 7)) 255
 
-pub record Held (x j s t : ℕ) : Type 0 where
+pub record OneInByte (x j s t : ℕ) : Type 0 where
   pub least : 7 ≤ t
   pub most : t < 64
   pub below : before s t ≤ j
@@ -384,9 +384,9 @@ pub record Held (x j s t : ℕ) : Type 0 where
   pub byte : bitAnd (x / 2 ^ (t - 7)) 255 < 256
   pub lands : (r : ℕ) → r ≡ placeOfOne 8 (bitAnd (x / 2 ^ (t - 7)) 255) (j - before s t) → t - 7 + r ≡ placeOfOne 64 x j
 
-held-at : (x j t i : ℕ) → t ≡ 8 * i + 7 → i < 8 → ones (x % 2 ^ (8 * i)) ≤ j → j < ones (x % 2 ^ (8 * i + 8))
-    → Held x j (runningOnes 8 0 x) t
-held-at x j t i e h b r =
+one-in-byte-at : (x j t i : ℕ) → t ≡ 8 * i + 7 → i < 8 → ones (x % 2 ^ (8 * i)) ≤ j → j < ones (x % 2 ^ (8 * i + 8))
+    → OneInByte x j (runningOnes 8 0 x) t
+one-in-byte-at x j t i e h b r =
     let p : t - 7 ≡ 8 * i = omega arith in
     let q : before (runningOnes 8 0 x) t ≡ ones (x % 2 ^ (8 * i)) =
     ap (λ (n : ℕ). bitAnd ((runningOnes 8 0 x * 2 ^ 8) % 2 ^ 64 / 2 ^ n) 255) p ∙ count-before x i h in
@@ -408,16 +408,16 @@ held-at x j t i e h b r =
       lands = λ n u. ap₂ _+_ p (u ∙ ap₂ (placeOfOne 8) y (ap (λ (k : ℕ). j - k) q)) ∙ place-byte x j i h b r;
     }
 
-pub held : (x j s p : ℕ) → s ≡ runningOnes 8 0 x → p ≡ marked 8 s j → x < 2 ^ 64 → j < ones x
-    → Held x j s (trailingZeros 64 p)
-held x j s p counts marks fits some =
+pub one-in-byte : (x j s p : ℕ) → s ≡ runningOnes 8 0 x → p ≡ marked 8 s j → x < 2 ^ 64 → j < ones x
+    → OneInByte x j s (trailingZeros 64 p)
+one-in-byte x j s p counts marks fits some =
     let small : j < 64 = omega (arith, ones-le 64 x fits) in
     let outcome : Search 8 0 x j p =
     subst (Search 8 0 x j) (ap (λ (n : ℕ). marked 8 n j) (sym counts) ∙ sym marks)
     (searched 8 0 x j (omega arith) (omega arith) (lit< tt)) in
     elim outcome [
       | inl n ↦ absurd (omega (arith, rw (mod-eq-of-lt fits) at (n .1)))
-      | inr f ↦ subst (λ (n : ℕ). Held x j n (trailingZeros 64 p)) (sym counts)
-          (held-at x j (trailingZeros 64 p) (f .byte) (place-trailing 64 p ∙ f .place) (f .within)
+      | inr f ↦ subst (λ (n : ℕ). OneInByte x j n (trailingZeros 64 p)) (sym counts)
+          (one-in-byte-at x j (trailingZeros 64 p) (f .byte) (place-trailing 64 p ∙ f .place) (f .within)
           (omega (arith, f .below)) (omega (arith, f .reach)))
     ]

@@ -11,11 +11,11 @@ use Rattle.rules.specs.Counts.{onesBelow}
 use Rattle.shape.specs.declared.Shape.{Shape}
 use Rattle.readlaws.specs.Open.{Open, OneAt}
 use Rattle.readlaws.proofs.PartLaws.{flat-inside, word-inside}
+use Rattle.walklaws.specs.declared.Ones.{Ones}
 use Rattle.walklaws.specs.Walks.{Walking}
 use Rattle.walklaws.proofs.OpenLaws.{open-word, words-few}
 use Rattle.walklaws.proofs.WalkLaws.{walking-from, walking-next, walking-more, walking-drop, one-lt, one-bit, one-rank}
 use Rattle.span.specs.declared.Walk.{Walk}
-use Rattle.span.specs.declared.Ones.{Ones}
 use Rattle.span.specs.Walks.{WalkOn, OnesLeft}
 
 module _ (s : List ℕ) (g : Shape) (w : Walk) (o : WalkOn s g w) (more : w .next < g .n) where
@@ -45,7 +45,7 @@ module _ (s : List ℕ) (g : Shape) (w : Walk) (o : WalkOn s g w) (more : w .nex
       }
 
 module _ (s : List ℕ) (g : Shape) (o : Open s g) (n : ℕ) (more : n < g .n) (x : Ones) (l : OnesLeft s g n x) where
-  abbrev here : Walking s g (record { left = x .left; k = x .k; rank = x .rank })
+  abbrev here : Walking s g x
   here = l .walking
 
   -- a word without a one left is not the last

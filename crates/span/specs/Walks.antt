@@ -18,9 +18,9 @@ use Rattle.rules.specs.ReadList.{listU, decode}
 use Rattle.rules.specs.Seek.{placeOf}
 use Rattle.shape.specs.declared.Shape.{Shape}
 use Rattle.readlaws.specs.Open.{Open}
+use Rattle.walklaws.specs.declared.Ones.{Ones}
 use Rattle.walklaws.specs.Walks.{Walking}
 use Rattle.span.specs.declared.Walk.{Walk}
-use Rattle.span.specs.declared.Ones.{Ones}
 
 unfoldable pub past : List ℕ → ℕ → ℕ
 past xs i = next 0 (take i xs)
@@ -46,7 +46,7 @@ pub record Passing (s : List ℕ) (g : Shape) (to b : ℕ) (w : Walk) : Type 0 w
   pub below : past (decode s) (w .next - 1) ≤ b
 
 pub record OnesLeft (s : List ℕ) (g : Shape) (n : ℕ) (x : Ones) : Type 0 where
-  pub walking : Walking s g (record { left = x .left; k = x .k; rank = x .rank })
+  pub walking : Walking s g x
   pub passed : x .rank ≡ n
 
 pub record PassedBelow (s : List ℕ) (g : Shape) (to b : ℕ) (w r : Walk) : Type 0 where

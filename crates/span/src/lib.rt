@@ -4,6 +4,7 @@ ghost use Prim.Native.Nat.{_+_, _≤_, _<_};
 ghost use Rattle.readlaws.specs.Open.{Open, OneAt};
 ghost use Rattle.span.specs.Walks.{WalkOn, PassedTo, Passing, PassedBelow, OnesLeft};
 use shape::Shape;
+use walklaws::Ones;
 
 // Where reading stands: how many elements are passed, one past the last of them, and the place behind its one.
 pub struct Walk {
@@ -47,13 +48,6 @@ pub fn pass_one(block: &[u8], g: Shape, w: Walk) -> Walk
 
 // ---- from one to one
 
-// What is left of word k of the upper run, and how many ones of the run lie before that.
-pub struct Ones {
-    pub left: u64,
-    pub k: usize,
-    pub rank: usize,
-}
-
 // The ones of the word where reading stands that lie ahead.
 fn ones_ahead(block: &[u8], g: Shape, w: Walk) -> Ones
     requires { ⌜ WalkOn (now block) g w × (w .next < g .n) ⌝ }
@@ -69,7 +63,7 @@ fn ones_ahead(block: &[u8], g: Shape, w: Walk) -> Ones
 }
 
 // Passes words with no one left.
-fn to_one(block: &[u8], g: Shape, from: Ones) -> Ones
+fn skip_empty(block: &[u8], g: Shape, from: Ones) -> Ones
     requires { ⌜ Open (now block) g × OnesLeft (now block) g (from .rank) from × (from .rank < g .n) ⌝ }
     ensures { λ r. ⌜ OnesLeft (now (block .entry)) g (from .rank) r × (0 < r .left) ⌝ }
 {
@@ -97,7 +91,7 @@ pub fn pass_below(block: &[u8], g: Shape, w: Walk, to: usize, b: usize) -> Walk
     let mut at = w;
     let mut ones = ones_ahead(block, g, w);
     while at.next < to && at.past <= b {
-        let one = to_one(block, g, ones);
+        let one = skip_empty(block, g, ones);
         let place = 64 * one.k + u64::trailing_zeros(one.left) as usize;
         let next = walk_past(block, g, place, one.rank);
         let rest = Ones {

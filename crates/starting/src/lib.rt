@@ -7,7 +7,7 @@ ghost use Rattle.walklaws.specs.Cursors.{Moving, startIn};
 ghost use Rattle.walklaws.specs.Walks.{Started};
 use shape::Shape;
 use walklaws::Cursor;
-use walklaws::Place;
+use walklaws::StartPlace;
 
 // The high part of the element that the cursor is on; 0 if fresh.
 fn high_of(g: Shape, c: Cursor) -> usize
@@ -20,7 +20,7 @@ fn high_of(g: Shape, c: Cursor) -> usize
 
 // The larger of the cursor's bit and pointer h / 256: the pointer lies ahead just where the cursor's high part is of an
 // earlier 256, and is read there alone.
-pub fn start(s: &[u8], g: Shape, c: Cursor, b: usize) -> Place
+pub fn start(s: &[u8], g: Shape, c: Cursor, b: usize) -> StartPlace
     requires { ⌜ Open (now s) g × Moving (now s) c b ⌝ }
     ensures { λ r. ⌜ Started (now (s .entry)) g b r × (r .bit ≡ startIn (now (s .entry)) c b) ⌝ }
 {
@@ -28,13 +28,13 @@ pub fn start(s: &[u8], g: Shape, c: Cursor, b: usize) -> Place
     let h = b >> g.w;
     if high / 256 * 256 + 255 < h {
         let i = h / 256;
-        return Place {
+        return StartPlace {
             bit: reading::pointer_at(s, g, i),
             zeros: 256 * i,
             own: 0,
         };
     }
-    Place {
+    StartPlace {
         bit: c.bit as usize,
         zeros: high,
         own: (c.mark != 0) as u32,

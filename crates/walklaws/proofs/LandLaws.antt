@@ -15,7 +15,7 @@ use Rattle.readlaws.proofs.ReadLaws.{one-ranks}
 use Rattle.seeklaws.specs.Cursors.{firstAt}
 use Rattle.seeklaws.proofs.FirstLaws.{firstAt-unique, firstAt-none}
 use Rattle.seeklaws.proofs.SeekLaws.{cursorAt-spent, cursorAt-on}
-use Rattle.walklaws.specs.declared.Walk.{Walk}
+use Rattle.walklaws.specs.declared.Ones.{Ones}
 use Rattle.walklaws.specs.declared.Landing.{Landing}
 use Rattle.walklaws.specs.Cursors.{spentMark, markOf}
 use Rattle.walklaws.specs.Walks.{Before, lastWord, landingWord, Walking, Landed}
@@ -30,7 +30,7 @@ pub last-none : (U : ℕ) (xs : List ℕ) (i : ℕ) → i ≡ length xs → last
 unfolding lastWord
 last-none U xs i e = rw (eq-eqb i (length xs) e)
 
-module _ (s : List ℕ) (g : Shape) (o : Open s g) (b : ℕ) (x : Walk) (a : Walking s g x)
+module _ (s : List ℕ) (g : Shape) (o : Open s g) (b : ℕ) (x : Ones) (a : Walking s g x)
     (passed : Before s b (x .rank)) (r : Landing) where
   abbrev xs : List ℕ
   xs = decode s

@@ -22,8 +22,8 @@ use Rattle.readlaws.proofs.ReadLaws.{open-reads, pointer-reads}
 use Rattle.seeklaws.specs.Cursors.{Placed}
 use Rattle.seeklaws.proofs.JumpLaws.{start-ahead, cursor-lt}
 use Rattle.walklaws.specs.declared.Cursor.{Cursor}
-use Rattle.walklaws.specs.declared.Place.{Place}
-use Rattle.walklaws.specs.declared.Walk.{Walk}
+use Rattle.walklaws.specs.declared.StartPlace.{StartPlace}
+use Rattle.walklaws.specs.declared.Ones.{Ones}
 use Rattle.walklaws.specs.Cursors.{markOf, startIn, Moving}
 use Rattle.walklaws.specs.Walks.{Before, Started, Skipping, Skipped, Passed}
 use Rattle.walklaws.proofs.OpenLaws.{Ruled, open-U, open-within, open-n, open-some, open-length, open-rising}
@@ -32,7 +32,7 @@ use Rattle.walklaws.proofs.WalkLaws.{walking-from}
 use Rattle.walklaws.proofs.CursorLaws.{held-rule, held-floor}
 
 -- a place with an element is within the run
-pub own-inside : (s : List ℕ) (g : Shape) → Open s g → (b : ℕ) (p : Place) → Started s g b p → (p .own ≡ 0 → ⊥)
+pub own-inside : (s : List ℕ) (g : Shape) → Open s g → (b : ℕ) (p : StartPlace) → Started s g b p → (p .own ≡ 0 → ⊥)
     → p .bit < g .bits
 own-inside s g o b p t h =
     elim (decLt (p .bit) (g .bits)) [
@@ -40,7 +40,7 @@ own-inside s g o b p t h =
       | no l ↦ absurd (h (omega (arith, t .own-set, open-reads s g o .spare (p .bit) (omega arith))))
     ]
 
-module _ (s : List ℕ) (g : Shape) (o : Open s g) (b : ℕ) (p : Place) (t : Started s g b p)
+module _ (s : List ℕ) (g : Shape) (o : Open s g) (b : ℕ) (p : StartPlace) (t : Started s g b p)
     (inside : p .bit < g .bits) where
   abbrev k : ℕ
   k = p .bit / 64
@@ -72,11 +72,11 @@ module _ (s : List ℕ) (g : Shape) (o : Open s g) (b : ℕ) (p : Place) (t : St
       ]
 
   -- the ones before the walk from the start on, or from behind the cursor's own element
-  start-rank : (r : Walk) → r .rank ≡ p .bit - p .zeros + p .own
+  start-rank : (r : Ones) → r .rank ≡ p .bit - p .zeros + p .own
       → r .rank ≡ onesBelow s (g .upper) (p .bit) + p .own
   start-rank r n = omega (arith, t .counted)
 
-  module _ (r : Walk) (left-is : r .left
+  module _ (r : Ones) (left-is : r .left
       ≡ runWord s (g .upper) (p .bit / 64) / 2 ^ (p .bit % 64 + p .own) * 2 ^ (p .bit % 64 + p .own))
       (k-is : r .k ≡ p .bit / 64) (rank-is : r .rank ≡ p .bit - p .zeros + p .own) where
     pub passed-start : Passed s g b r
@@ -98,7 +98,7 @@ module _ (s : List ℕ) (g : Shape) (o : Open s g) (b : ℕ) (p : Place) (t : St
     }
 
   -- the walk from the zeros of b's high part on
-  pub passed-skip : (r : Walk) → Skipped s g (b / 2 ^ g .w) r → Passed s g b r
+  pub passed-skip : (r : Ones) → Skipped s g (b / 2 ^ g .w) r → Passed s g b r
   passed-skip r z =
       let h : ℕ = b / 2 ^ g .w in
       let below : onesBelow s (g .upper) (r .rank + h) ≡ r .rank = omega (arith, z .passed .counted) in
@@ -205,7 +205,7 @@ module _ (s : List ℕ) (g : Shape) (o : Open s g) where
         rw (a .bit-is) (placing-own (a .place) (a .placed) (rw (a .mark-is) at (m .ahead)) own h (rw (a .mark-is) at q))
 
     -- the start is the larger of the cursor's bit and the pointer
-    pub started-jump : (r : Place) → PointerAt s g number (r .bit) → r .zeros ≡ 256 * number → r .own ≡ 0
+    pub started-jump : (r : StartPlace) → PointerAt s g number (r .bit) → r .zeros ≡ 256 * number → r .own ≡ 0
         → high / 256 < number
         → Started s g b r × (r .bit ≡ startIn s c b)
     started-jump r p z n l =
@@ -223,7 +223,7 @@ module _ (s : List ℕ) (g : Shape) (o : Open s g) where
           d,
         )
 
-    pub started-here : (r : Place) → r .bit ≡ c .bit → r .zeros ≡ high → r .own ≤ 1 → r .own ≤ c .mark
+    pub started-here : (r : StartPlace) → r .bit ≡ c .bit → r .zeros ≡ high → r .own ≤ 1 → r .own ≤ c .mark
         → number ≤ high / 256
         → Started s g b r × (r .bit ≡ startIn s c b)
     started-here r e z h w l =

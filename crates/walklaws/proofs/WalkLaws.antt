@@ -20,7 +20,7 @@ use Rattle.listlaws.specs.Sound.{After}
 use Rattle.listlaws.proofs.AfterLaws.{run-after-from}
 use Rattle.readlaws.specs.Open.{Open}
 use Rattle.readlaws.proofs.ReadLaws.{open-reads}
-use Rattle.walklaws.specs.declared.Walk.{Walk}
+use Rattle.walklaws.specs.declared.Ones.{Ones}
 use Rattle.walklaws.specs.Walks.{Walking, Skipping, ZeroIn, AtZero, Skipped}
 use Rattle.walklaws.proofs.RestLaws.{rest-none, rest-first, rest-drop, rest-all, rest-from}
 use Rattle.walklaws.proofs.OpenLaws.{open-word, words-few, ones-few}
@@ -36,7 +36,7 @@ module _ (s : List ℕ) (g : Shape) (o : Open s g) where
   word-below k = next-word s (g .upper) k (word k) refl (open-word s g o k)
 
   -- what is left of word k from place f on
-  pub walking-from : (f : ℕ) (x : Walk) → f ≤ 64 → x .k < wordsFor (g .bits) → x .left ≡ word (x .k) / 2 ^ f * 2 ^ f
+  pub walking-from : (f : ℕ) (x : Ones) → f ≤ 64 → x .k < wordsFor (g .bits) → x .left ≡ word (x .k) / 2 ^ f * 2 ^ f
       → x .rank ≡ below (64 * x .k + f) → Walking s g x
   walking-from f x l i e c = record {
     within = i;
@@ -66,7 +66,7 @@ module _ (s : List ℕ) (g : Shape) (o : Open s g) where
         word-ones s (g .upper) k p (omega arith),
       )
 
-  module _ (h : ℕ) (x : Walk) (z : Skipping s g h x) where
+  module _ (h : ℕ) (x : Ones) (z : Skipping s g h x) where
     -- the ones before the next word
     through : below (64 * (x .k + 1)) ≡ x .rank + ones (x .left)
     through =
@@ -94,7 +94,7 @@ module _ (s : List ℕ) (g : Shape) (o : Open s g) where
       pub skipping-inside : x .k + 1 < wordsFor (g .bits)
       skipping-inside = omega (arith, through, ones-few s g o (64 * (x .k + 1)), words-hold (g .bits))
 
-      pub skipping-next : (y : Walk) → y .k ≡ x .k + 1 → y .left ≡ word (x .k + 1) → y .rank ≡ x .rank + ones (x .left)
+      pub skipping-next : (y : Ones) → y .k ≡ x .k + 1 → y .left ≡ word (x .k + 1) → y .rank ≡ x .rank + ones (x .left)
           → Skipping s g h y
       skipping-next y k w r = record {
         within = omega (arith, skipping-inside);
@@ -106,7 +106,7 @@ module _ (s : List ℕ) (g : Shape) (o : Open s g) where
       }
 
     -- zero number h, in the word
-    pub skipped-at : (r : Walk) → AtZero h x r → Skipped s g h r
+    pub skipped-at : (r : Ones) → AtZero h x r → Skipped s g h r
     skipped-at r a =
         let f : z .place ≤ a .place = omega (arith, z .short, a .number, a .rank-is) in
         let p : ℕ = 64 * x .k + a .place in
@@ -127,7 +127,7 @@ module _ (s : List ℕ) (g : Shape) (o : Open s g) where
 
   -- ---- over words
 
-  module _ (x : Walk) (a : Walking s g x) where
+  module _ (x : Ones) (a : Walking s g x) where
     none-left : x .left ≡ 0 → x .rank ≡ below (64 * (x .k + 1))
     none-left e = omega (
       arith,
@@ -136,7 +136,7 @@ module _ (s : List ℕ) (g : Shape) (o : Open s g) where
       rest-none (word (x .k)) (x .left) (a .gone) (a .left-are) e,
     )
 
-    pub walking-next : (y : Walk) → x .left ≡ 0 → y .k ≡ x .k + 1 → x .k + 1 < wordsFor (g .bits)
+    pub walking-next : (y : Ones) → x .left ≡ 0 → y .k ≡ x .k + 1 → x .k + 1 < wordsFor (g .bits)
         → y .left ≡ word (x .k + 1) → y .rank ≡ x .rank → Walking s g y
     walking-next y e k l w n = record {
       within = omega arith;
@@ -191,7 +191,7 @@ module _ (s : List ℕ) (g : Shape) (o : Open s g) where
       pub one-rank : below bit ≡ x .rank
       one-rank = one-at .1 ∙ sym (a .counted)
 
-      pub walking-drop : (y : Walk) → y .k ≡ x .k → y .left ≡ bitAnd (x .left) (x .left - 1) → y .rank ≡ x .rank + 1
+      pub walking-drop : (y : Ones) → y .k ≡ x .k → y .left ≡ bitAnd (x .left) (x .left - 1) → y .rank ≡ x .rank + 1
           → Walking s g y
       walking-drop y k w n = record {
         within = omega (arith, a .within);

@@ -29,8 +29,8 @@ use Rattle.fields.specs.Words.{placeOfOne}
 use Rattle.listlaws.specs.Sound.{After}
 use Rattle.shape.specs.declared.Shape.{Shape}
 use Rattle.seeklaws.specs.Cursors.{firstAt, cursorAt}
-use Rattle.walklaws.specs.declared.Place.{Place}
-use Rattle.walklaws.specs.declared.Walk.{Walk}
+use Rattle.walklaws.specs.declared.StartPlace.{StartPlace}
+use Rattle.walklaws.specs.declared.Ones.{Ones}
 use Rattle.walklaws.specs.declared.Landing.{Landing}
 use Rattle.walklaws.specs.Cursors.{markOf}
 
@@ -52,19 +52,19 @@ landingWord s b = lastWord (listU s) (decode s) (firstAt b (decode s))
 abbrev pub Paid : ℕ → ℕ → ℕ → ℕ → Type 0
 Paid k a m b = b + k ≡ a + m
 
-pub record Started (s : List ℕ) (g : Shape) (b : ℕ) (x : Place) : Type 0 where
+pub record Started (s : List ℕ) (g : Shape) (b : ℕ) (x : StartPlace) : Type 0 where
   pub within : x .bit ≤ g .bits
   pub counted : onesBelow s (g .upper) (x .bit) + x .zeros ≡ x .bit
   pub own-set : x .own ≤ runBit s (g .upper) (x .bit)
   pub passed : Before s b (onesBelow s (g .upper) (x .bit) + x .own)
 
-pub record Walking (s : List ℕ) (g : Shape) (x : Walk) : Type 0 where
+pub record Walking (s : List ℕ) (g : Shape) (x : Ones) : Type 0 where
   pub within : x .k < wordsFor (g .bits)
   pub gone : ℕ
   pub left-are : Rest (runWord s (g .upper) (x .k)) (x .left) gone
   pub counted : x .rank ≡ onesBelow s (g .upper) (64 * x .k) + gone
 
-pub record Skipping (s : List ℕ) (g : Shape) (h : ℕ) (x : Walk) : Type 0 where
+pub record Skipping (s : List ℕ) (g : Shape) (h : ℕ) (x : Ones) : Type 0 where
   pub within : x .k < wordsFor (g .bits)
   pub place : ℕ
   pub place-le : place ≤ 64
@@ -72,13 +72,13 @@ pub record Skipping (s : List ℕ) (g : Shape) (h : ℕ) (x : Walk) : Type 0 whe
   pub counted : x .rank ≡ onesBelow s (g .upper) (64 * x .k + place)
   pub short : 64 * x .k + place < h + x .rank
 
-pub record ZeroIn (h : ℕ) (x : Walk) : Type 0 where
+pub record ZeroIn (h : ℕ) (x : Ones) : Type 0 where
   pub few : x .k < 2 ^ 32
   pub small : x .rank < 2 ^ 32
   pub behind : 64 * x .k < h + x .rank
   pub reached : h + (x .rank + ones (x .left)) ≤ 64 * x .k + 64
 
-pub record AtZero (h : ℕ) (x r : Walk) : Type 0 where
+pub record AtZero (h : ℕ) (x r : Ones) : Type 0 where
   pub place : ℕ
   pub inside : place < 64
   pub zero : bit (x .left) place ≡ 0
@@ -87,15 +87,15 @@ pub record AtZero (h : ℕ) (x r : Walk) : Type 0 where
   pub rank-is : r .rank ≡ x .rank + ones (x .left % 2 ^ place)
   pub number : h + r .rank ≡ 64 * x .k + place + 1
 
-pub record Skipped (s : List ℕ) (g : Shape) (h : ℕ) (r : Walk) : Type 0 where
+pub record Skipped (s : List ℕ) (g : Shape) (h : ℕ) (r : Ones) : Type 0 where
   pub at : Walking s g r
   pub passed : After (onesBelow s (g .upper)) h (r .rank + h)
 
-pub record Passed (s : List ℕ) (g : Shape) (b : ℕ) (r : Walk) : Type 0 where
+pub record Passed (s : List ℕ) (g : Shape) (b : ℕ) (r : Ones) : Type 0 where
   pub at : Walking s g r
   pub passed : Before s b (r .rank)
 
-pub record AtOne (s : List ℕ) (g : Shape) (x r : Walk) : Type 0 where
+pub record AtOne (s : List ℕ) (g : Shape) (x r : Ones) : Type 0 where
   pub at : Walking s g r
   pub some : 0 < r .left
   pub rank-kept : r .rank ≡ x .rank

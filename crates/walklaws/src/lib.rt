@@ -29,14 +29,14 @@ impl Cursor {
 }
 
 // A place of the upper run, the zeros before it, and whether the cursor's own element is there: 1, else 0.
-pub struct Place {
+pub struct StartPlace {
     pub bit: usize,
     pub zeros: usize,
     pub own: u32,
 }
 
 // What a walk has before it: what is left of word k, and the ones of the run before that.
-pub struct Walk {
+pub struct Ones {
     pub left: u64,
     pub k: usize,
     pub rank: usize,

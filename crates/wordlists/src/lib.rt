@@ -15,13 +15,13 @@ ghost use Rattle.wordlists.specs.Opened.{OpenedPages};
 
 // The byte of a card at which a part starts, and that at which it has ended: what is kept of several parts, of which
 // there is no array.
-pub struct Place {
+pub struct ByteRange {
     pub from: usize,
     pub to: usize,
 }
 
 // The place of list number k of the word whose term starts at byte `at`: pages, counts, positions.
-pub fn list_in(card: &[u8], at: usize, k: usize) -> Place
+pub fn list_in(card: &[u8], at: usize, k: usize) -> ByteRange
     requires { ⌜ (indexRefusal (now card) ≡ Accepted) × TermThere (now card) at × (k < 3) ⌝ }
     ensures { λ r. ⌜ ListLying (now (card .entry)) at k (r .from) (r .to) ⌝ }
 {
@@ -29,7 +29,7 @@ pub fn list_in(card: &[u8], at: usize, k: usize) -> Place
     let rest = findterm::lists_from(term, k);
     let list = parts::part_at(rest, 0);
     let from = at + (term.len() - rest.len());
-    Place {
+    ByteRange {
         from,
         to: from + list.len(),
     }

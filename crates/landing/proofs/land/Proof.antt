@@ -13,7 +13,7 @@ use Rattle.shape.specs.declared.Shape.{Shape}
 use Rattle.readlaws.specs.Open.{Open, OneAt}
 use Rattle.readlaws.proofs.ReadLaws.{open-reads, one-ranks}
 use Rattle.seeklaws.proofs.FirstLaws.{rising-below}
-use Rattle.walklaws.specs.declared.Walk.{Walk}
+use Rattle.walklaws.specs.declared.Ones.{Ones}
 use Rattle.walklaws.specs.Walks.{Before, Paid, Walking}
 use Rattle.walklaws.proofs.OpenLaws.{open-U, open-length, open-rising, words-few}
 use Rattle.walklaws.proofs.WalkLaws.{one-lt, one-bit, one-rank, walking-drop}
@@ -37,7 +37,7 @@ to-one-requires c κs =
     (start .pre .0, at .inv .0, c .before .if1 .taken, omega (arith, at .inv .2, start .pre .3))
 
 -- the element at the one that a turn finds
-pub record Turn (s : List ℕ) (g : Shape) (x : Walk) : Type 0 where
+pub record Turn (s : List ℕ) (g : Shape) (x : Ones) : Type 0 where
   pub inside : 64 * x .k + trailingZeros 64 (x .left) < 2 ^ 27
   pub one : OneAt s (g .upper) (x .rank) (64 * x .k + trailingZeros 64 (x .left))
   pub number : x .rank < g .n
@@ -52,7 +52,7 @@ turn c =
     let s : List ℕ = start .args .s .now in
     let g : Shape = start .args .g in
     let o = start .pre .0 in
-    let x : Walk = c .to-one .result in
+    let x : Ones = c .to-one .result in
     let w = c .to-one .ensures .0 .at in
     let some = c .to-one .ensures .0 .some in
     let r = open-reads s g o in
@@ -80,16 +80,16 @@ cast-bit c = record { fits = omega (arith, turn (c .before .before) .inside) }
 add-bit : tie.Need-add-bit Inv-loop μ-loop
 add-bit c = record { fits = omega (arith, turn (c .before .before) .inside) }
 
-page-at-requires : tie.Need-page-at-requires Inv-loop μ-loop
-page-at-requires c κs =
+value-at-requires : tie.Need-value-at-requires Inv-loop μ-loop
+value-at-requires c κs =
     let one = c .before .before in
     (one .before .before .before .before .before .before .before .pre .0, turn one .one)
 
 add-t16 : tie.Need-add-t16 Inv-loop μ-loop
-add-t16 c = record { fits = omega (arith, turn (c .before .before .before .before) .low, c .before .page-at .ensures) }
+add-t16 c = record { fits = omega (arith, turn (c .before .before .before .before) .low, c .before .value-at .ensures) }
 
 cast-t17 : tie.Need-cast-t17 Inv-loop μ-loop
-cast-t17 c = record { fits = omega (arith, turn (c .before .before .before .before) .low, c .before .page-at .ensures) }
+cast-t17 c = record { fits = omega (arith, turn (c .before .before .before .before) .low, c .before .value-at .ensures) }
 
 cast-t18 : tie.Need-cast-t18 Inv-loop μ-loop
 cast-t18 c = record { fits = omega (arith, turn (c .before .before .before .before) .inside) }
@@ -100,7 +100,7 @@ returns c =
     let at = one .before .before .before .before .before .loop in
     let start = one .before .before .before .before .before .before .before in
     let t = one .to-one .ensures in
-    let v = c .before .page-at .ensures in
+    let v = c .before .value-at .ensures in
     let l = landed-on (start .args .s .now) (start .args .g) (start .pre .0) (start .args .b) (one .to-one .result)
     (t .0 .at) (λ j h. at .inv .1 j (omega (arith, t .0 .rank-kept))) _ (t .0 .some)
     (omega (arith, v, c .if2 .taken)) (ap (λ (x : ℕ). x + 1) v) refl in
@@ -125,7 +125,7 @@ loop-again c =
     let at = one .before .before .before .before .before .loop in
     let start = one .before .before .before .before .before .before .before in
     let t = one .to-one .ensures in
-    let v = c .before .before .before .before .page-at .ensures in (
+    let v = c .before .before .before .before .value-at .ensures in (
       walking-drop (start .args .s .now) (start .args .g) (start .pre .0) (one .to-one .result) (t .0 .at) (t .0 .some) _
           refl refl refl,
       below-more _ _ (λ j h. at .inv .1 j (omega (arith, t .0 .rank-kept)))
@@ -159,7 +159,7 @@ land-spec =
     mul-bit
     cast-bit
     add-bit
-    page-at-requires
+    value-at-requires
     add-t16
     cast-t17
     cast-t18

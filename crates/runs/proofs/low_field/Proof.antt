@@ -19,7 +19,7 @@ returns-2 c =
     let r = c .before .before in
     let a = r .before .before .before .args in
     c .field-of .ensures
-    ∙ run-field (a .s .now) (a .at) (r .run-word .result) 0 (a .o) (a .w) (omega arith) (r .run-word .ensures)
+    ∙ run-field (a .run .now) 0 (r .run-word .result) 0 (a .o) (a .w) (omega arith) (r .run-word .ensures)
     (omega arith) (λ v. absurd (omega arith))
 
 run-word-requires-2 : tie.Need-run-word-requires-2
@@ -32,7 +32,7 @@ returns-3 c =
     let r = h .before .before in
     let a = r .before .before .before .args in
     c .field-of2 .ensures
-    ∙ run-field (a .s .now) (a .at) (r .run-word .result) (h .run-word2 .result) (a .o) (a .w) (omega arith)
+    ∙ run-field (a .run .now) 0 (r .run-word .result) (h .run-word2 .result) (a .o) (a .w) (omega arith)
     (r .run-word .ensures) (omega arith)
     (λ v. h .run-word2 .ensures)
 

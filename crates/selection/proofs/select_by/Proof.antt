@@ -5,7 +5,7 @@ use native.Mathlib.Omega.{arith}
 use lib.Count.{ones-le, trailingZeros}
 use Rattle.fields.specs.Words.{placeOfOne}
 use Rattle.fields.proofs.WordLaws.{place-some}
-use Rattle.selectlaws.proofs.SelectLaws.{Held, held}
+use Rattle.selectlaws.proofs.SelectLaws.{OneInByte, one-in-byte}
 use Rattle.selection.proofs.select_by.Statement.{statement}
 use Rattle.selection.proofs.select_by.Tie as tie
 
@@ -14,10 +14,10 @@ above-requires c κs = omega (arith, c .pre .1, ones-le 64 (c .args .x) (omega a
 
 -- what is known of the byte that holds the one
 in-byte : (c : tie.After-above)
-    → Held (c .before .args .x) (c .before .args .j) (c .before .args .counts) (trailingZeros 64 (c .above .result))
+    → OneInByte (c .before .args .x) (c .before .args .j) (c .before .args .counts) (trailingZeros 64 (c .above .result))
 in-byte c =
     let a = c .before .args in
-    held (a .x) (a .j) (a .counts) (c .above .result) (c .before .pre .0) (c .above .ensures) (omega arith)
+    one-in-byte (a .x) (a .j) (a .counts) (c .above .result) (c .before .pre .0) (c .above .ensures) (omega arith)
     (c .before .pre .1)
 
 sub-p : tie.Need-sub-p

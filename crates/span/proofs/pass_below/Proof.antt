@@ -34,8 +34,8 @@ loop-holds c =
     let p = c .before .before .before .before .pre in
     (p .0, omega arith, p .1, c .ones-ahead .ensures)
 
-to-one-requires : tie.Need-to-one-requires Inv-loop μ-loop
-to-one-requires c κs =
+skip-empty-requires : tie.Need-skip-empty-requires Inv-loop μ-loop
+skip-empty-requires c κs =
     let l = c .before .before .before .before .loop .inv in (
       l .0 .on .opened,
       record { walking = l .3 .walking; passed = refl },
@@ -43,32 +43,32 @@ to-one-requires c κs =
     )
 
 -- the element at hand is one to pass
-more : (c : tie.After-to-one Inv-loop μ-loop)
+more : (c : tie.After-skip-empty Inv-loop μ-loop)
     → c .before .before .before .before .before .loop .ones .rank < c .before .before .before .before .before .before .before .before .before .before .args .g .n
 more c =
     let l = c .before .before .before .before .before .loop .inv in
     omega (arith, l .3 .passed, l .2, c .before .before .before .if2 .taken)
 
 -- its one, and where that stands
-one : (c : tie.After-to-one Inv-loop μ-loop)
-    → OneAt (c .before .before .before .before .before .before .before .before .before .before .args .block .now) (c .before .before .before .before .before .before .before .before .before .before .args .g .upper) (c .to-one .result .rank)
-    (64 * c .to-one .result .k + trailingZeros 64 (c .to-one .result .left))
-    × (64 * c .to-one .result .k + trailingZeros 64 (c .to-one .result .left) < 2 ^ 32)
+one : (c : tie.After-skip-empty Inv-loop μ-loop)
+    → OneAt (c .before .before .before .before .before .before .before .before .before .before .args .block .now) (c .before .before .before .before .before .before .before .before .before .before .args .g .upper) (c .skip-empty .result .rank)
+    (64 * c .skip-empty .result .k + trailingZeros 64 (c .skip-empty .result .left))
+    × (64 * c .skip-empty .result .k + trailingZeros 64 (c .skip-empty .result .left) < 2 ^ 32)
 one c =
     let a = c .before .before .before .before .before .before .before .before .before .before .args in
     let l = c .before .before .before .before .before .loop in
-    ones-place (a .block .now) (a .g) (l .inv .0 .on .opened) (l .ones .rank) (more c) (c .to-one .result)
-    (c .to-one .ensures .0) (c .to-one .ensures .1)
+    ones-place (a .block .now) (a .g) (l .inv .0 .on .opened) (l .ones .rank) (more c) (c .skip-empty .result)
+    (c .skip-empty .ensures .0) (c .skip-empty .ensures .1)
 
 -- one element more is passed
 passed-one : (c : tie.After-walk-past Inv-loop μ-loop)
     → (c .before .before .before .before .before .before .before .before .loop .at .next < c .before .before .before .before .before .before .before .before .before .before .before .before .before .args .to) × (c .walk-past .result .next ≡ c .before .before .before .before .before .before .before .before .loop .at .next + 1)
-    × (c .before .before .before .to-one .result .rank ≡ c .before .before .before .before .before .before .before .before .loop .at .next) × (c .before .before .before .before .before .before .before .before .before .before .before .before .before .args .to < 2 ^ 32)
+    × (c .before .before .before .skip-empty .result .rank ≡ c .before .before .before .before .before .before .before .before .loop .at .next) × (c .before .before .before .before .before .before .before .before .before .before .before .before .before .args .to < 2 ^ 32)
 passed-one c =
     let t = c .before .before .before in
     let a = t .before .before .before .before .before .before .before .before .before .before .args in
     let l = t .before .before .before .before .before .loop in
-    let rank : t .to-one .result .rank ≡ l .at .next = t .to-one .ensures .0 .passed ∙ l .inv .3 .passed in
+    let rank : t .skip-empty .result .rank ≡ l .at .next = t .skip-empty .ensures .0 .passed ∙ l .inv .3 .passed in
     let r = open-reads (a .block .now) (a .g) (l .inv .0 .on .opened) in (
       t .before .before .before .if2 .taken,
       c .walk-past .ensures .at ∙ ap (λ (n : ℕ). n + 1) rank,
@@ -81,12 +81,12 @@ loop-again c =
     let t = c .before .before .before .before .before .before in
     let a = t .before .before .before .before .before .before .before .before .before .before .args in
     let l = t .before .before .before .before .before .loop in
-    let e = t .to-one .ensures in
+    let e = t .skip-empty .ensures in
     let p = passed-one (c .before .before .before) in
     let d : PassedTo (a .block .now) (a .g) (l .at .next + 1) (c .before .before .before .walk-past .result) =
     rw (← p .2) (c .before .before .before .walk-past .ensures) in
     let x =
-    ones-drop (a .block .now) (a .g) (l .inv .0 .on .opened) (l .ones .rank) (more t) (t .to-one .result) (e .0)
+    ones-drop (a .block .now) (a .g) (l .inv .0 .on .opened) (l .ones .rank) (more t) (t .skip-empty .result) (e .0)
     (e .1) in (
       passing-on (a .block .now) (a .g) (a .to) (a .b) (l .at) (c .before .before .before .walk-past .result) (l .inv .0)
           (p .0) (leb-true (l .at .past) (a .b) (t .before .if3 .taken)) d,
@@ -118,12 +118,12 @@ pass-below-spec =
     returns
     ones-ahead-requires
     loop-holds
-    to-one-requires
+    skip-empty-requires
     (λ c. omega (arith, one (c .before) .1))
     (λ c. omega (arith, one (c .before .before) .1))
     (λ c. omega (arith, one (c .before .before) .1))
     (λ c κs. (c .before .before .before .before .before .before .before .loop .inv .0 .on .opened, one (c .before .before) .0))
-    (λ c. omega (arith, c .before .before .before .before .to-one .ensures .1))
+    (λ c. omega (arith, c .before .before .before .before .skip-empty .ensures .1))
     (λ c. omega (arith, passed-one (c .before .before .before)))
     (λ c. omega (arith, passed-one (c .before .before .before)))
     loop-again

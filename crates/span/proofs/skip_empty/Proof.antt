@@ -1,12 +1,12 @@
--- `to_one` passes words with no one left, of which none is the run's last.
+-- `skip_empty` passes words with no one left, of which none is the run's last.
 use Prim.Native.Nat.{_+_, _-_, _<_}
 use native.Mathlib.Omega.{arith}
 use Rattle.rules.specs.Runs.{wordsFor}
 use Rattle.walklaws.proofs.OpenLaws.{words-few, look-fits}
 use Rattle.span.specs.Walks.{OnesLeft}
 use Rattle.span.proofs.OnesLaws.{ones-go-on, ones-next}
-use Rattle.span.proofs.to_one.Statement.{statement}
-use Rattle.span.proofs.to_one.Tie as tie
+use Rattle.span.proofs.skip_empty.Statement.{statement}
+use Rattle.span.proofs.skip_empty.Tie as tie
 
 abbrev Inv-loop : tie.InvT-loop
 Inv-loop block g at₀ at = OnesLeft block g (at₀ .rank) at
@@ -54,7 +54,7 @@ loop-again c =
 returns : tie.Need-returns Inv-loop μ-loop
 returns c = (c .before .before .loop .inv, omega arith)
 
-pub to-one-spec : {M : Type 1} → statement M
-to-one-spec =
+pub skip-empty-spec : {M : Type 1} → statement M
+skip-empty-spec =
     tie.close
     (tie.spec Inv-loop μ-loop loop-holds add-k run-word-requires loop-less loop-again returns)
