@@ -12,6 +12,7 @@ ghost use Rattle.questions.specs.Wrote.{Wrote};
 ghost use Rattle.querylaws.specs.Lists.{Lists};
 ghost use Rattle.querylaws.specs.Listings.{wholeIn};
 ghost use Rattle.bycommon.specs.Tallies.{tallied};
+use querylaws::LENGTH;
 
 // Puts the answer into room that is enough for it.
 fn put_common(card: &[u8], shapes: &[u32], k: usize, room: &mut [u32]) -> usize
@@ -37,7 +38,7 @@ pub fn by_common(card: &[u8], terms: &[u32], room: &mut [u32]) -> usize
     let k = terms.len();
     let mut shapes = [0u32; 64];
     wordlists::open_pages(card, terms, &mut shapes);
-    if inhand::number(&shapes, 0, 7) + 3 <= room.len() {
+    if inhand::number(&shapes, 0, LENGTH) + 3 <= room.len() {
         return put_common(card, &shapes, k, room);
     }
     let mut none = [0u32; 0];

@@ -5,10 +5,18 @@ ghost use Prim.Native.Nat.{_≤_, _<_};
 ghost use lib.ListN.{length};
 ghost use Rattle.querylaws.specs.Lists.{numberOf, shapeIn};
 ghost use Rattle.querylaws.specs.Queries.{movedIn, Seekable};
+use querylaws::BITS;
+use querylaws::BOUND;
+use querylaws::FROM;
 use querylaws::InHand;
+use querylaws::LENGTH;
+use querylaws::LOWER;
+use querylaws::TO;
+use querylaws::UPPER;
+use querylaws::WIDTH;
 use shape::Shape;
 
-// Number j of list i.
+// The number of list i at place j of its row.
 pub fn number(shapes: &[u32], i: usize, j: usize) -> usize
     requires { ⌜ (length (now shapes) ≡ 64) × (i < 8) × (j < 8) ⌝ }
     ensures { λ r. ⌜ r ≡ numberOf (now (shapes .entry)) i j ⌝ }
@@ -22,13 +30,13 @@ pub fn shape_in(shapes: &[u32], i: usize) -> Shape
     ensures { λ r. ⌜ r ≡ shapeIn (now (shapes .entry)) i ⌝ }
 {
     Shape {
-        u: number(shapes, i, 2),
-        n: number(shapes, i, 7),
-        w: number(shapes, i, 3),
-        bits: number(shapes, i, 4),
-        lower: number(shapes, i, 5),
-        upper: number(shapes, i, 6),
-        end: number(shapes, i, 1) - number(shapes, i, 0),
+        u: number(shapes, i, BOUND),
+        n: number(shapes, i, LENGTH),
+        w: number(shapes, i, WIDTH),
+        bits: number(shapes, i, BITS),
+        lower: number(shapes, i, LOWER),
+        upper: number(shapes, i, UPPER),
+        end: number(shapes, i, TO) - number(shapes, i, FROM),
     }
 }
 
@@ -37,8 +45,8 @@ pub fn seek_in(card: &[u8], shapes: &[u32], mut s: InHand, i: usize, b: usize) -
     requires { ⌜ Seekable (now card) (now shapes) i (s .hand) ⌝ }
     ensures { λ r. ⌜ (r .q ≡ s .q) × (r .hand ≡ movedIn (now (card .entry)) (now (shapes .entry)) i (s .hand) b) ⌝ }
 {
-    let from = number(shapes, i, 0);
-    let to = number(shapes, i, 1);
+    let from = number(shapes, i, FROM);
+    let to = number(shapes, i, TO);
     let c = seek::seek(&card[from..to], shape_in(shapes, i), s.hand, b);
     s.hand = c;
     s

@@ -12,6 +12,7 @@ ghost use Rattle.questions.specs.Wrote.{Wrote};
 ghost use Rattle.kinds.specs.Alone.{OpenedAlone};
 ghost use Rattle.kinds.specs.Ranks.{rankBy, OnElement};
 use querylaws::Query;
+use querylaws::WIDTH;
 use walklaws::SPENT;
 
 // Puts an answer whole at the front of the room; 0 where it does not fit.
@@ -66,7 +67,7 @@ pub fn rank_in(shapes: &[u32], q: Query, i: usize) -> usize
     ensures { λ r. ⌜ r ≡ rankBy (now (shapes .entry)) q i ⌝ }
 {
     let c = q.cursors[i];
-    c.bit as usize - ((c.mark as usize - 1) >> inhand::number(shapes, i, 3))
+    c.bit as usize - ((c.mark as usize - 1) >> inhand::number(shapes, i, WIDTH))
 }
 
 // Opens a list of pages as the one list of a query over its own bytes.

@@ -11,6 +11,14 @@ ghost use Rattle.shape.specs.Shape.{shapeOf};
 ghost use Rattle.openlists.specs.Places.{bytesOf, placePart, placePages, placedIn, numbersOf, numbersAt};
 ghost use Rattle.openlists.specs.Places.{sourceOf, Within, PlaceOk, Places, Alike, Slots, Opened};
 use rules::LIST_N_AT;
+use querylaws::BITS;
+use querylaws::BOUND;
+use querylaws::FROM;
+use querylaws::LENGTH;
+use querylaws::LOWER;
+use querylaws::TO;
+use querylaws::UPPER;
+use querylaws::WIDTH;
 
 // The bytes at place i.
 fn part_of<'a>(card: &'a [u8], places: &[u32], i: usize) -> &'a [u8]
@@ -56,16 +64,16 @@ pub fn numbers_at(card: &[u8], from: usize, to: usize) -> [u32; 8]
         (shapeOf (listU (bytesOf (now (card .entry)) from to)) (listN (bytesOf (now (card .entry)) from to))) ⌝ }
 {
     let g = reading::shape_at(&card[from..to]);
-    [
-        from as u32,
-        to as u32,
-        g.u as u32,
-        g.w as u32,
-        g.bits as u32,
-        g.lower as u32,
-        g.upper as u32,
-        g.n as u32,
-    ]
+    let mut row = [0u32; 8];
+    row[FROM] = from as u32;
+    row[TO] = to as u32;
+    row[BOUND] = g.u as u32;
+    row[WIDTH] = g.w as u32;
+    row[BITS] = g.bits as u32;
+    row[LOWER] = g.lower as u32;
+    row[UPPER] = g.upper as u32;
+    row[LENGTH] = g.n as u32;
+    row
 }
 
 // The numbers of the list at place i.

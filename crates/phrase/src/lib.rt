@@ -38,8 +38,8 @@ fn part_at<'a>(card: &'a [u8], shapes: &[u32], i: usize) -> &'a [u8]
     requires { ⌜ BlockAt (now card) (now shapes) i ⌝ }
     ensures { λ r. ⌜ now r ≡ partAt (now (card .entry)) (now (shapes .entry)) i ⌝ }
 {
-    let from = inhand::number(shapes, i, 0);
-    let to = inhand::number(shapes, i, 1);
+    let from = inhand::number(shapes, i, querylaws::FROM);
+    let to = inhand::number(shapes, i, querylaws::TO);
     &card[from..to]
 }
 

@@ -25,7 +25,7 @@ fn fits(
     requires { ⌜ Asked (now card) (now terms) lead (now pages) (now counts) (now positions) ⌝ }
     ensures { λ r. ⌜ r ≡ ltb (length (foundIn (now (card .entry)) (now (terms .entry)))) size ⌝ }
 {
-    if 2 * inhand::number(pages, 0, 7) < size {
+    if 2 * inhand::number(pages, 0, querylaws::LENGTH) < size {
         return true;
     }
     let mut none = [0u32; 1];
