@@ -10,7 +10,6 @@ ghost use Rattle.rules.specs.Common.{leadOf};
 ghost use Rattle.shape.specs.Shape.{shapeOf};
 ghost use Rattle.openlists.specs.Places.{bytesOf, placePart, placePages, placedIn, numbersOf, numbersAt};
 ghost use Rattle.openlists.specs.Places.{sourceOf, Within, PlaceOk, Places, Alike, Slots, Opened};
-use rules::LIST_N_AT;
 use querylaws::BITS;
 use querylaws::BOUND;
 use querylaws::FROM;
@@ -19,6 +18,7 @@ use querylaws::LOWER;
 use querylaws::TO;
 use querylaws::UPPER;
 use querylaws::WIDTH;
+use rules::LIST_N_AT;
 
 // The bytes at place i.
 fn part_of<'a>(card: &'a [u8], places: &[u32], i: usize) -> &'a [u8]

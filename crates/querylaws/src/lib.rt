@@ -6,12 +6,19 @@ use walklaws::Cursor;
 
 // The places of a list's eight numbers in its row: where its block starts and ends in the card, and the block's shape.
 pub const FROM: usize = 0;
+
 pub const TO: usize = 1;
+
 pub const BOUND: usize = 2;
+
 pub const WIDTH: usize = 3;
+
 pub const BITS: usize = 4;
+
 pub const LOWER: usize = 5;
+
 pub const UPPER: usize = 6;
+
 pub const LENGTH: usize = 7;
 
 // The cursors of a question's lists, the lead's first.
