@@ -65,7 +65,7 @@ module _ (s : List ℕ) (g : Shape) where
       rw (e, none) at (passed-split p i (q - p) refl) ∙ append-nil (passed s g p)
 
   -- of sound bytes any first elements climb
-  pub climbs-to : Holds s g → (p : ℕ) → p ≤ g .bits → climbs 0 (passed s g p) ≡ true
+  climbs-to : Holds s g → (p : ℕ) → p ≤ g .bits → climbs 0 (passed s g p) ≡ true
   climbs-to a p h =
       let xs : List ℕ = passed s g p in
       let ys : List ℕ = elements s up (g .lower) (g .w) (g .bits - p) (p - onesBelow s up p) (onesBelow s up p) in

@@ -33,7 +33,7 @@ pub record Word (s : List ℕ) (g : Shape) (k x : ℕ) : Type 0 where
 pub record Peeled (s : List ℕ) (g : Shape) (k x rest i m : ℕ) (l : Low) : Type 0 where
   pub d : ℕ
   pub within : d ≤ 64
-  pub rest-is : rest ≡ x / 2 ^ d * 2 ^ d
+  rest-is : rest ≡ x / 2 ^ d * 2 ^ d
   pub climbed : Climbed s g (64 * k + d) i m
   pub held : Held s g i l
 

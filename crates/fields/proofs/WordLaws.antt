@@ -6,8 +6,8 @@ use mathlib.Core.Path.{_≡_, refl, sym, ap, _∙_, subst}
 use mathlib.Core.Logic.{inl, inr}
 use mathlib.Core.List.{List}
 use Prim.Native.Nat.{ℕ, zero, suc, _+_, _-_, _*_, _/_, _%_, _^_, _≤_, _<_}
-use native.Mathlib.Nat.{add-zero, zero-add, mul-one, mod-one, div-one, pow-suc, pow-succ'}
-use native.Mathlib.Nat.{div-div-eq-div-mul, le-antisymm, le-of-suc-le-suc, lt-of-not-le}
+use native.Mathlib.Nat.{zero-add, mul-one, mod-one, div-one, pow-suc, pow-succ'}
+use native.Mathlib.Nat.{div-div-eq-div-mul}
 use native.Mathlib.Numerals.{add-one}
 use native.Mathlib.Omega.{arith}
 use lib.Bits.{shifted-half, shifted-even}
@@ -15,7 +15,7 @@ use lib.Pow.{mod-mod-pow, field}
 use lib.Count.{trailingZeros, ones, ones-step}
 use Rattle.rules.specs.Runs.{bit, runWord, runBit}
 use Rattle.rules.specs.Counts.{onesBelow}
-use Rattle.laws.proofs.BitLaws.{bit-zero, bit-suc, bit-shr, one-zero, tz-below, digit}
+use Rattle.laws.proofs.BitLaws.{bit-zero, bit-suc, bit-shr, tz-below, digit}
 use Rattle.laws.proofs.RunLaws.{run-bit}
 use Rattle.laws.proofs.CountLaws.{word-ones}
 use Rattle.fields.specs.Words.{placeOfOne, placeOfZero, nextOne}
@@ -71,7 +71,7 @@ low-odd x p = rw (← add-one p) (mod-mod-pow x p 1)
 low-half : (x p : ℕ) → x % 2 ^ suc p / 2 ≡ x / 2 % 2 ^ p
 low-half x p = rw (← add-one p) (field x p 1)
 
-pub ones-low : (x p : ℕ) → ones (x % 2 ^ suc p) ≡ x % 2 + ones (x / 2 % 2 ^ p)
+ones-low : (x p : ℕ) → ones (x % 2 ^ suc p) ≡ x % 2 + ones (x / 2 % 2 ^ p)
 ones-low x p = ones-step (x % 2 ^ suc p) ∙ rw (low-odd, low-half)
 
 -- the place that the lowest bit and the place among the others give
@@ -174,14 +174,6 @@ place-from x d j h =
     subst (λ (n : ℕ). placeOfOne n (x / 2 ^ d * 2 ^ d) j ≡ placeOfOne n x (ones (x % 2 ^ d) + j)) s
     (place-shl d (64 - d) (x / 2 ^ d) j ∙ sym (place-high d (64 - d) x j))
 
--- a one with j ones below it is the one number j
-pub place-unique : (k x p : ℕ) → p < k → bit x p ≡ 1 → p ≡ placeOfOne k x (ones (x % 2 ^ p))
-unfolding bit
-place-unique k x p h o =
-    let s : p + suc (k - suc p) ≡ k = omega arith in
-    sym (subst (λ (n : ℕ). placeOfOne n x (ones (x % 2 ^ p)) ≡ p) s
-    (rw add-zero at (place-high p (suc (k - suc p)) x 0) ∙ rw (place-here (k - suc p) (x / 2 ^ p) o, add-zero)))
-
 -- ---- the first one at or after a place
 
 pub next-after : (k x i : ℕ) → i ≤ nextOne k x i
@@ -203,20 +195,10 @@ next-zeros k x i q l h =
     let b : q - i < trailingZeros (k - i) (x / 2 ^ i) = rw place-trailing (omega arith) in
     subst (λ (n : ℕ). bit x n ≡ 0) s (sym (bit-shr x i (q - i)) ∙ tz-below (k - i) (x / 2 ^ i) (q - i) b)
 
-pub next-unique : (k x i r : ℕ) → i ≤ r → r ≤ k → ((q : ℕ) → i ≤ q → q < r → bit x q ≡ 0) → (r < k → bit x r ≡ 1)
-    → r ≡ nextOne k x i
-unfolding nextOne
-next-unique k x i r l u z o =
-    le-antisymm
-    (le-of-suc-le-suc (lt-of-not-le (λ (g : suc (nextOne k x i) ≤ r). one-zero (next-bit k x i (omega arith))
-    (z (nextOne k x i) (omega arith) g))))
-    (le-of-suc-le-suc (lt-of-not-le (λ (g : suc r ≤ nextOne k x i). one-zero
-    (o (omega (arith, next-le k x i (omega arith)))) (next-zeros k x i r l g))))
+-- ---- the zeros of a word: the ones of its complement
 
 half-lt : (k x : ℕ) → x < 2 ^ suc k → x / 2 < 2 ^ k
 half-lt k x h = omega (arith, rw pow-suc at h)
-
--- ---- the zeros of a word: the ones of its complement
 
 complement-odd : (k x : ℕ) → x < 2 ^ suc k → (2 ^ suc k - 1 - x) % 2 + x % 2 ≡ 1
 complement-odd k x h = rw pow-suc (omega (arith, rw pow-suc at h))
@@ -232,7 +214,7 @@ complement-ones (suc k) x (suc i) h l =
     rw (ones-low (2 ^ suc k - 1 - x) i, ones-low x i, complement-half k x h)
     (omega (arith, complement-odd k x h, complement-ones k (x / 2) i (half-lt k x h) (omega arith)))
 
-pub complement-bit : (k x i : ℕ) → x < 2 ^ k → i < k → bit (2 ^ k - 1 - x) i + bit x i ≡ 1
+complement-bit : (k x i : ℕ) → x < 2 ^ k → i < k → bit (2 ^ k - 1 - x) i + bit x i ≡ 1
 complement-bit zero x i h l = absurd (omega arith)
 complement-bit (suc k) x zero h l = rw (bit-zero, bit-zero) (complement-odd k x h)
 complement-bit (suc k) x (suc i) h l =
@@ -250,13 +232,6 @@ module _ (k x : ℕ) (fits : x < 2 ^ k) where
     place-ones k (2 ^ k - 1 - x) j h,
     complement-ones k x (placeOfZero k x j) fits (omega arith),
   )
-
-  pub zero-unique : (p : ℕ) → p < k → bit x p ≡ 0 → p ≡ placeOfZero k x (p - ones (x % 2 ^ p))
-  unfolding placeOfZero
-  zero-unique p h o =
-      let e : ones ((2 ^ k - 1 - x) % 2 ^ p) ≡ p - ones (x % 2 ^ p) =
-      omega (arith, complement-ones k x p fits (omega arith)) in
-      rw (← e) (place-unique k (2 ^ k - 1 - x) p h (omega (arith, complement-bit k x p fits h)))
 
 -- ---- the places in word k of a run
 

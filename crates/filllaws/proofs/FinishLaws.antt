@@ -162,7 +162,7 @@ module _ (g : Shape) (xs : List ℕ) (before t : List ℕ) (f : Framed g before 
         e ∙ sym (block-pointer (g .u) xs (g .n) (g .w) all some ew q l h
         ∙ mod-eq-of-lt (omega (arith, e, far, s .few, s .many, zeros-of g before (f .fitting) some)))
 
-    pub finished-some : t ≡ laid B before
+    finished-some : t ≡ laid B before
     unfolding runWord
     finished-some =
         let s = sides g before (f .fitting) in

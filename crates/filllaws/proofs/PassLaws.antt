@@ -18,12 +18,12 @@ use Rattle.filllaws.proofs.FillLaws.{raised-alike, pointed-more}
 
 -- ---- what a write leaves as it was
 
-pub stored-alike : (k at : ℕ) (v : ℕ → ℕ) (a b : ℕ) (d e : List ℕ) → Stored k at v a b d e → (p q : ℕ)
+stored-alike : (k at : ℕ) (v : ℕ → ℕ) (a b : ℕ) (d e : List ℕ) → Stored k at v a b d e → (p q : ℕ)
     → (q ≤ at + k * a) ⊎ (at + k * b ≤ p) → Alike e d p q
 stored-alike k at v a b d e s p q (inl h) i l u = s .others i (inl (omega arith))
 stored-alike k at v a b d e s p q (inr h) i l u = s .others i (inr (omega arith))
 
-pub framed-stored : (g : Shape) (before s t : List ℕ) (k at : ℕ) (v : ℕ → ℕ) (a b : ℕ) → Framed g before s
+framed-stored : (g : Shape) (before s t : List ℕ) (k at : ℕ) (v : ℕ → ℕ) (a b : ℕ) → Framed g before s
     → Stored k at v a b s t → 13 ≤ at + k * a → at + k * b ≤ g .end → Framed g before t
 framed-stored g before s t k at v a b f st l u = record {
   fitting = f .fitting;

@@ -67,10 +67,10 @@ module _ (s : List ℕ) (t next : ℕ) (h : t ≤ next) where
   on-is : t + (next - t) ≡ next
   on-is = omega arith
 
-  pub walk-on : Walkable 11 next s → Walkable 0 (next - t) (after t (drop 11 s))
+  walk-on : Walkable 11 next s → Walkable 0 (next - t) (after t (drop 11 s))
   walk-on w = walk-rest 11 t (next - t) s (rw on-is w)
 
-  pub walked-on : after (next - t) (after t (drop 11 s)) ≡ after next (drop 11 s)
+  walked-on : after (next - t) (after t (drop 11 s)) ≡ after next (drop 11 s)
   walked-on = after-on t (next - t) (drop 11 s) ∙ ap (λ (m : ℕ). after m (drop 11 s)) on-is
 
 -- those of the terms ts that are below n start at their numbers of ps
@@ -98,7 +98,7 @@ pub record Finding (s ts ps : List ℕ) (n t : ℕ) (rest : List ℕ) (next : �
   pub room : length ps ≡ n
   pub left : rest ≡ after t (drop 11 s)
   pub onward : t ≤ next
-  pub on-card : next < 2 ^ 32 → next < indexT s
+  on-card : next < 2 ^ 32 → next < indexT s
   pub found : AllStart s ts next ps
 
 module _ (s ts : List ℕ) (a : indexRefusal s ≡ Accepted) (b : Below s ts) where

@@ -35,7 +35,7 @@ pub fn lists_from(term: &[u8], k: usize) -> &[u8]
 }
 
 // List number k.
-pub fn list_of(term: &[u8], k: usize) -> &[u8]
+fn list_of(term: &[u8], k: usize) -> &[u8]
     requires { ⌜ (termRefusal (now term) ≡ Accepted) × (k < 3) ⌝ }
     ensures { λ r. ⌜ now r ≡ part k (listsOf (now (term .entry))) ⌝ }
 {

@@ -11,7 +11,7 @@ use Rattle.rules.specs.declared.Refusal.the-variants.{Accepted, Limit, Layout, 
 use Rattle.rules.specs.Refusal.{andThen}
 use Rattle.rules.specs.Limits.{limit, listHeader}
 use Rattle.rules.specs.List.{size}
-use Rattle.rules.specs.ReadList.{stated, listU, listN, decode, isBlock, listRefusal}
+use Rattle.rules.specs.ReadList.{listU, listN, decode, isBlock, listRefusal}
 use Rattle.laws.proofs.RefusalLaws.{test-passed, equal-passed, or-parts}
 use Rattle.laws.specs.Blocks.{Headed, headTests}
 use Rattle.laws.proofs.HeadLaws.{head-next, head-then, head-passed}

@@ -55,7 +55,7 @@ pub fn pointer_at(block: &[u8], g: Shape, i: usize) -> usize
 }
 
 // The low part of element number i, read from the lower run alone: no word of the upper run can be had here.
-pub fn low_at(block: &[u8], g: Shape, i: usize) -> usize
+fn low_at(block: &[u8], g: Shape, i: usize) -> usize
     requires { ⌜ Open (now block) g × (i < g .n) ⌝ }
     ensures { λ r. ⌜ (r ≡ field (now (block .entry)) (g .lower) (i * g .w) (g .w)) × (r < 2 ^ 24) ⌝ }
 {

@@ -37,7 +37,7 @@ module _ (x : ℕ) (some : 0 < x) (fits : x < 2 ^ 64) where
   pub leading-some : leadingZeros 64 x ≤ 63
   leading-some = omega (arith, leading-top 64 x some fits .1)
 
-  pub leading-highest : Highest x (63 - leadingZeros 64 x)
+  leading-highest : Highest x (63 - leadingZeros 64 x)
   leading-highest =
       let t = leading-top 64 x some fits in
       let e : 63 - leadingZeros 64 x ≡ t .0 = omega (arith, t .1) in

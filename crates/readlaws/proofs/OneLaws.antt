@@ -53,7 +53,7 @@ module _ (s : List ℕ) (at : ℕ) where
     pub place-lt : placeOfOne 64 x j < 64
     place-lt = place-some 64 x j (rw (mod-eq-of-lt fits) some)
 
-    pub place-one : OneAt s at (onesBelow s at (64 * k) + j) (64 * k + placeOfOne 64 x j)
+    place-one : OneAt s at (onesBelow s at (64 * k) + j) (64 * k + placeOfOne 64 x j)
     place-one = record {
       set = run-bit s at k (placeOfOne 64 x j) place-lt ∙ rw (← word) (place-bit 64 x j place-lt);
       below = word-ones s at k (placeOfOne 64 x j) (omega (arith, place-lt)) ∙ rw (← word, place-ones 64 x j place-lt);

@@ -51,7 +51,7 @@ pub record Reading (s : List ℕ) (g : Shape) : Type 0 where
   pub agrees : (p : ℕ) → p < g .bits → runBit s (g .upper) p ≡ bit (upper (g .w) 0 (decode s)) p
   pub pointed : (q : ℕ) → 0 < q → q ≤ (g .bits - g .n) / 256
       → After (onesBelow s (g .upper)) (256 * q) (beAt 4 s (9 + 4 * q))
-  pub valued : (h i : ℕ) → i < g .n → onesBelow s (g .upper) (h + i) ≡ i → runBit s (g .upper) (h + i) ≡ 1
+  valued : (h i : ℕ) → i < g .n → onesBelow s (g .upper) (h + i) ≡ i → runBit s (g .upper) (h + i) ≡ 1
       → getD (decode s) i 0 ≡ h * 2 ^ g .w + field s (g .lower) (i * g .w) (g .w)
 
 -- the one of element number `rank` stands at `place`

@@ -189,7 +189,7 @@ running-is (suc m) a x h =
     )
 
 -- byte i of the counts added up
-pub running-at : (m a x i : ℕ) → i < m → a + 8 * m < 256
+running-at : (m a x i : ℕ) → i < m → a + 8 * m < 256
     → runningOnes m a x / 2 ^ (8 * i) % 256 ≡ a + ones (x % 2 ^ (8 * i + 8))
 unfolding runningOnes
 running-at zero a x i h l = absurd (omega arith)
@@ -228,7 +228,7 @@ shifted-at x (suc i) h =
     (byte-kept S (48 - 8 * i) 56 (8 * i) (omega arith) ∙ running-at 8 0 x i (omega arith) (lit< tt) ∙ rw (zero-add, f))
 
 -- `((s << 8) >> (8 * i)) & 255`: the ones below byte i
-pub count-before : (x i : ℕ) → i < 8
+count-before : (x i : ℕ) → i < 8
     → bitAnd ((runningOnes 8 0 x * 2 ^ 8) % 2 ^ 64 / 2 ^ (8 * i)) 255 ≡ ones (x % 2 ^ (8 * i))
 count-before x i h =
     let S : ℕ = runningOnes 8 0 x in
@@ -310,7 +310,7 @@ search-past m a x j t (inr f) =
       reach = rw (g, k) (omega (arith, f .reach, ones-parts x 8 (8 * i + 8)));
     }
 
-pub searched : (m a x j : ℕ) → a ≤ j → j < 128 → a + 8 * m < 128 → Search m a x j (marked m (runningOnes m a x) j)
+searched : (m a x j : ℕ) → a ≤ j → j < 128 → a + 8 * m < 128 → Search m a x j (marked m (runningOnes m a x) j)
 unfolding runningOnes
 searched zero a x j h hj l = inl (and-zero-r (bitOr 0 0 - (j + 1) * 0), omega (arith, ones-none x))
 searched (suc m) a x j h hj l =
@@ -327,7 +327,7 @@ searched (suc m) a x j h hj l =
 -- ---- within the byte
 
 -- each bit of b as a byte: `(((b * 0x01..) & 0x8040201008040201) + 0x7F..) >> 7) & 0x01..`
-abbrev pub spaced : ℕ → ℕ
+abbrev spaced : ℕ → ℕ
 spaced b = bitAnd ((bitAnd (b * each 8 1) 9241421688590303745 + each 8 127) / 2 ^ 7) (each 8 1)
 
 pub spaced-fits : (b : ℕ) → bitAnd (b * each 8 1) 9241421688590303745 + each 8 127 < 2 ^ 64
@@ -357,7 +357,7 @@ byte-place b j s t h l e f =
     ap (λ (n : ℕ). trailingZeros 64 n / 8) (f ∙ ap (λ (n : ℕ). marked 8 n j) e) ∙ byte-first b j h l
 
 -- the one number j of the word, as a one of the byte that holds it
-pub place-byte : (x j i : ℕ) → i < 8 → ones (x % 2 ^ (8 * i)) ≤ j → j < ones (x % 2 ^ (8 * i + 8))
+place-byte : (x j i : ℕ) → i < 8 → ones (x % 2 ^ (8 * i)) ≤ j → j < ones (x % 2 ^ (8 * i + 8))
     → 8 * i + placeOfOne 8 (x / 2 ^ (8 * i) % 2 ^ 8) (j - ones (x % 2 ^ (8 * i))) ≡ placeOfOne 64 x j
 place-byte x j i h b r =
     let c : ℕ = ones (x % 2 ^ (8 * i)) in

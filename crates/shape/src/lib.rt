@@ -20,7 +20,7 @@ pub struct Shape {
 }
 
 // The width of the low parts of n elements below u.
-pub fn width(u: usize, n: usize) -> usize
+fn width(u: usize, n: usize) -> usize
     requires { ⌜ (0 < n) × (n ≤ u) × (u < 2 ^ 32) ⌝ }
     ensures { λ r. ⌜ (r ≡ width u n) × (r ≤ 31) ⌝ }
 {

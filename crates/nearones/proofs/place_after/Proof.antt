@@ -1,8 +1,7 @@
 -- `place_after` passes words without a one: none lies between the start and the bit reached.
 use mathlib.Core.Path.{_≡_, refl, ap}
-use Prim.Native.Nat.{ℕ, _+_, _-_, _*_, _/_, _%_, _^_, _<_}
+use Prim.Native.Nat.{_+_, _-_, _*_, _/_, _%_, _^_, _<_}
 use native.Mathlib.Omega.{arith}
-use borrow.Author.Needs.{needs}
 use Rattle.rules.specs.Runs.{wordsFor}
 use Rattle.rules.specs.Counts.{onesBelow}
 use Rattle.readlaws.proofs.PartLaws.{Reached, flat-inside, word-inside, reach-word, reach-past}

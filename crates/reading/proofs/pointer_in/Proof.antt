@@ -1,7 +1,6 @@
 -- `pointer_in` gives the pointer: what is stored, or the run's start.
 use mathlib.Core.Path.{refl}
 use native.Mathlib.Omega.{arith}
-use borrow.Author.Needs.{needs}
 use Rattle.readlaws.specs.Open.{shapeIn}
 use Rattle.readlaws.proofs.ReadLaws.{open-reads, pointers-few, pointer-reads}
 use Rattle.reading.proofs.pointer_in.Statement.{statement}
