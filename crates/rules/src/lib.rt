@@ -13,33 +13,40 @@ pub const PHRASE_LIMIT: usize = 8;
 // The first number that four bytes do not hold.
 pub const FOUR_BYTES: usize = 4294967296;
 
-// The version of every block, and its byte behind the length.
+// The version of every block.
 pub const VERSION: u8 = 1;
 
+// The byte of every block that holds its version, behind the length.
 pub const VERSION_AT: usize = 4;
 
-// Fewer bytes are no list block: its length, version, U and n; the pointers follow.
+// The bytes of a list's header: length, version, U and n.
 pub const LIST_HEADER: usize = 13;
 
+// The byte at which a list's U starts.
 pub const LIST_U_AT: usize = 5;
 
+// The byte at which a list's n starts.
 pub const LIST_N_AT: usize = 9;
 
-// A pointer's bytes; number i, from 1, stands at byte POINTER_ZERO_AT + POINTER_SIZE * i.
+// The bytes of a pointer.
 pub const POINTER_SIZE: usize = 4;
 
+// Pointer number i, from 1, starts POINTER_SIZE * i bytes behind this one.
 pub const POINTER_ZERO_AT: usize = 9;
 
-// Fewer bytes are no term block: its length, its version, and three lists from byte LISTS_AT on.
+// The bytes below which a term is too short: length, version and three headers of lists.
 pub const TERM_HEADER: usize = 44;
 
+// The byte at which a term's first list starts.
 pub const LISTS_AT: usize = 5;
 
-// Fewer bytes are no index: its length, version, N and T; the terms follow.
+// The bytes of an index's header: length, version, N and T; its terms follow.
 pub const INDEX_HEADER: usize = 11;
 
+// The byte at which an index's N starts.
 pub const INDEX_N_AT: usize = 5;
 
+// The byte at which an index's T starts.
 pub const INDEX_T_AT: usize = 9;
 
 // Why bytes, lists or questions are refused; `number` of specs/Refusal.antt gives document 01's number.
