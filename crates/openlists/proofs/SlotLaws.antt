@@ -105,7 +105,7 @@ module _ (s ps : List ℕ) (lead : ℕ) where
         (omega (arith, length-drop (fromOf ps x) s, o .starts, o .ends)) in
         sym n ∙ accepted-framed part (o .accepted) .0 .length-is ∙ sym (shape-end (listU part) (listN part))
 
-    pub slot-shape : (i : ℕ) → i < k → shapeIn r i ≡ shapeAt s ps (sourceOf lead i)
+    slot-shape : (i : ℕ) → i < k → shapeIn r i ≡ shapeAt s ps (sourceOf lead i)
     unfolding shapeIn
     slot-shape i l =
         let e : (j : ℕ) → j < 8 → numberOf r i j ≡ getD (numbersAt s ps (sourceOf lead i)) j 0 =
@@ -123,7 +123,7 @@ module _ (s ps : List ℕ) (lead : ℕ) where
           slot-end i l,
         )
 
-    pub opened-bound : Alike s ps k → boundIn r ≡ listU (placePart s ps 0)
+    opened-bound : Alike s ps k → boundIn r ≡ listU (placePart s ps 0)
     unfolding boundIn shapeAt
     opened-bound a =
         let part : List ℕ = placePart s ps (sourceOf lead 0) in
@@ -131,7 +131,7 @@ module _ (s ps : List ℕ) (lead : ℕ) where
         ∙ a (sourceOf lead 0) (source-lt lead 0 k h (p .some))
 
     -- an accepted block with its numbers
-    pub slot-open : (i : ℕ) → i < k → (numberOf r i 0 ≤ numberOf r i 1) × (numberOf r i 1 ≤ length s)
+    slot-open : (i : ℕ) → i < k → (numberOf r i 0 ≤ numberOf r i 1) × (numberOf r i 1 ≤ length s)
         × Open (partAt s r i) (shapeIn r i)
     slot-open i l =
         let o = source-ok i l in (

@@ -110,7 +110,7 @@ pub fn source_of(lead: usize, t: usize) -> usize
 }
 
 // Opens the lists at the first k places into the 64 numbers, that at place `lead` first and the others in their order.
-pub fn open_slots(card: &[u8], places: &[u32], k: usize, lead: usize, shapes: &mut [u32])
+fn open_slots(card: &[u8], places: &[u32], k: usize, lead: usize, shapes: &mut [u32])
     requires { ⌜ Places (now card) (now places) k × (lead < k) × (length (now shapes) ≡ 64) ⌝ }
     ensures { λ _. ⌜ Slots (now (card .entry)) (now (places .entry)) lead k (now (shapes .exit)) ⌝ }
 {

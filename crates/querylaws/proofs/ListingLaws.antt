@@ -39,7 +39,7 @@ laid-more ps room p h =
     (set-at ps (getD room (length ps) 0) (drop (suc (length ps)) room) p (length ps) refl
     ∙ sym (append-snoc ps p (drop (suc (length ps)) room)))
 
-pub laid-within-none : (room : List ℕ) → laidWithin [] room ≡ room
+laid-within-none : (room : List ℕ) → laidWithin [] room ≡ room
 unfolding laid
 laid-within-none room = rw (take-nil {A = ℕ} (length room))
 
@@ -56,7 +56,7 @@ full ps room p h =
     omega (arith, length-append front (drop (length front) room), length-drop (length front) room) in
     set-out (laidWithin ps room) (length ps) p l
 
-pub laid-within-more : (ps room : List ℕ) (p : ℕ) → set (laidWithin ps room) (length ps) p ≡ laidWithin (ps ++ p ∷ []) room
+laid-within-more : (ps room : List ℕ) (p : ℕ) → set (laidWithin ps room) (length ps) p ≡ laidWithin (ps ++ p ∷ []) room
 laid-within-more ps room p = elim (decLt (length ps) (length room)) [
   | yes h ↦
       rw (laid-within-all ps room (omega arith), laid-within-all (ps ++ p ∷ []) room (omega (arith, length-append ps (p ∷ []))))

@@ -29,7 +29,7 @@ unfolding span readersOf
 span-fresh f zero i = refl
 span-fresh f (suc n) i = ap (λ (l : List Reader). freshOn (f i) ∷ l) (span-fresh f n (i + 1))
 
-pub new-cursor : (i : ℕ) → i < 8 → cursorIn newQuery i ≡ unused
+new-cursor : (i : ℕ) → i < 8 → cursorIn newQuery i ≡ unused
 unfolding newQuery
 new-cursor i h = getD-replicate 8 i unused unused h
 

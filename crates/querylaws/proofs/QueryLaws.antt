@@ -29,7 +29,7 @@ use Rattle.querylaws.proofs.ListLaws.{list-within, list-rises}
 -- ---- totals
 
 module _ (f : Cursor → ℕ) where
-  pub total-set : (cs : List Cursor) (i : ℕ) (c : Cursor) → i < length cs
+  total-set : (cs : List Cursor) (i : ℕ) (c : Cursor) → i < length cs
       → total f (set cs i c) + f (getD cs i unused) ≡ total f cs + f c
   unfolding total
   total-set [] i c h = absurd (omega arith)
@@ -130,7 +130,7 @@ module _ (s sh : List ℕ) (k : ℕ) (q : Query) (b : ℕ) (a : Apt s sh k q b) 
         (list-within s sh i list) (cursorIn q i) (a .held i h) b,
   )
 
-  pub seek-looks : looksOf after ≡ looksOf q + this .looks
+  seek-looks : looksOf after ≡ looksOf q + this .looks
   unfolding looksOf readerAt
   seek-looks = omega (
     arith,

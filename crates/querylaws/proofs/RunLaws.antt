@@ -27,7 +27,7 @@ use Rattle.querylaws.proofs.ListLaws.{list-within, list-length, span-wo
 use Rattle.querylaws.proofs.QueryLaws.{total-at, left, seek-apt, seek-seeks, mark-some, left-none, left-page}
 use Rattle.querylaws.proofs.QueryLaws.{toCome, endOf, end-none, end-page, page-least}
 
-pub apt-more : (s sh : List ℕ) (k : ℕ) (q : Query) (b d : ℕ) → Apt s sh k q b → b ≤ d → Apt s sh k q d
+apt-more : (s sh : List ℕ) (k : ℕ) (q : Query) (b d : ℕ) → Apt s sh k q b → b ≤ d → Apt s sh k q d
 apt-more s sh k q b d a l = record {
   lists = a .lists;
   eight = a .eight;
@@ -47,13 +47,13 @@ module _ (s sh : List ℕ) (k : ℕ) (q : Query) (b : ℕ) (a : Apt s sh k q b) 
   pub others-ready : AllReady (boundIn sh) b (othersIn s sh k q)
   others-ready = span-ready (readerAt s sh q) (boundIn sh) b (k - 1) 1 (λ j l m. a .ready j (omega (arith, some)))
 
-  pub others-count : 1 + length (othersIn s sh k q) ≡ k
+  others-count : 1 + length (othersIn s sh k q) ≡ k
   others-count = omega (arith, some, length-span (readerAt s sh q) 1 (k - 1))
 
   pub came : Came (boundIn sh) b (leadIn s sh q) (othersIn s sh k q) (nextFor s sh k q b)
   came = next-came (boundIn sh) (leadIn s sh q) (othersIn s sh k q) b lead-ready others-ready
 
-  pub words-bound : wordsOf (boundIn sh) (leadIn s sh q .pages ∷ pagesOf (othersIn s sh k q)) ≤ 2 ^ 23
+  words-bound : wordsOf (boundIn sh) (leadIn s sh q .pages ∷ pagesOf (othersIn s sh k q)) ≤ 2 ^ 23
   unfolding readerAt
   words-bound =
       let z : k - 0 ≡ k = omega arith in
@@ -72,7 +72,7 @@ module _ (s sh : List ℕ) (k : ℕ) (q : Query) (b : ℕ) (r : Running s sh k q
   ends-few none e = rw (others-count s sh k q b (r .apt)) at (e .few)
   ends-few (page c i) e = omega (arith, rw (others-count s sh k q b (r .apt)) at (e .few))
 
-  pub next-narrow : Narrow (seeksOf q + nextFor s sh k q b .seeks) (looksOf q + nextFor s sh k q b .looks)
+  next-narrow : Narrow (seeksOf q + nextFor s sh k q b .seeks) (looksOf q + nextFor s sh k q b .looks)
   next-narrow =
       let c = came s sh k q b (r .apt) in
       let n = ends-few (nextFor s sh k q b .found) (c .ends) in record {
@@ -141,7 +141,7 @@ module _ (s sh : List ℕ) (k : ℕ) (q₀ : Query) (b₀ : ℕ) where
             looks = rw (lead-is, others-are) (omega (arith, seeks-are, looks-are, n .carried .paid, r .looks));
           }
 
-      pub turned-from : t .q ≡ endOf s sh k q₀ 0 b₀ → t .mark ≡ markFound f → ((c j : ℕ) → f ≡ page c j → b ≤ c)
+      turned-from : t .q ≡ endOf s sh k q₀ 0 b₀ → t .mark ≡ markFound f → ((c j : ℕ) → f ≡ page c j → b ≤ c)
           → Turned s sh k q₀ b₀ t
       turned-from p e h =
           let n = next-narrow s sh k q₀ b₀ r in record {

@@ -19,7 +19,7 @@ use Rattle.querylaws.proofs.RunLaws.{came}
 
 module _ (s sh : List ℕ) (k : ℕ) (q : Query) (b : ℕ) (a : Apt s sh k q b) where
   -- a page that was found is below the bound of the lists
-  pub found-below : (c j : ℕ) → nextFor s sh k q b .found ≡ page c j → c < boundIn sh
+  found-below : (c j : ℕ) → nextFor s sh k q b .found ≡ page c j → c < boundIn sh
   found-below c j e =
       let n = came s sh k q b a in
       let on = rw e at (n .ends) .on-page .0 in

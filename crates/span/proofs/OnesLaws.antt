@@ -13,7 +13,7 @@ use Rattle.readlaws.specs.Open.{Open, OneAt}
 use Rattle.readlaws.proofs.PartLaws.{flat-inside, word-inside}
 use Rattle.walklaws.specs.declared.Ones.{Ones}
 use Rattle.walklaws.specs.Walks.{Walking}
-use Rattle.walklaws.proofs.OpenLaws.{open-word, words-few}
+use Rattle.walklaws.proofs.OpenLaws.{words-few}
 use Rattle.walklaws.proofs.WalkLaws.{walking-from, walking-next, walking-more, walking-drop, one-lt, one-bit, one-rank}
 use Rattle.span.specs.declared.Walk.{Walk}
 use Rattle.span.specs.Walks.{WalkOn, OnesLeft}

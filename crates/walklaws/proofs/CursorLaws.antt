@@ -2,12 +2,12 @@
 use mathlib.Core.Bool.{true, not}
 use mathlib.Core.Path.{_≡_}
 use mathlib.Core.List.{List}
-use Prim.Native.Nat.{ℕ, zero, suc, _+_, _-_, _/_, _^_, _≤_, _<_}
+use Prim.Native.Nat.{ℕ, zero, suc, _-_, _/_, _^_, _≤_, _<_}
 use native.Mathlib.Omega.{arith}
 use borrow.Author.Tests.{eq-eqb, ne-eqb}
 use lib.Dec.{eqb}
 use mir.Val.{boolByte}
-use lib.ListN.{length, getD}
+use lib.ListN.{getD}
 use Rattle.rules.specs.Limits.{limit}
 use Rattle.rules.specs.List.{rising}
 use Rattle.rules.specs.Seek.{Cursor as Placing, fresh, on, spent, widthOf, placeOf, cursorBit}
@@ -58,18 +58,3 @@ module _ (U : ℕ) (xs : List ℕ) (r : rising 0 U xs ≡ true) (within : U ≤ 
   -- a cursor whose mark is up to b, below U, is up to b
   pub held-floor : (c : Cursor) (h : Held U xs c) (b : ℕ) → c .mark ≤ b → b < U → floor U xs (h .place) ≤ b
   held-floor c h b m l = floor-at (h .place) b (rw (h .mark-is) at m) l
-
-on-at : (U : ℕ) (xs : List ℕ) (c : Cursor) (a : Placing) → Placed xs a → c .mark ≡ markOf xs a
-    → c .bit ≡ cursorBit U xs a → 0 < c .mark → c .mark < spentMark
-    → (0 < length xs) × ((c .mark - 1) / 2 ^ widthOf U xs ≤ c .bit)
-unfolding markOf cursorBit placeOf
-on-at U xs c fresh p m b l k = absurd (omega arith)
-on-at U xs c spent p m b l k = absurd (omega arith)
-on-at U xs c (on i) p m b l k =
-    let e : c .mark - 1 ≡ getD xs i 0 = omega arith in
-    (omega arith, rw e (omega arith))
-
--- a cursor on an element is not before the element's high part
-pub held-on : (U : ℕ) (xs : List ℕ) (c : Cursor) → Held U xs c → 0 < c .mark → c .mark < spentMark
-    → (0 < length xs) × ((c .mark - 1) / 2 ^ widthOf U xs ≤ c .bit)
-held-on U xs c h = on-at U xs c (h .place) (h .placed) (h .mark-is) (h .bit-is)

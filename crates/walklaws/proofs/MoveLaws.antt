@@ -17,7 +17,7 @@ use Rattle.walklaws.specs.declared.Cursor.{Cursor}
 use Rattle.walklaws.specs.Cursors.{spentMark, unused, markOf, held, rankIn, ruleCursor, Held, movedTo, foundBy}
 use Rattle.walklaws.proofs.CursorLaws.{held-rule}
 
-pub held-made : (U : ℕ) (xs : List ℕ) (a : Placing) (seeks looks : ℕ) → Placed xs a
+held-made : (U : ℕ) (xs : List ℕ) (a : Placing) (seeks looks : ℕ) → Placed xs a
     → Held U xs (held U xs a seeks looks)
 unfolding held
 held-made U xs a seeks looks p = record { place = a; placed = p; mark-is = refl; bit-is = refl }

@@ -37,7 +37,7 @@ places-none x j l e = elim (decLt j (ones x)) [
 ]
 
 module _ (x y i : ℕ) (r : Rest x y i) where
-  pub rest-count : ones y + i ≡ ones x
+  rest-count : ones y + i ≡ ones x
   rest-count =
       let d : ℕ = ones x - i in
       let e : i + d ≡ ones x = omega (arith, r .within) in
@@ -51,7 +51,7 @@ module _ (x y i : ℕ) (r : Rest x y i) where
   rest-none e = omega (arith, rest-count, ap ones e)
 
   -- one number j of what is left is one number i + j
-  pub rest-place : (j : ℕ) → j < ones y → (placeOfOne 64 x (i + j) < 64) × (placeOfOne 64 y j ≡ placeOfOne 64 x (i + j))
+  rest-place : (j : ℕ) → j < ones y → (placeOfOne 64 x (i + j) < 64) × (placeOfOne 64 y j ≡ placeOfOne 64 x (i + j))
   rest-place j h = (places-some x (i + j) (r .whole) (omega (arith, rest-count)), r .places j)
 
   -- and trailing zeros tell the first

@@ -155,7 +155,7 @@ module _ (s : List ℕ) (g : Shape) (o : Open s g) where
         let e : getD xs i 0 + 1 - 1 ≡ getD xs i 0 = omega arith in
         rw (ruled .place-is i, e) (omega (arith, ruled .ranked i h))
 
-    pub cursor-counted : onesBelow s (g .upper) (c .bit) + (c .mark - 1) / 2 ^ g .w ≡ c .bit
+    cursor-counted : onesBelow s (g .upper) (c .bit) + (c .mark - 1) / 2 ^ g .w ≡ c .bit
     cursor-counted =
         let h = m .cursor in
         rw (h .mark-is, h .bit-is) (placing-counted (h .place) (h .placed) (rw (h .mark-is) at (m .ahead)))

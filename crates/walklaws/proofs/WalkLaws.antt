@@ -16,7 +16,6 @@ use Rattle.laws.proofs.CountLaws.{ones-parts, word-ones, next-word}
 use Rattle.fields.specs.Words.{placeOfOne}
 use Rattle.fields.proofs.WordLaws.{run-one}
 use Rattle.shape.specs.declared.Shape.{Shape}
-use Rattle.listlaws.specs.Sound.{After}
 use Rattle.listlaws.proofs.AfterLaws.{run-after-from}
 use Rattle.readlaws.specs.Open.{Open}
 use Rattle.readlaws.proofs.ReadLaws.{open-reads}

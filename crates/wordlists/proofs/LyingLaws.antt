@@ -43,7 +43,7 @@ drop-take (suc a) (suc n) (x ∷ s) = drop-take a n s ∙ ap (λ (m : ℕ). take
     same a n = omega arith
 
 -- a part of a part is a part
-pub part-part : (m a n b : ℕ) (s : List ℕ) → a + m ≤ n → take m (drop a (take n (drop b s))) ≡ take m (drop (b + a) s)
+part-part : (m a n b : ℕ) (s : List ℕ) → a + m ≤ n → take m (drop a (take n (drop b s))) ≡ take m (drop (b + a) s)
 part-part m a n b s h =
     ap (take m) (drop-take a n (drop b s)) ∙ take-take m (n - a) (drop a (drop b s)) (omega arith)
     ∙ ap (take m) (drop-drop a b s)

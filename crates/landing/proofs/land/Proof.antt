@@ -1,16 +1,14 @@
 -- `land` passes elements below b one by one, and ends at the first that is not or behind the last.
-use mathlib.Core.Path.{_≡_, refl, sym, ap, _∙_}
+use mathlib.Core.Path.{refl, ap}
 use mathlib.Core.List.{List}
 use Prim.Native.Nat.{ℕ, _+_, _-_, _*_, _^_, _<_}
 use native.Mathlib.Omega.{arith}
 use borrow.Author.Count.{below-more}
 use lib.Count.{trailingZeros}
 use lib.ListN.{getD}
-use Rattle.rules.specs.Runs.{runBit}
-use Rattle.rules.specs.Counts.{onesBelow}
 use Rattle.rules.specs.ReadList.{decode}
 use Rattle.shape.specs.declared.Shape.{Shape}
-use Rattle.readlaws.specs.Open.{Open, OneAt}
+use Rattle.readlaws.specs.Open.{OneAt}
 use Rattle.readlaws.proofs.ReadLaws.{open-reads, one-ranks}
 use Rattle.seeklaws.proofs.FirstLaws.{rising-below}
 use Rattle.walklaws.specs.declared.Ones.{Ones}

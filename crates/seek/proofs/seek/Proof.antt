@@ -1,8 +1,5 @@
 -- `seek` is the search with one seek more.
-use mathlib.Core.Path.{_≡_}
-use Prim.Native.Nat.{ℕ, _+_}
 use borrow.Author.Needs.{needs}
-use Rattle.walklaws.specs.declared.Cursor.{Cursor}
 use Rattle.walklaws.specs.Cursors.{held, landing, looksFor, movedTo}
 use Rattle.seek.proofs.seek.Statement.{statement}
 use Rattle.seek.proofs.seek.Tie as tie
@@ -10,7 +7,6 @@ use Rattle.seek.proofs.seek.Tie as tie
 returns : tie.Need-returns
 unfolding movedTo held landing looksFor
 returns c =
-    let a = c .before .before .before .before .args in
     let f = c .before .find .ensures in
     rw (f .0, f .1)
 
