@@ -35,19 +35,19 @@ words-map s g f (t ∷ args) i h =
     let e : i + 1 + j ≡ i + suc j = omega arith in
     ap f e ∙ h (suc j) (omega arith)))
 
-module _ (s sh xs : List ℕ) (p i : ℕ) (t : List ℕ) (at : TermAt s sh xs p i t) where
+module _ (s sh ws : List ℕ) (p i : ℕ) (t : List ℕ) (at : TermAt s sh ws p i t) where
   on-page : PageIn t (at .rank)
   on-page = page-in t (at .accepts) (at .rank) (at .ranked)
 
   -- the positions of word i on the page are the term's
-  pub page-positions : pageAt s sh xs i ≡ positionsOn p (readWord t)
+  pub page-positions : pageAt s sh ws i ≡ positionsOn p (readWord t)
   unfolding pageAt
   page-positions =
       rw (at .part-is, at .base-is, at .end-is)
       (sym (on-page .positions-are) ∙ ap (λ (q : ℕ). positionsOn q (readWord t)) (at .page-is))
 
   -- its span lies among its elements
-  pub page-bounds : (endIn xs i ≤ length (elementsAt s sh i)) × (baseIn xs i ≤ listU (partAt s sh i))
+  pub page-bounds : (endIn ws i ≤ length (elementsAt s sh i)) × (baseIn ws i ≤ listU (partAt s sh i))
   page-bounds = (
     rw (at .part-is, at .end-is) (on-page .within),
     rw (at .part-is, at .base-is)

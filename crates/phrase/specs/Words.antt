@@ -1,21 +1,24 @@
 -- The words of a phrase on one page: their lists, where reading of them stands, and their spans there.
 --
 --   elementsAt s sh i   the elements of list number i, which the numbers sh place in the card s
---   walkIn ws i         where reading of list i stands: its numbers from 3 i on in ws
---   withWalk ws i w     ws with those numbers as w has them
+--   walkAt ws j         where reading of a list stands: three numbers of ws from number j on
+--   withWalk ws j w     ws with those numbers as w has them
+--   countWalk ws i      where reading of word i's counts stands, by the first of its eight numbers
+--   positionWalk ws i   where reading of its positions stands, by the next three
 --   ranksOf cs r        the numbers of the positions on page number r, where cs are the counts' elements
---   baseIn xs i         the base of word i on the page, number 2 i of xs; position = element - base
---   endIn xs i          its end there, number 2 i + 1 of xs: the elements up to the page's last
---   withSpan xs i b e   xs with b and e as base and end of word i
---   pageAt s sh xs i    the positions of word i on the page
+--   baseIn ws i         the base of word i on the page, number 6 of its eight; position = element - base
+--   endIn ws i          its end there, number 7: the elements up to the page's last
+--   pageAt s sh ws i    the positions of word i on the page
 --   BlockAt s sh i      list i is an accepted block, and its numbers are its own
---   Readable s sh ws i  so it is, and reading of it stands where ws says
---   Walked s sh ws i n after  n elements of list i are passed, and reading of the others stands where it did
---   Ready s sh xs ws i b    no element of word i at least b is passed but for the last, and none behind the page
---   PassedOn s sh xs ws i b r after  what passing word i's elements up to b leaves; r: whether the page has one from b on
---   Sought s sh xs ws i a r after  what seeking a start for word i leaves: r is the first from a on at which the page has it, or
+--   Kept ws from to after  the numbers of ws before `from` and from `to` on are as they were
+--   Readable s sh ws i j  list i is a block, and reading of it stands where the numbers of ws from j on say
+--   Walked s sh ws i j n after  n elements of list i are passed, and the other numbers are as they were
+--   TurnedOn s sh ws i x after  word i stands before the positions of the ranks x, and has their span
+--   Ready s sh ws i b   no element of word i at least b is passed but for the last, and none behind the page
+--   PassedOn s sh ws i b r after  what passing word i's elements up to b leaves; r: whether the page has one from b on
+--   Sought s sh ws i a r after  what seeking a start for word i leaves: r is the first from a on at which the page has it, or
 --                       2 ^ 32 where there is none
---   TermAt s sh xs p i t    list i has the positions of the accepted term t, which has page p, and span i is that page's
+--   TermAt s sh ws p i t  list i has the positions of the accepted term t, which has page p, and span i is that page's
 use mathlib.Core.Bool.{Bool, true, false}
 use mathlib.Core.Path.{_≡_}
 use mathlib.Core.List.{List}
@@ -39,26 +42,29 @@ use Rattle.phrase.specs.declared.Ranks.{Ranks}
 abbrev pub elementsAt : List ℕ → List ℕ → ℕ → List ℕ
 elementsAt s sh i = decode (partAt s sh i)
 
-abbrev pub walkIn : List ℕ → ℕ → Walk
-walkIn ws i = record { next = getD ws (3 * i) 0; past = getD ws (3 * i + 1) 0; place = getD ws (3 * i + 2) 0 }
+abbrev pub walkAt : List ℕ → ℕ → Walk
+walkAt ws j = record { next = getD ws j 0; past = getD ws (j + 1) 0; place = getD ws (j + 2) 0 }
 
 abbrev pub withWalk : List ℕ → ℕ → Walk → List ℕ
-withWalk ws i w = set (set (set ws (3 * i) (w .next)) (3 * i + 1) (w .past)) (3 * i + 2) (w .place)
+withWalk ws j w = set (set (set ws j (w .next)) (j + 1) (w .past)) (j + 2) (w .place)
+
+abbrev pub countWalk : List ℕ → ℕ → Walk
+countWalk ws i = walkAt ws (8 * i)
+
+abbrev pub positionWalk : List ℕ → ℕ → Walk
+positionWalk ws i = walkAt ws (8 * i + 3)
 
 abbrev pub ranksOf : List ℕ → ℕ → Ranks
 ranksOf cs r = record { from = past cs r; to = past cs (r + 1) }
 
 abbrev pub baseIn : List ℕ → ℕ → ℕ
-baseIn xs i = getD xs (2 * i) 0
+baseIn ws i = getD ws (8 * i + 6) 0
 
 abbrev pub endIn : List ℕ → ℕ → ℕ
-endIn xs i = getD xs (2 * i + 1) 0
-
-abbrev pub withSpan : List ℕ → ℕ → ℕ → ℕ → List ℕ
-withSpan xs i b e = set (set xs (2 * i) b) (2 * i + 1) e
+endIn ws i = getD ws (8 * i + 7) 0
 
 unfoldable pub pageAt : List ℕ → List ℕ → List ℕ → ℕ → List ℕ
-pageAt s sh xs i = onPage (elementsAt s sh i) (baseIn xs i) (endIn xs i)
+pageAt s sh ws i = onPage (elementsAt s sh i) (baseIn ws i) (endIn ws i)
 
 -- ---- one word
 
@@ -69,39 +75,50 @@ pub record BlockAt (s sh : List ℕ) (i : ℕ) : Type 0 where
   pub ends : numberOf sh i 1 ≤ length s
   pub opened : Open (partAt s sh i) (shapeIn sh i)
 
-pub record Readable (s sh ws : List ℕ) (i : ℕ) : Type 0 where
+pub record Kept (ws : List ℕ) (from to : ℕ) (after : List ℕ) : Type 0 where
+  pub before : (m : ℕ) → m < from → getD after m 0 ≡ getD ws m 0
+  pub behind : (m : ℕ) → to ≤ m → getD after m 0 ≡ getD ws m 0
+
+pub record Readable (s sh ws : List ℕ) (i j : ℕ) : Type 0 where
   pub block : BlockAt s sh i
-  pub room : length ws ≡ 24
-  pub on : WalkOn (partAt s sh i) (shapeIn sh i) (walkIn ws i)
+  pub room : length ws ≡ 64
+  pub on : WalkOn (partAt s sh i) (shapeIn sh i) (walkAt ws j)
 
-pub record Walked (s sh ws : List ℕ) (i n : ℕ) (after : List ℕ) : Type 0 where
-  pub readable : Readable s sh after i
-  pub at : walkIn after i .next ≡ n
-  pub others : (j : ℕ) → (j ≡ i → ⊥) → walkIn after j ≡ walkIn ws j
+pub record Walked (s sh ws : List ℕ) (i j n : ℕ) (after : List ℕ) : Type 0 where
+  pub readable : Readable s sh after i j
+  pub at : walkAt after j .next ≡ n
+  pub kept : Kept ws j (j + 3) after
 
-pub record Ready (s sh xs ws : List ℕ) (i b : ℕ) : Type 0 where
-  pub room : length ws ≡ 24
-  pub short : endIn xs i ≤ numberOf sh i 7
-  pub passing : Passing (partAt s sh i) (shapeIn sh i) (endIn xs i) b (walkIn ws i)
+pub record TurnedOn (s sh ws : List ℕ) (i : ℕ) (x : Ranks) (after : List ℕ) : Type 0 where
+  pub readable : Readable s sh after i (8 * i + 3)
+  pub at : positionWalk after i .next ≡ x .from
+  pub base-is : baseIn after i ≡ past (elementsAt s sh i) (x .from)
+  pub end-is : endIn after i ≡ x .to
+  pub kept : Kept ws (8 * i + 3) (8 * i + 8) after
 
-pub record PassedOn (s sh xs ws : List ℕ) (i b : ℕ) (r : Bool) (after : List ℕ) : Type 0 where
-  pub ready : Ready s sh xs after i b
-  pub found : r ≡ ltb b (walkIn after i .past)
-  pub all : walkIn after i .past ≤ b → walkIn after i .next ≡ endIn xs i
-  pub others : (j : ℕ) → (j ≡ i → ⊥) → walkIn after j ≡ walkIn ws j
+pub record Ready (s sh ws : List ℕ) (i b : ℕ) : Type 0 where
+  pub room : length ws ≡ 64
+  pub short : endIn ws i ≤ numberOf sh i 7
+  pub passing : Passing (partAt s sh i) (shapeIn sh i) (endIn ws i) b (positionWalk ws i)
 
-pub record Sought (s sh xs ws : List ℕ) (i a r : ℕ) (after : List ℕ) : Type 0 where
-  pub ready : Ready s sh xs after i (baseIn xs i + a + i)
-  pub others : (j : ℕ) → (j ≡ i → ⊥) → walkIn after j ≡ walkIn ws j
-  pub none : r ≡ 2 ^ 32 → (d : ℕ) → a ≤ d → member (d + i) (pageAt s sh xs i) ≡ false
-  pub found : (r ≡ 2 ^ 32 → ⊥) → (a ≤ r) × (r < limit) × (member (r + i) (pageAt s sh xs i) ≡ true)
-  pub first : (r ≡ 2 ^ 32 → ⊥) → (d : ℕ) → a ≤ d → d < r → member (d + i) (pageAt s sh xs i) ≡ false
+pub record PassedOn (s sh ws : List ℕ) (i b : ℕ) (r : Bool) (after : List ℕ) : Type 0 where
+  pub ready : Ready s sh after i b
+  pub found : r ≡ ltb b (positionWalk after i .past)
+  pub all : positionWalk after i .past ≤ b → positionWalk after i .next ≡ endIn after i
+  pub kept : Kept ws (8 * i + 3) (8 * i + 6) after
 
-pub record TermAt (s sh xs : List ℕ) (p i : ℕ) (t : List ℕ) : Type 0 where
+pub record Sought (s sh ws : List ℕ) (i a r : ℕ) (after : List ℕ) : Type 0 where
+  pub ready : Ready s sh after i (baseIn after i + a + i)
+  pub kept : Kept ws (8 * i + 3) (8 * i + 6) after
+  pub none : r ≡ 2 ^ 32 → (d : ℕ) → a ≤ d → member (d + i) (pageAt s sh after i) ≡ false
+  pub found : (r ≡ 2 ^ 32 → ⊥) → (a ≤ r) × (r < limit) × (member (r + i) (pageAt s sh after i) ≡ true)
+  pub first : (r ≡ 2 ^ 32 → ⊥) → (d : ℕ) → a ≤ d → d < r → member (d + i) (pageAt s sh after i) ≡ false
+
+pub record TermAt (s sh ws : List ℕ) (p i : ℕ) (t : List ℕ) : Type 0 where
   pub accepts : termRefusal t ≡ Accepted
   pub rank : ℕ
   pub ranked : rank < length (decode (pagesOf t))
   pub page-is : getD (decode (pagesOf t)) rank 0 ≡ p
   pub part-is : partAt s sh i ≡ positionsOf t
-  pub base-is : baseIn xs i ≡ past (decode (positionsOf t)) (positionsBefore t rank)
-  pub end-is : endIn xs i ≡ positionsBefore t (rank + 1)
+  pub base-is : baseIn ws i ≡ past (decode (positionsOf t)) (positionsBefore t rank)
+  pub end-is : endIn ws i ≡ positionsBefore t (rank + 1)

@@ -1,36 +1,45 @@
-// A word of a phrase on one page: its positions there, gone through from start to start and never back.
+// A word of a phrase on one page: its positions there, gone through from start to start and never back. Reading of the
+// words is kept in a row of eight numbers for each.
 
 ghost use mathlib.Core.Path.{_≡_};
 ghost use Prim.Native.Nat.{_+_, _*_, _^_, _≤_, _<_};
 ghost use lib.ListN.{length};
 ghost use Rattle.querylaws.specs.Lists.{numberOf, partAt};
 ghost use Rattle.span.specs.Walks.{past};
-ghost use Rattle.phrase.specs.Words.{elementsAt, walkIn, withWalk, ranksOf, baseIn, withSpan, BlockAt, Readable};
-ghost use Rattle.phrase.specs.Words.{Walked, Ready, PassedOn, Sought};
+ghost use Rattle.phrase.specs.Words.{elementsAt, walkAt, withWalk, positionWalk, ranksOf, baseIn, BlockAt};
+ghost use Rattle.phrase.specs.Words.{Readable, Walked, TurnedOn, Ready, PassedOn, Sought};
 use span::Walk;
 
 // ---- a word's list
 
-// Where reading of list i stands, by its three numbers.
-fn walk_in(walks: &[usize], i: usize) -> Walk
-    requires { ⌜ (length (now walks) ≡ 24) × (i < 8) ⌝ }
-    ensures { λ r. ⌜ r ≡ walkIn (now (walks .entry)) i ⌝ }
+// Of the eight numbers of a word, the first three say where reading of its counts stands, three where that of its
+// positions does, and two are the base and the end of its positions on the page.
+const POSITIONS: usize = 3;
+
+const BASE: usize = 6;
+
+const END: usize = 7;
+
+// Where reading of a list stands, by three numbers.
+fn walk_at(words: &[usize], at: usize) -> Walk
+    requires { ⌜ (length (now words) ≡ 64) × (at < 62) ⌝ }
+    ensures { λ r. ⌜ r ≡ walkAt (now (words .entry)) at ⌝ }
 {
     Walk {
-        next: walks[3 * i],
-        past: walks[3 * i + 1],
-        place: walks[3 * i + 2],
+        next: words[at],
+        past: words[at + 1],
+        place: words[at + 2],
     }
 }
 
 // Puts them.
-fn put_walk(walks: &mut [usize], i: usize, w: Walk)
-    requires { ⌜ (length (now walks) ≡ 24) × (i < 8) ⌝ }
-    ensures { λ _. ⌜ now (walks .exit) ≡ withWalk (now (walks .entry)) i w ⌝ }
+fn put_walk(words: &mut [usize], at: usize, w: Walk)
+    requires { ⌜ (length (now words) ≡ 64) × (at < 62) ⌝ }
+    ensures { λ _. ⌜ now (words .exit) ≡ withWalk (now (words .entry)) at w ⌝ }
 {
-    walks[3 * i] = w.next;
-    walks[3 * i + 1] = w.past;
-    walks[3 * i + 2] = w.place;
+    words[at] = w.next;
+    words[at + 1] = w.past;
+    words[at + 2] = w.place;
 }
 
 // The bytes of list i.
@@ -52,17 +61,18 @@ pub struct Ranks {
 }
 
 // Those of word i's page number `rank`, by the counts before it and with it.
-pub fn ranks_at(card: &[u8], counts: &[u32], i: usize, rank: usize, walks: &mut [usize]) -> Ranks
-    requires { ⌜ Readable (now card) (now counts) (now walks) i × (walkIn (now walks) i .next ≤ rank)
+pub fn ranks_at(card: &[u8], counts: &[u32], i: usize, rank: usize, words: &mut [usize]) -> Ranks
+    requires { ⌜ Readable (now card) (now counts) (now words) i (8 * i) × (walkAt (now words) (8 * i) .next ≤ rank)
         × (rank < numberOf (now counts) i 7) ⌝ }
     ensures { λ r. ⌜ (r ≡ ranksOf (elementsAt (now (card .entry)) (now (counts .entry)) i) rank)
-        × Walked (now (card .entry)) (now (counts .entry)) (now (walks .entry)) i (rank + 1) (now (walks .exit)) ⌝ }
+        × Walked (now (card .entry)) (now (counts .entry)) (now (words .entry)) i (8 * i) (rank + 1)
+        (now (words .exit)) ⌝ }
 {
     let block = part_at(card, counts, i);
     let g = inhand::shape_in(counts, i);
-    let w = span::pass_to(block, g, walk_in(walks, i), rank);
+    let w = span::pass_to(block, g, walk_at(words, 8 * i), rank);
     let v = span::pass_one(block, g, w);
-    put_walk(walks, i, v);
+    put_walk(words, 8 * i, v);
     Ranks {
         from: w.past,
         to: v.past,
@@ -70,50 +80,33 @@ pub fn ranks_at(card: &[u8], counts: &[u32], i: usize, rank: usize, walks: &mut 
 }
 
 // Turns word i to the page of those positions: puts its span, and stands before them.
-pub fn turn_to(
-    card: &[u8],
-    shapes: &[u32],
-    i: usize,
-    x: Ranks,
-    spans: &mut [usize],
-    walks: &mut [usize],
-)
-    requires { ⌜ Readable (now card) (now shapes) (now walks) i × (walkIn (now walks) i .next ≤ x .from)
-        × (x .from ≤ numberOf (now shapes) i 7) × (length (now spans) ≡ 16) ⌝ }
-    ensures { λ _. ⌜ (now (spans .exit)
-        ≡ withSpan (now (spans .entry)) i (past (elementsAt (now (card .entry)) (now (shapes .entry)) i) (x .from))
-        (x .to)) × Walked (now (card .entry)) (now (shapes .entry)) (now (walks .entry)) i (x .from)
-        (now (walks .exit)) ⌝ }
+pub fn turn_to(card: &[u8], shapes: &[u32], i: usize, x: Ranks, words: &mut [usize])
+    requires { ⌜ Readable (now card) (now shapes) (now words) i (8 * i + 3)
+        × (positionWalk (now words) i .next ≤ x .from) × (x .from ≤ numberOf (now shapes) i 7) ⌝ }
+    ensures { λ _. ⌜ TurnedOn (now (card .entry)) (now (shapes .entry)) (now (words .entry)) i x
+        (now (words .exit)) ⌝ }
 {
-    let w = walk_in(walks, i);
+    let w = walk_at(words, 8 * i + POSITIONS);
     let v = span::pass_to(
         part_at(card, shapes, i),
         inhand::shape_in(shapes, i),
         w,
         x.from,
     );
-    put_walk(walks, i, v);
-    spans[2 * i] = v.past;
-    spans[2 * i + 1] = x.to;
+    put_walk(words, 8 * i + POSITIONS, v);
+    words[8 * i + BASE] = v.past;
+    words[8 * i + END] = x.to;
 }
 
 // ---- the starts
 
 // Passes word i's elements up to the first at least b; whether the page has one.
-fn pass_on(
-    card: &[u8],
-    shapes: &[u32],
-    spans: &[usize],
-    i: usize,
-    b: usize,
-    walks: &mut [usize],
-) -> bool
-    requires { ⌜ BlockAt (now card) (now shapes) i × (length (now spans) ≡ 16)
-        × Ready (now card) (now shapes) (now spans) (now walks) i b ⌝ }
-    ensures { λ r. ⌜ PassedOn (now (card .entry)) (now (shapes .entry)) (now (spans .entry)) (now (walks .entry)) i
-        b r (now (walks .exit)) ⌝ }
+fn pass_on(card: &[u8], shapes: &[u32], i: usize, b: usize, words: &mut [usize]) -> bool
+    requires { ⌜ BlockAt (now card) (now shapes) i × Ready (now card) (now shapes) (now words) i b ⌝ }
+    ensures { λ r. ⌜ PassedOn (now (card .entry)) (now (shapes .entry)) (now (words .entry)) i b r
+        (now (words .exit)) ⌝ }
 {
-    let w = walk_in(walks, i);
+    let w = walk_at(words, 8 * i + POSITIONS);
     if b < w.past {
         return true;
     }
@@ -121,10 +114,10 @@ fn pass_on(
         part_at(card, shapes, i),
         inhand::shape_in(shapes, i),
         w,
-        spans[2 * i + 1],
+        words[8 * i + END],
         b,
     );
-    put_walk(walks, i, v);
+    put_walk(words, 8 * i + POSITIONS, v);
     b < v.past
 }
 
@@ -132,22 +125,15 @@ fn pass_on(
 pub const NONE: usize = 4294967296;
 
 // The first start at or above a at which word i stands on the page, or NONE.
-pub fn seek_start(
-    card: &[u8],
-    shapes: &[u32],
-    spans: &[usize],
-    i: usize,
-    a: usize,
-    walks: &mut [usize],
-) -> usize
-    requires { ⌜ BlockAt (now card) (now shapes) i × (length (now spans) ≡ 16) × (baseIn (now spans) i < 2 ^ 32)
-        × (a < 2 ^ 32) × Ready (now card) (now shapes) (now spans) (now walks) i (baseIn (now spans) i + a + i) ⌝ }
-    ensures { λ r. ⌜ Sought (now (card .entry)) (now (shapes .entry)) (now (spans .entry)) (now (walks .entry)) i a r
-        (now (walks .exit)) ⌝ }
+pub fn seek_start(card: &[u8], shapes: &[u32], i: usize, a: usize, words: &mut [usize]) -> usize
+    requires { ⌜ BlockAt (now card) (now shapes) i × (baseIn (now words) i < 2 ^ 32) × (a < 2 ^ 32)
+        × Ready (now card) (now shapes) (now words) i (baseIn (now words) i + a + i) ⌝ }
+    ensures { λ r. ⌜ Sought (now (card .entry)) (now (shapes .entry)) (now (words .entry)) i a r
+        (now (words .exit)) ⌝ }
 {
-    let b = spans[2 * i] + a + i;
-    if !pass_on(card, shapes, spans, i, b, walks) {
+    let base = words[8 * i + BASE];
+    if !pass_on(card, shapes, i, base + a + i, words) {
         return NONE;
     }
-    walks[3 * i + 1] - 1 - spans[2 * i] - i
+    words[8 * i + POSITIONS + 1] - 1 - base - i
 }

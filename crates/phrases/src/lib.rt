@@ -10,46 +10,36 @@ ghost use Rattle.rules.specs.Index.{indexT, indexRefusal};
 ghost use Rattle.rules.specs.Questions.{wordsIn, byPhrase};
 ghost use Rattle.questions.specs.Formed.{wordsGood};
 ghost use Rattle.questions.specs.Wrote.{Wrote};
-ghost use Rattle.triallaws.specs.Asked.{foundIn, Asked};
+ghost use Rattle.triallaws.specs.Asked.{foundIn, AskedIn};
+use querylaws::LENGTH;
+use triallaws::COUNTS;
+use triallaws::LEAD;
+use triallaws::POSITIONS;
 
 // Whether the answer fits so many numbers; it is counted only where two numbers for each page of the lead may not fit.
-fn fits(
-    card: &[u8],
-    terms: &[u32],
-    lead: usize,
-    pages: &[u32],
-    counts: &[u32],
-    positions: &[u32],
-    size: usize,
-) -> bool
-    requires { ⌜ Asked (now card) (now terms) lead (now pages) (now counts) (now positions) ⌝ }
+fn fits(card: &[u8], terms: &[u32], lists: &[u32], size: usize) -> bool
+    requires { ⌜ AskedIn (now card) (now terms) (now lists) ⌝ }
     ensures { λ r. ⌜ r ≡ ltb (length (foundIn (now (card .entry)) (now (terms .entry)))) size ⌝ }
 {
-    if 2 * inhand::number(pages, 0, querylaws::LENGTH) < size {
+    if 2 * inhand::number(&lists[0..COUNTS], 0, LENGTH) < size {
         return true;
     }
     let mut none = [0u32; 1];
-    pairs::list_starts(card, terms, lead, pages, counts, positions, &mut none) < size
+    pairs::list_starts(card, terms, lists, &mut none) < size
 }
 
-// Finds the words' terms on one way, and opens their lists; returns the number of the word whose pages lead.
-fn open_phrase(
-    card: &[u8],
-    terms: &[u32],
-    pages: &mut [u32],
-    counts: &mut [u32],
-    positions: &mut [u32],
-) -> usize
+// Finds the words' terms on one way, and opens their lists into the row.
+fn open_phrase(card: &[u8], terms: &[u32], lists: &mut [u32])
     requires { ⌜ (indexRefusal (now card) ≡ Accepted) × (wordsGood (indexT (now card)) (now terms) ≡ true)
-        × (length (now pages) ≡ 64) × (length (now counts) ≡ 64) × (length (now positions) ≡ 64) ⌝ }
-    ensures { λ r. ⌜ Asked (now (card .entry)) (now (terms .entry)) r (now (pages .exit)) (now (counts .exit))
-        (now (positions .exit)) ⌝ }
+        × (length (now lists) ≡ 193) ⌝ }
+    ensures { λ _. ⌜ AskedIn (now (card .entry)) (now (terms .entry)) (now (lists .exit)) ⌝ }
 {
     let mut starts = [0usize; 8];
     findterms::find_terms(card, terms, &mut starts);
-    openwords::open_words(card, terms, &starts, 1, counts);
-    openwords::open_words(card, terms, &starts, 2, positions);
-    wordlists::open_found(card, terms, &starts, pages)
+    let lead = wordlists::open_found(card, terms, &starts, &mut lists[0..COUNTS]);
+    openwords::open_words(card, terms, &starts, 1, &mut lists[COUNTS..POSITIONS]);
+    openwords::open_words(card, terms, &starts, 2, &mut lists[POSITIONS..LEAD]);
+    lists[LEAD] = lead as u32;
 }
 
 // Kind 4: the pages with a start of the phrase, each with the number of its starts.
@@ -58,14 +48,12 @@ pub fn by_phrase(card: &[u8], terms: &[u32], room: &mut [u32]) -> usize
     ensures { λ r. ⌜ Wrote (byPhrase (wordsIn (now (card .entry)) (now (terms .entry)))) (now (room .entry)) r
         (now (room .exit)) ⌝ }
 {
-    let mut pages = [0u32; 64];
-    let mut counts = [0u32; 64];
-    let mut positions = [0u32; 64];
-    let lead = open_phrase(card, terms, &mut pages, &mut counts, &mut positions);
-    if !fits(card, terms, lead, &pages, &counts, &positions, room.len()) {
+    let mut lists = [0u32; 193];
+    open_phrase(card, terms, &mut lists);
+    if !fits(card, terms, &lists, room.len()) {
         return 0;
     }
-    let found = pairs::list_starts(card, terms, lead, &pages, &counts, &positions, room);
+    let found = pairs::list_starts(card, terms, &lists, room);
     room[0] = found as u32;
     found + 1
 }

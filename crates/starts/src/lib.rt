@@ -2,28 +2,18 @@
 
 ghost use Prim.Native.Nat.{_-_};
 ghost use Rattle.triallaws.specs.Asked.{Turnable, CountedOn};
-use querylaws::Query;
+use querylaws::Turn;
 use trial::Trial;
+use triallaws::COUNTS;
+use triallaws::LEAD;
+use triallaws::POSITIONS;
 
 // The starts of several words on a page that all cursors are on: the words are turned to it only as they are needed.
-fn count_starts(
-    card: &[u8],
-    terms: &[u32],
-    lead: usize,
-    pages: &[u32],
-    counts: &[u32],
-    positions: &[u32],
-    q: Query,
-    page: usize,
-    counted: &mut [usize],
-    walked: &mut [usize],
-) -> usize
-    requires { ⌜ Turnable (now card) (now terms) lead (now pages) (now counts) (now positions) q page (now counted)
-        (now walked) ⌝ }
-    ensures { λ r. ⌜ CountedOn (now (card .entry)) (now (terms .entry)) (now (counts .entry)) (now (positions .entry))
-        page r (now (counted .exit)) (now (walked .exit)) ⌝ }
+fn count_starts(card: &[u8], terms: &[u32], lists: &[u32], turn: Turn, words: &mut [usize]) -> usize
+    requires { ⌜ Turnable (now card) (now terms) (now lists) turn (now words) ⌝ }
+    ensures { λ r. ⌜ CountedOn (now (card .entry)) (now (terms .entry)) (now (lists .entry)) (turn .mark - 1) r
+        (now (words .exit)) ⌝ }
 {
-    let mut spans = [0usize; 16];
     let mut at = Trial {
         turned: 0,
         start: 0,
@@ -31,22 +21,9 @@ fn count_starts(
         count: 0,
     };
     loop {
-        let turned = trying::turn_next(
-            card,
-            terms,
-            lead,
-            pages,
-            counts,
-            positions,
-            q,
-            page,
-            at,
-            counted,
-            walked,
-            &mut spans,
-        );
-        let i = openlists::source_of(lead, turned.standing);
-        let next = phrase::seek_start(card, positions, &spans, i, turned.start, walked);
+        let turned = trying::turn_next(card, terms, lists, turn, at, words);
+        let i = openlists::source_of(lists[LEAD] as usize, turned.standing);
+        let next = phrase::seek_start(card, &lists[POSITIONS..LEAD], i, turned.start, words);
         if next == phrase::NONE {
             return turned.count;
         }
@@ -58,35 +35,18 @@ fn count_starts(
 pub fn page_starts(
     card: &[u8],
     terms: &[u32],
-    lead: usize,
-    pages: &[u32],
-    counts: &[u32],
-    positions: &[u32],
-    q: Query,
-    page: usize,
-    counted: &mut [usize],
-    walked: &mut [usize],
+    lists: &[u32],
+    turn: Turn,
+    words: &mut [usize],
 ) -> usize
-    requires { ⌜ Turnable (now card) (now terms) lead (now pages) (now counts) (now positions) q page (now counted)
-        (now walked) ⌝ }
-    ensures { λ r. ⌜ CountedOn (now (card .entry)) (now (terms .entry)) (now (counts .entry)) (now (positions .entry))
-        page r (now (counted .exit)) (now (walked .exit)) ⌝ }
+    requires { ⌜ Turnable (now card) (now terms) (now lists) turn (now words) ⌝ }
+    ensures { λ r. ⌜ CountedOn (now (card .entry)) (now (terms .entry)) (now (lists .entry)) (turn .mark - 1) r
+        (now (words .exit)) ⌝ }
 {
     if terms.len() == 1 {
-        let rank = kinds::rank_in(pages, q, 0);
-        let x = phrase::ranks_at(card, counts, 0, rank, counted);
+        let rank = kinds::rank_in(&lists[0..COUNTS], turn.q, 0);
+        let x = phrase::ranks_at(card, &lists[COUNTS..POSITIONS], 0, rank, words);
         return x.to - x.from;
     }
-    count_starts(
-        card,
-        terms,
-        lead,
-        pages,
-        counts,
-        positions,
-        q,
-        page,
-        counted,
-        walked,
-    )
+    count_starts(card, terms, lists, turn, words)
 }

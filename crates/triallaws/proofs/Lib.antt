@@ -3,3 +3,4 @@ pub mod PageLaws
 pub mod TrialLaws
 pub mod PairLaws
 pub mod AnswerLaws
+pub mod RowLaws

@@ -24,12 +24,13 @@ use Rattle.span.specs.Walks.{past}
 use Rattle.span.proofs.WalkLaws.{walk-new}
 use Rattle.span.proofs.SpanLaws.{page-in}
 use Rattle.phrase.specs.declared.Ranks.{Ranks}
-use Rattle.phrase.specs.Words.{elementsAt, walkIn, ranksOf, Walked}
+use Rattle.phrase.specs.Words.{elementsAt, walkAt, countWalk, positionWalk, ranksOf, Walked}
+use Rattle.phrase.proofs.WordLaws.{counts-rest}
 use Rattle.phrase.proofs.Theorems.{lone-starts}
 use Rattle.openlists.specs.Places.{slotOf}
 use Rattle.kinds.specs.Ranks.{rankBy}
 use Rattle.kinds.proofs.RankLaws.{all-on}
-use Rattle.triallaws.specs.Asked.{termAt, newWalks, Asked, OnAll, Ahead}
+use Rattle.triallaws.specs.Asked.{termAt, newWords, Asked, OnAll, Ahead}
 use Rattle.triallaws.proofs.RankLaws.{is-ranked, page-there, from-is, to-is, positions-small}
 
 -- ---- the cursors after a turn
@@ -62,33 +63,33 @@ turned-on s ts pg q b a t u h =
 -- ---- from page to page
 
 -- no element of any list is passed
-new-walk : (i : ℕ) → i < 8 → _≡_ {A = Walk} (walkIn newWalks i) (record { next = 0; past = 0; place = 0 })
-new-walk i h =
-    let x : getD newWalks (3 * i) 0 ≡ 0 = getD-replicate 24 (3 * i) 0 0 (omega arith) in
-    let y : getD newWalks (3 * i + 1) 0 ≡ 0 = getD-replicate 24 (3 * i + 1) 0 0 (omega arith) in
-    let z : getD newWalks (3 * i + 2) 0 ≡ 0 = getD-replicate 24 (3 * i + 2) 0 0 (omega arith) in
+new-walk : (j : ℕ) → j < 62 → _≡_ {A = Walk} (walkAt newWords j) (record { next = 0; past = 0; place = 0 })
+new-walk j h =
+    let x : getD newWords j 0 ≡ 0 = getD-replicate 64 j 0 0 (omega arith) in
+    let y : getD newWords (j + 1) 0 ≡ 0 = getD-replicate 64 (j + 1) 0 0 (omega arith) in
+    let z : getD newWords (j + 2) 0 ≡ 0 = getD-replicate 64 (j + 2) 0 0 (omega arith) in
     rw (x, y, z)
 
-pub ahead-new : (s ts : List ℕ) (lead : ℕ) (pg ct ps : List ℕ) → Asked s ts lead pg ct ps
-    → Ahead s ts ct ps newWalks newWalks 0
+pub ahead-new : (s ts : List ℕ) (lead : ℕ) (pg ct ps : List ℕ) → Asked s ts lead pg ct ps → Ahead s ts ct ps newWords 0
 ahead-new s ts lead pg ct ps a = record {
-  counted-room = length-replicate {A = ℕ} 24 0;
-  walked-room = length-replicate {A = ℕ} 24 0;
+  room = length-replicate {A = ℕ} 64 0;
   each = λ i h.
-      let z = new-walk i (omega (arith, a .pages .lists .few)) in
-      let n : walkIn newWalks i .next ≡ 0 = ap (λ (v : Walk). v .next) z in
+      let few = a .pages .lists .few in
+      let x = new-walk (8 * i) (omega (arith, few)) in
+      let y = new-walk (8 * i + 3) (omega (arith, few)) in
+      let m : countWalk newWords i .next ≡ 0 = ap (λ (v : Walk). v .next) x in
+      let n : positionWalk newWords i .next ≡ 0 = ap (λ (v : Walk). v .next) y in
       record {
-        counted = rw z (walk-new (partAt s ct i) (shapeIn ct i) (a .counts .slot i h .block .opened));
-        walked = rw z (walk-new (partAt s ps i) (shapeIn ps i) (a .positions .slot i h .block .opened));
-        ahead = λ r l b. (omega (arith, n), omega (arith, n));
+        counted = rw x (walk-new (partAt s ct i) (shapeIn ct i) (a .counts .slot i h .block .opened));
+        walked = rw y (walk-new (partAt s ps i) (shapeIn ps i) (a .positions .slot i h .block .opened));
+        ahead = λ r l b. (omega (arith, m), omega (arith, n));
       };
 }
 
 -- what has the pages from b on ahead has those from d on
-pub ahead-more : (s ts ct ps cw pw : List ℕ) (b d : ℕ) → b ≤ d → Ahead s ts ct ps cw pw b → Ahead s ts ct ps cw pw d
-ahead-more s ts ct ps cw pw b d l f = record {
-  counted-room = f .counted-room;
-  walked-room = f .walked-room;
+pub ahead-more : (s ts ct ps ws : List ℕ) (b d : ℕ) → b ≤ d → Ahead s ts ct ps ws b → Ahead s ts ct ps ws d
+ahead-more s ts ct ps ws b d l f = record {
+  room = f .room;
   each = λ i h. record {
     counted = f .each i h .counted;
     walked = f .each i h .walked;
@@ -115,12 +116,12 @@ rank-later t a r q p h e l =
 module _ (s ts : List ℕ) (lead : ℕ) (pg ct ps : List ℕ) (a : Asked s ts lead pg ct ps) (p : ℕ) where
   -- ---- a word alone
 
-  pub lone-counted : (q : Query) → OnAll s ts pg q p → length ts ≡ 1 → (cw pw : List ℕ) → Ahead s ts ct ps cw pw p
+  pub lone-counted : (q : Query) → OnAll s ts pg q p → length ts ≡ 1 → (ws : List ℕ) → Ahead s ts ct ps ws p
       → (x : Ranks) → x ≡ ranksOf (elementsAt s ct 0) (rankBy pg q (slotOf lead 0)) → (after : List ℕ)
-      → Walked s ct cw 0 (rankBy pg q (slotOf lead 0) + 1) after
+      → Walked s ct ws 0 0 (rankBy pg q (slotOf lead 0) + 1) after
       → (x .from ≤ x .to) × (x .to - x .from ≡ starts (wordsIn s ts) p) × (x .to - x .from < 2 ^ 32)
-      × Ahead s ts ct ps after pw (p + 1)
-  lone-counted q o one cw pw f x is after w =
+      × Ahead s ts ct ps after (p + 1)
+  lone-counted q o one ws f x is after w =
       let h : 0 < length ts = a .pages .lists .some in
       let t : List ℕ = termAt s ts 0 in
       let rank : ℕ = rankBy pg q (slotOf lead 0) in
@@ -134,18 +135,17 @@ module _ (s ts : List ℕ) (lead : ℕ) (pg ct ps : List ℕ) (a : Asked s ts le
         ap₂ (λ (u v : ℕ). u - v) to from ∙ lone-starts s ts p rank one (a .accepts 0 h) r e,
         omega (arith, to, g .within, n),
         record {
-          counted-room = w .readable .room;
-          walked-room = f .walked-room;
+          room = w .readable .room;
           each = λ i l.
               let z : i ≡ 0 = omega arith in
+              let v = counts-rest ws 0 after (w .kept) in
               rw z (record {
                 counted = w .readable .on;
-                walked = f .each 0 h .walked;
+                walked = rw v (f .each 0 h .walked);
                 ahead =
                     λ j m b. (
                       omega (arith, w .at, rank-later t (a .accepts 0 h) rank j p r e b),
-                      f .each 0 h .ahead j
-                          m (omega arith) .1,
+                      omega (arith, f .each 0 h .ahead j m (omega arith) .1, ap (λ (z : Walk). z .next) v),
                     );
               });
         },

@@ -25,7 +25,7 @@ use Rattle.openlists.proofs.FewLaws.{whole-few}
 use Rattle.wordlists.proofs.OpenLaws.{opened-listed}
 use Rattle.questions.proofs.WroteLaws.{laid-snoc, laid-first}
 use Rattle.trial.specs.Tries.{pairOf, Paired}
-use Rattle.triallaws.specs.Asked.{foundIn, newWalks, Asked, Ahead}
+use Rattle.triallaws.specs.Asked.{foundIn, newWords, Asked, Ahead}
 use Rattle.triallaws.proofs.PageLaws.{ahead-new}
 
 -- ---- page by page
@@ -81,17 +81,17 @@ module _ (s ts : List ℕ) (lead : ℕ) (pg ct ps room : List ℕ) (a : Asked s 
   ws = wordsIn s ts
 
   -- the pages of `seen` are gone through: their pairs are found, and laid if all fit
-  pub record Going (q : Query) (cw pw : List ℕ) (b found : ℕ) (now : List ℕ) : Type 0 where
+  pub record Going (q : Query) (words : List ℕ) (b found : ℕ) (now : List ℕ) : Type 0 where
     pub number : ℕ
     pub seen : List ℕ
     pub partway : Partway s pg (length ts) q b number seen
-    pub ahead : Ahead s ts ct ps cw pw b
+    pub ahead : Ahead s ts ct ps words b
     pub found-is : found ≡ length (withStarts ws seen)
     pub same : length now ≡ length room
     pub laid-so : length (foundIn s ts) < length room → now ≡ laid (0 ∷ withStarts ws seen) room
 
   pub going-start : (first : List ℕ) → room ≡ set first 0 0 → 0 < length first
-      → Going newQuery newWalks newWalks 0 0 room
+      → Going newQuery newWords 0 0 room
   unfolding withStarts
   going-start first e h = record {
     number = 0;
@@ -103,7 +103,7 @@ module _ (s ts : List ℕ) (lead : ℕ) (pg ct ps room : List ℕ) (a : Asked s 
     laid-so = λ l. rw e (laid-first first 0 h ∙ sym (laid-zero [] first));
   }
 
-  module _ (q : Query) (cw pw : List ℕ) (b found : ℕ) (now : List ℕ) (g : Going q cw pw b found now) where
+  module _ (q : Query) (words : List ℕ) (b found : ℕ) (now : List ℕ) (g : Going q words b found now) where
     pub going-few : found < 2 ^ 26
     going-few =
         omega (
@@ -125,8 +125,8 @@ module _ (s ts : List ℕ) (lead : ℕ) (pg ct ps room : List ℕ) (a : Asked s 
           ap (withStarts ws) (sym e) ∙ whole-found s ts lead pg ct ps a in
           (g .found-is ∙ ap length f, λ l. g .laid-so l ∙ ap (λ (x : List ℕ). laid (0 ∷ x) room) f)
 
-      module _ (h : t .mark ≡ spentMark → ⊥) (n : ℕ) (cw′ pw′ : List ℕ) (is : n ≡ starts ws (t .mark - 1))
-          (ahead′ : Ahead s ts ct ps cw′ pw′ (t .mark - 1 + 1)) where
+      module _ (h : t .mark ≡ spentMark → ⊥) (n : ℕ) (words′ : List ℕ) (is : n ≡ starts ws (t .mark - 1))
+          (ahead′ : Ahead s ts ct ps words′ (t .mark - 1 + 1)) where
         abbrev next-way : Partway s pg (length ts) (t .q) (t .mark) (g .number + 1) (g .seen ++ (t .mark - 1) ∷ [])
         next-way = partway-step s pg (length ts) q b (g .number) (g .seen) (g .partway) t u h
 
@@ -149,7 +149,7 @@ module _ (s ts : List ℕ) (lead : ℕ) (pg ct ps room : List ℕ) (a : Asked s 
             omega (arith, ap length f, l, ap length more)
 
         pub going-on : (r : ℕ) (now′ : List ℕ) → Paired (withStarts ws (g .seen)) now (t .mark - 1) n r now′
-            → Going (t .q) cw′ pw′ (t .mark) r now′
+            → Going (t .q) words′ (t .mark) r now′
         going-on r now′ p =
             let m = turned-page s pg (length ts) q b (g .partway .running .apt) t u h .2 in
             let e : t .mark - 1 + 1 ≡ t .mark = omega (arith, m) in

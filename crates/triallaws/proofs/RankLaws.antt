@@ -1,7 +1,7 @@
 -- The rank of a page by the cursor that is on it, and a word turned to the page by its rank.
 use mathlib.Core.Path.{_≡_, sym, ap, ap₂, _∙_}
 use mathlib.Core.List.{List}
-use Prim.Native.Nat.{ℕ, _+_, _≤_, _<_}
+use Prim.Native.Nat.{ℕ, _+_, _*_, _≤_, _<_}
 use native.Mathlib.Decide.{ℕ-discrete}
 use native.Mathlib.Omega.{arith}
 use lib.ListN.{length, getD}
@@ -21,9 +21,9 @@ use Rattle.span.specs.Walks.{past}
 use Rattle.span.specs.Spans.{positionsBefore, PageIn}
 use Rattle.span.proofs.SpanLaws.{page-in}
 use Rattle.phrase.specs.declared.Ranks.{Ranks}
-use Rattle.phrase.specs.Words.{elementsAt, walkIn, ranksOf, baseIn, endIn, withSpan, Readable, Walked, TermAt}
-use Rattle.phrase.proofs.WordLaws.{spans-long, span-there, span-here}
-use Rattle.phrase.proofs.StandLaws.{ready-more, ready-begun}
+use Rattle.phrase.specs.Words.{elementsAt, countWalk, positionWalk, ranksOf, baseIn, Readable, Walked, TurnedOn, TermAt}
+use Rattle.phrase.proofs.WordLaws.{SameWord, same-word, same-other, counts-rest, counts-same, term-same}
+use Rattle.phrase.proofs.StandLaws.{ready-same, ready-more, ready-begun}
 use Rattle.phrase.proofs.Theorems.{page-bounds}
 use Rattle.openlists.specs.Places.{sourceOf, slotOf}
 use Rattle.openlists.proofs.SourceLaws.{slot-lt, source-slot}
@@ -39,6 +39,9 @@ use Rattle.triallaws.specs.Asked.{termAt, Asked, OnAll, AheadOf, TurnedT
 module _ (s ts : List ℕ) (lead : ℕ) (pg ct ps : List ℕ) (a : Asked s ts lead pg ct ps) where
   abbrev k : ℕ
   k = length ts
+
+  pub lead-few : lead < 8
+  lead-few = omega (arith, lead-within s ts pg (a .pages) lead (a .leads), a .pages .lists .few)
 
   module _ (i : ℕ) (h : i < k) where
     -- where the pages of word i stand
@@ -120,9 +123,9 @@ module _ (s ts : List ℕ) (lead : ℕ) (pg ct ps : List ℕ) (a : Asked s ts le
         )
 
     -- what is asked where the page's ranks are read
-    pub rank-ready : (cw pw : List ℕ) → length cw ≡ 24 → AheadOf s ts ct ps cw pw p i → Readable s ct cw i
-        × (walkIn cw i .next ≤ rank) × (rank < numberOf ct i 7)
-    rank-ready cw pw r f = (
+    pub rank-ready : (ws : List ℕ) → length ws ≡ 64 → AheadOf s ts ct ps ws p i → Readable s ct ws i (8 * i)
+        × (countWalk ws i .next ≤ rank) × (rank < numberOf ct i 7)
+    rank-ready ws r f = (
       record { block = a .counts .slot i h .block; room = r; on = f .counted },
       f .ahead rank is-ranked (rw page-there (omega arith)) .0,
       rank-counted i h q p o,
@@ -135,126 +138,116 @@ module _ (s ts : List ℕ) (lead : ℕ) (pg ct ps : List ℕ) (a : Asked s ts le
       pub to-is : x .to ≡ positionsBefore t (rank + 1)
       to-is = rw (is, counts-part)
 
-      -- what is asked where the word is turned to them
-      pub turn-ready : (cw pw : List ℕ) → length pw ≡ 24 → AheadOf s ts ct ps cw pw p i → Readable s ps pw i
-          × (walkIn pw i .next ≤ x .from) × (x .from ≤ numberOf ps i 7)
-      unfolding shapeIn
-      turn-ready cw pw r f =
-          let b = a .positions .slot i h .block in
-          let n = open-length (partAt s ps i) (shapeIn ps i) (b .opened) in (
-            record { block = b; room = r; on = f .walked },
-            omega (arith, from-is, f .ahead rank is-ranked (rw page-there (omega arith)) .1),
-            omega (
-              arith,
-              from-is,
-              on-page .some,
-              on-page .within,
-              n,
-              ap (λ (l : List ℕ). length (decode l))
-                  positions-part,
-            ),
-          )
+      module _ (ws mid : List ℕ) (c : Walked s ct ws i (8 * i) (rank + 1) mid) where
+        -- what is asked where the word is turned to them
+        pub turn-ready : AheadOf s ts ct ps ws p i → Readable s ps mid i (8 * i + 3)
+            × (positionWalk mid i .next ≤ x .from) × (x .from ≤ numberOf ps i 7)
+        unfolding shapeIn
+        turn-ready f =
+            let b = a .positions .slot i h .block in
+            let n = open-length (partAt s ps i) (shapeIn ps i) (b .opened) in
+            let e = counts-rest ws i mid (c .kept) in (
+              record { block = b; room = c .readable .room; on = rw e (f .walked) },
+              omega (
+                arith,
+                from-is,
+                ap (λ (z : Walk). z .next) e,
+                f .ahead rank is-ranked (rw page-there (omega arith)) .1,
+              ),
+              omega (
+                arith,
+                from-is,
+                on-page .some,
+                on-page .within,
+                n,
+                ap (λ (l : List ℕ). length (decode l))
+                    positions-part,
+              ),
+            )
 
-      module _ (at : Trial) (cw pw xs cw′ pw′ xs′ : List ℕ) (y : Trying s ts lead ct ps p at cw pw xs)
-          (next : slotOf lead i ≡ at .turned) (c : Walked s ct cw i (rank + 1) cw′) (w : Walked s ps pw i (x .from) pw′)
-          (m : xs′ ≡ withSpan xs i (past (elementsAt s ps i) (x .from)) (x .to)) where
-        few : i < 8
-        few = omega (arith, a .pages .lists .few)
+        module _ (at : Trial) (after : List ℕ) (y : Trying s ts lead ct ps p at ws)
+            (next : slotOf lead i ≡ at .turned) (w : TurnedOn s ps mid i x after) where
+          abbrev term-here : TermAt s ps after p i t
+          term-here = record {
+            accepts = a .accepts i h;
+            rank = rank;
+            ranked = is-ranked;
+            page-is = page-there;
+            part-is = positions-part;
+            base-is = w .base-is ∙ ap₂ past (ap decode positions-part) from-is;
+            end-is = w .end-is ∙ to-is;
+          }
 
-        abbrev term-here : TermAt s ps xs′ p i t
-        term-here =
-            let e = span-here xs i (past (elementsAt s ps i) (x .from)) (x .to) (y .spans-room) few in
-            record {
-              accepts = a .accepts i h;
-              rank = rank;
-              ranked = is-ranked;
-              page-is = page-there;
-              part-is = positions-part;
-              base-is = rw m (e .0 ∙ ap₂ past (ap decode positions-part) from-is);
-              end-is = rw m (e .1 ∙ to-is);
-            }
-
-        turned-here : TurnedTo s ts ct ps p (at .start) cw′ pw′ xs′ i
-        turned-here =
-            let on = w .readable .on in
-            let before : walkIn pw′ i .past ≡ baseIn xs′ i =
-            on .past-is ∙ ap (past (elementsAt s ps i)) (w .at ∙ from-is)
-            ∙ rw positions-part (sym (term-here .base-is)) in
-            record {
-              term = term-here;
-              counted = record { on = c .readable .on; at = c .at };
-              ready =
-                  ready-more s ps xs′ pw′ i (baseIn xs′ i) (baseIn xs′ i + at .start + i) (omega arith)
-                  (ready-begun s ps xs′ pw′ i (w .readable .room) on before
-                  (omega (arith, w .at, from-is, term-here .end-is, on-page .some))
-                  (page-bounds s ps xs′ p i t term-here .0));
-            }
-
-        -- the other words are as they were
-        module _ (j : ℕ) (d : j ≡ i → ⊥) where
-          turned-there : TurnedTo s ts ct ps p (at .start) cw pw xs j → TurnedTo s ts ct ps p (at .start) cw′ pw′ xs′ j
-          turned-there u =
-              let e = span-there xs i (past (elementsAt s ps i) (x .from)) (x .to) j d in
-              let base : baseIn xs′ j ≡ baseIn xs j = rw m (e .0) in
-              let end : endIn xs′ j ≡ endIn xs j = rw m (e .1) in
-              let v = u .term in
+          turned-here : TurnedTo s ts ct ps p (at .start) after i
+          turned-here =
+              let on = w .readable .on in
+              let before : positionWalk after i .past ≡ baseIn after i =
+              on .past-is ∙ ap (past (elementsAt s ps i)) (w .at) ∙ sym (w .base-is) in
+              let e = counts-same mid i after (8 * i + 8) (w .kept) in
               record {
-                term = record {
-                  accepts = v .accepts;
-                  rank = v .rank;
-                  ranked = v .ranked;
-                  page-is = v .page-is;
-                  part-is = v .part-is;
-                  base-is = base ∙ v .base-is;
-                  end-is = end ∙ v .end-is;
-                };
-                counted = rw (c .others j d) (u .counted);
-                ready = record {
-                  room = w .readable .room;
-                  short = omega (arith, end, u .ready .short);
-                  passing = rw (end, base, w .others j d) (u .ready .passing);
-                };
+                term = term-here;
+                counted = rw e (record { on = c .readable .on; at = c .at });
+                ready =
+                    ready-more s ps after i (baseIn after i) (baseIn after i + at .start + i) (omega arith)
+                    (ready-begun s ps after i (w .readable .room) on before
+                    (omega (arith, w .at, from-is, term-here .end-is, on-page .some))
+                    (page-bounds s ps after p i t term-here .0));
               }
 
-          ahead-there : AheadOf s ts ct ps cw pw p j → AheadOf s ts ct ps cw′ pw′ p j
-          ahead-there f =
-              let u = c .others j d in
-              let v = w .others j d in
-              record {
-                counted = rw u (f .counted);
-                walked = rw v (f .walked);
-                ahead = λ r l b.
-                    let e = f .ahead r l b in (
-                      omega (arith, e .0, ap (λ (z : Walk). z .next) u),
-                      omega (arith, e .1, ap (λ (z : Walk). z .next) v),
-                    );
-              }
+          -- the other words are as they were
+          module _ (j : ℕ) (d : j ≡ i → ⊥) where
+            same : SameWord ws after j
+            same =
+                same-word ws mid after j (same-other ws i mid (8 * i) (8 * i + 3) (omega arith) (omega arith) (c .kept) j d)
+                (same-other mid i after (8 * i + 3) (8 * i + 8) (omega arith) (omega arith) (w .kept) j d)
 
-        pub trying-turned : Trying s ts lead ct ps p (record {
-          turned = at .turned + 1;
-          start = at .start;
-          standing = at .standing;
-          count = at .count;
-        }) cw′ pw′ xs′
-        trying-turned = record {
-          counted-room = c .readable .room;
-          walked-room = w .readable .room;
-          spans-room = rw m (spans-long xs i (past (elementsAt s ps i) (x .from)) (x .to) ∙ y .spans-room);
-          some = y .some;
-          order = omega (arith, y .order);
-          within = omega (arith, next, slot-within i h);
-          small = y .small;
-          words = λ j l g. elim (ℕ-discrete j i) [
-            | yes e ↦ rw e turned-here
-            | no e ↦ turned-there j e (y .words j l (omega (arith, apart j e)))
-          ];
-          others = λ j l g. elim (ℕ-discrete j i) [
-            | yes e ↦ absurd (omega (arith, next, ap (slotOf lead) e))
-            | no e ↦ ahead-there j e (y .others j l (omega arith))
-          ];
-          stand = y .stand;
-          counted = y .counted;
-        }
-          where
-            apart : (j : ℕ) → (j ≡ i → ⊥) → slotOf lead j ≡ at .turned → ⊥
-            apart j e z = e (sym (source-slot lead j) ∙ ap (sourceOf lead) (z ∙ sym next) ∙ source-slot lead i)
+            turned-there : TurnedTo s ts ct ps p (at .start) ws j → TurnedTo s ts ct ps p (at .start) after j
+            turned-there u =
+                let e = same in
+                record {
+                  term = term-same s ps ws after p j (termAt s ts j) (e .base) (e .end) (u .term);
+                  counted = rw (e .counts) (u .counted);
+                  ready =
+                      rw (e .base) (ready-same s ps ws after j (baseIn ws j + at .start + j) (w .readable .room)
+                      (e .positions) (e .end) (u .ready));
+                }
+
+            ahead-there : AheadOf s ts ct ps ws p j → AheadOf s ts ct ps after p j
+            ahead-there f =
+                let e = same in
+                record {
+                  counted = rw (e .counts) (f .counted);
+                  walked = rw (e .positions) (f .walked);
+                  ahead = λ r l b.
+                      let g = f .ahead r l b in (
+                        omega (arith, g .0, ap (λ (z : Walk). z .next) (e .counts)),
+                        omega (arith, g .1, ap (λ (z : Walk). z .next) (e .positions)),
+                      );
+                }
+
+          pub trying-turned : Trying s ts lead ct ps p (record {
+            turned = at .turned + 1;
+            start = at .start;
+            standing = at .standing;
+            count = at .count;
+          }) after
+          trying-turned = record {
+            room = w .readable .room;
+            some = y .some;
+            order = omega (arith, y .order);
+            within = omega (arith, next, slot-within i h);
+            small = y .small;
+            words = λ j l g. elim (ℕ-discrete j i) [
+              | yes e ↦ rw e turned-here
+              | no e ↦ turned-there j e (y .words j l (omega (arith, apart j e)))
+            ];
+            others = λ j l g. elim (ℕ-discrete j i) [
+              | yes e ↦ absurd (omega (arith, next, ap (slotOf lead) e))
+              | no e ↦ ahead-there j e (y .others j l (omega arith))
+            ];
+            stand = y .stand;
+            counted = y .counted;
+          }
+            where
+              apart : (j : ℕ) → (j ≡ i → ⊥) → slotOf lead j ≡ at .turned → ⊥
+              apart j e z = e (sym (source-slot lead j) ∙ ap (sourceOf lead) (z ∙ sym next) ∙ source-slot lead i)

@@ -19,7 +19,8 @@ use Rattle.querylaws.proofs.SpanLaws.{span-cons}
 use Rattle.span.specs.declared.Walk.{Walk}
 use Rattle.span.proofs.SpanLaws.{before-mono}
 use Rattle.phrase.specs.Starts.{standsIn, startsIn, startsBelow}
-use Rattle.phrase.specs.Words.{walkIn, baseIn, pageAt, Ready, Sought, BlockAt}
+use Rattle.phrase.specs.Words.{countWalk, baseIn, endIn, pageAt, BlockAt, Ready, Sought, TermAt}
+use Rattle.phrase.proofs.WordLaws.{SameWord, same-other, counts-same, span-same, term-same}
 use Rattle.phrase.proofs.StartLaws.{stands-fails, stands-all, starts-in, Rises, rises-more, below-found, below-skip}
 use Rattle.phrase.proofs.StartLaws.{below-le, starts-below}
 use Rattle.phrase.proofs.StandLaws.{ready-same, ready-more}
@@ -41,14 +42,12 @@ left at = (16777217 - at .start) * 8 + (8 - at .standing)
 
 -- ---- the beginning
 
-pub trying-begins : (s ts : List ℕ) (lead : ℕ) (ct ps : List ℕ) (p : ℕ) (cw pw xs : List ℕ) → 0 < length ts
-    → length xs ≡ 16 → Ahead s ts ct ps cw pw p
-    → Trying s ts lead ct ps p (record { turned = 0; start = 0; standing = 0; count = 0 }) cw pw xs
+pub trying-begins : (s ts : List ℕ) (lead : ℕ) (ct ps : List ℕ) (p : ℕ) (ws : List ℕ) → 0 < length ts
+    → Ahead s ts ct ps ws p
+    → Trying s ts lead ct ps p (record { turned = 0; start = 0; standing = 0; count = 0 }) ws
 unfolding startsBelow
-trying-begins s ts lead ct ps p cw pw xs n r f = record {
-  counted-room = f .counted-room;
-  walked-room = f .walked-room;
-  spans-room = r;
+trying-begins s ts lead ct ps p ws n f = record {
+  room = f .room;
   some = n;
   order = omega arith;
   within = omega arith;
@@ -60,7 +59,7 @@ trying-begins s ts lead ct ps p cw pw xs n r f = record {
 }
 
 module _ (s ts : List ℕ) (lead : ℕ) (pg ct ps : List ℕ) (a : Asked s ts lead pg ct ps) (p : ℕ) (at : Trial)
-    (cw pw xs : List ℕ) (y : Trying s ts lead ct ps p at cw pw xs) where
+    (ws : List ℕ) (y : Trying s ts lead ct ps p at ws) where
   abbrev k : ℕ
   k = length ts
 
@@ -78,62 +77,81 @@ module _ (s ts : List ℕ) (lead : ℕ) (pg ct ps : List ℕ) (a : Asked s ts le
   counted-few = omega (arith, y .counted, below-le (pageHere s ts p) (at .start))
 
   module _ (turned : at .standing < at .turned) where
-    word : TurnedTo s ts ct ps p (at .start) cw pw xs i
+    word : TurnedTo s ts ct ps p (at .start) ws i
     word = y .words i next-within (omega (arith, next-slot))
 
     -- what is asked where its start is sought
-    pub seek-ready : BlockAt s ps i × (length xs ≡ 16) × (baseIn xs i < 2 ^ 32) × (at .start < 2 ^ 32)
-        × Ready s ps xs pw i (baseIn xs i + at .start + i)
+    pub seek-ready : BlockAt s ps i × (baseIn ws i < 2 ^ 32) × (at .start < 2 ^ 32)
+        × Ready s ps ws i (baseIn ws i + at .start + i)
     seek-ready =
         let b = a .positions .slot i next-within .block in (
           b,
-          y .spans-room,
           omega (
             arith,
-            page-bounds s ps xs p i (termAt s ts i) (word .term) .1,
+            page-bounds s ps ws p i (termAt s ts i) (word .term) .1,
             open-within (partAt s ps i) (shapeIn ps i) (b .opened),
           ),
           omega (arith, y .small),
           word .ready,
         )
 
-    module _ (next : ℕ) (after : List ℕ) (t : Sought s ps xs pw i (at .start) next after) where
-      here : pageAt s ps xs i ≡ positionsHere s ts p i
-      here = page-positions s ps xs p i (termAt s ts i) (word .term)
+    module _ (next : ℕ) (after : List ℕ) (t : Sought s ps ws i (at .start) next after) where
+      -- the words are as they were, but for where reading of the positions of this one stands
+      same : (j : ℕ) → (j ≡ i → ⊥) → SameWord ws after j
+      same = same-other ws i after (8 * i + 3) (8 * i + 6) (omega arith) (omega arith) (t .kept)
+
+      span-kept : (j : ℕ) → (countWalk after j ≡ countWalk ws j) × (baseIn after j ≡ baseIn ws j)
+          × (endIn after j ≡ endIn ws j)
+      span-kept j =
+          elim (ℕ-discrete j i) [
+            | yes e ↦
+                let z = span-same ws i after (t .kept) in
+                rw e (counts-same ws i after (8 * i + 6) (t .kept), z .0, z .1)
+            | no e ↦ (same j e .counts, same j e .base, same j e .end)
+          ]
+
+      abbrev term-after : (j : ℕ) → TermAt s ps ws p j (termAt s ts j) → TermAt s ps after p j (termAt s ts j)
+      term-after j =
+          term-same s ps ws after p j (termAt s ts j) (span-kept j .1) (span-kept j .2)
+
+      here : pageAt s ps after i ≡ positionsHere s ts p i
+      here = page-positions s ps after p i (termAt s ts i) (term-after i (word .term))
 
       -- a number that the word does not have is no start
-      no-start : (d : ℕ) → member (d + i) (pageAt s ps xs i) ≡ false → standsIn (pageHere s ts p) d ≡ false
+      no-start : (d : ℕ) → member (d + i) (pageAt s ps after i) ≡ false → standsIn (pageHere s ts p) d ≡ false
       unfolding pageHere
       no-start d e =
           stands-fails (positionsHere s ts p) k 0 d i next-within (rw (zero-add i, ← here) e)
 
       -- the words stand ready for that start and for later ones
       words-later : (n : ℕ) → at .start ≤ n → (j : ℕ) → j < k → slotOf lead j < at .turned
-          → TurnedTo s ts ct ps p n cw after xs j
+          → TurnedTo s ts ct ps p n after j
       words-later n l j h g =
           let u = y .words j h g in
+          let v = span-kept j in
           record {
-            term = u .term;
-            counted = u .counted;
-            ready = ready-more s ps xs after j (baseIn xs j + at .start + j) (baseIn xs j + n + j) (omega arith)
+            term = term-after j (u .term);
+            counted = rw (v .0) (u .counted);
+            ready = ready-more s ps after j (baseIn after j + at .start + j) (baseIn after j + n + j) (omega arith)
                 (elim (ℕ-discrete j i) [
                   | yes e ↦ rw e (t .ready)
-                  | no e ↦ ready-same s ps xs pw after j (baseIn xs j + at .start + j) (t .ready .room) (t .others j e)
-                      (u .ready)
+                  | no e ↦ rw (v .1) (ready-same s ps ws after j (baseIn ws j + at .start + j) (t .ready .room)
+                      (same j e .positions) (v .2) (u .ready))
                 ]);
           }
 
-      others-later : (j : ℕ) → j < k → at .turned ≤ slotOf lead j → AheadOf s ts ct ps cw after p j
+      others-later : (j : ℕ) → j < k → at .turned ≤ slotOf lead j → AheadOf s ts ct ps after p j
       others-later j h g =
           let f = y .others j h g in
-          let e : walkIn after j ≡ walkIn pw j =
-          t .others j (λ z. omega (arith, ap (slotOf lead) z, next-slot)) in
+          let e = same j (λ z. omega (arith, ap (slotOf lead) z, next-slot)) in
           record {
-            counted = f .counted;
-            walked = rw e (f .walked);
+            counted = rw (e .counts) (f .counted);
+            walked = rw (e .positions) (f .walked);
             ahead = λ r l b.
-                let g = f .ahead r l b in
-                (g .0, omega (arith, g .1, ap (λ (v : Walk). v .next) e));
+                let g = f .ahead r l b in (
+                  omega (arith, g .0, ap (λ (v : Walk). v .next) (e .counts)),
+                  omega (arith, g .1, ap (λ (v : Walk). v .next) (e .positions)),
+                );
           }
 
       -- ---- a start that the word allows
@@ -172,11 +190,9 @@ module _ (s ts : List ℕ) (lead : ℕ) (pg ct ps : List ℕ) (a : Asked s ts le
         goes-on : (n m c : ℕ) → at .start ≤ n → n ≤ limit → m < k → m ≤ at .turned
             → ((j : ℕ) → j < k → slotOf lead j < m → member (n + j) (positionsHere s ts p j) ≡ true)
             → c ≡ startsBelow (pageHere s ts p) n
-            → Trying s ts lead ct ps p (record { turned = at .turned; start = n; standing = m; count = c }) cw after xs
+            → Trying s ts lead ct ps p (record { turned = at .turned; start = n; standing = m; count = c }) after
         goes-on n m c l small few order stand count = record {
-          counted-room = y .counted-room;
-          walked-room = t .ready .room;
-          spans-room = y .spans-room;
+          room = t .ready .room;
           some = few;
           order = order;
           within = y .within;
@@ -187,7 +203,7 @@ module _ (s ts : List ℕ) (lead : ℕ) (pg ct ps : List ℕ) (a : Asked s ts le
           counted = count;
         }
 
-        pub trying-goes : Trying s ts lead ct ps p (triedAt at next k) cw after xs
+        pub trying-goes : Trying s ts lead ct ps p (triedAt at next k) after
         unfolding triedAt
         trying-goes =
             let f = t .found some in
@@ -247,13 +263,12 @@ module _ (s ts : List ℕ) (lead : ℕ) (pg ct ps : List ℕ) (a : Asked s ts le
             ∙ ap (λ (l : List (List ℕ)). startsBelow l (at .start + U)) (sym cons)
             ∙ none-later (at .start + U) (omega arith))
 
-        pub trying-ends : (at .count ≡ starts (wordsIn s ts) p) × (at .count < 2 ^ 32) × Ahead s ts ct ps cw after (p + 1)
+        pub trying-ends : (at .count ≡ starts (wordsIn s ts) p) × (at .count < 2 ^ 32) × Ahead s ts ct ps after (p + 1)
         trying-ends = (
           all-counted,
           omega (arith, counted-few, y .small),
           record {
-            counted-room = y .counted-room;
-            walked-room = t .ready .room;
+            room = t .ready .room;
             each = λ j h. elim (decLt (slotOf lead j) (at .turned)) [
               | yes g ↦
                   let d = words-later (at .start) (omega arith) j h g in

@@ -4,124 +4,93 @@ use lib.ListN.{length-set}
 use native.Mathlib.Omega.{arith}
 use borrow.Author.Needs.{needs}
 use Rattle.commonlaws.specs.Readers.{leftIn}
-use Rattle.querylaws.specs.Queries.{leadIn}
+use Rattle.querylaws.specs.Queries.{leadIn as leadReader}
 use Rattle.querylaws.proofs.TurnLaws.{turned-page, turned-fewer}
-use Rattle.triallaws.specs.Asked.{Asked}
+use Rattle.triallaws.specs.Asked.{pagesIn, countsIn, positionsIn, leadIn, AskedIn}
 use Rattle.triallaws.proofs.PageLaws.{turned-least, turned-on, ahead-more}
 use Rattle.triallaws.proofs.PairLaws.{laid-zero, Going, going-start, going-few, going-end, going-on}
 use Rattle.pairs.proofs.list_starts.Statement.{statement}
 use Rattle.pairs.proofs.list_starts.Tie as tie
 
 abbrev Inv-loop : tie.InvT-loop
-Inv-loop card terms lead pages counts positions room₀ q₀ counted₀ walked₀ b₀ found₀ room q counted walked b found =
-    (a : Asked card terms lead pages counts positions)
-    × Going card terms lead pages counts positions room₀ a q counted walked b found room
+Inv-loop card terms lists room₀ q₀ words₀ b₀ found₀ room q words b found =
+    (a : AskedIn card terms lists)
+    × Going card terms (leadIn lists) (pagesIn lists) (countsIn lists) (positionsIn lists) room₀ (a .asked) q words b
+    found room
 
 abbrev μ-loop : tie.MeasureT-loop
-μ-loop card terms lead pages counts positions room₀ q₀ counted₀ walked₀ b₀ found₀ room q counted walked b found =
-    leftIn b (leadIn card pages q)
-
-slice-write-room : tie.Need-slice-write-room Inv-loop μ-loop
-slice-write-room c = c .before .before .before .before .before .before .pre .1
+μ-loop card terms lists room₀ q₀ words₀ b₀ found₀ room q words b found = leftIn b (leadReader card (pagesIn lists) q)
 
 loop-holds : tie.Need-loop-holds Inv-loop μ-loop
 loop-holds c =
-    let b = c .before .before .before .before .before .before .before in
-    rw (c .new .ensures) (b .pre .0, going-start _ _ _ _ _ _ _ (b .pre .0) (b .args .room .now) refl (b .pre .1))
-
-next-common-requires : tie.Need-next-common-requires Inv-loop μ-loop
-next-common-requires c κs = c .loop .inv .1 .partway .running
+    let b = c .before .before .before .before .before in
+    rw (c .new .ensures)
+    (b .pre .0, going-start _ _ _ _ _ _ _ (b .pre .0 .asked) (b .args .room .now) refl (b .pre .1))
 
 same-length : tie.Need-same-length Inv-loop μ-loop
-same-length c =
-    c .before .before .before .loop .inv .1 .same
-    ∙ length-set (c .before .before .before .before .before .before .before .before .before .before .before .args .room .now) 0 0
+same-length c = c .before .before .before .before .loop .inv .1 .same ∙ length-set (c .before .before .before .before .before .before .before .before .before .before .args .room .now) 0 0
 
 returns : tie.Need-returns Inv-loop μ-loop
 returns c =
-    let l = c .before .before .before .loop in
-    let n = c .before .before .next-common in
-    let room =
-    c .before .before .before .before .before .before .before .before .before .before .before .args .room .now in
-    let e =
-    going-end _ _ _ _ _ _ _ (l .inv .0) (l .q) (l .counted) (l .walked) (l .b) (l .found) (l .room) (l .inv .1)
-    (n .result) (n .ensures) (c .if1 .taken) in (
-      e .0,
-      omega (
-        arith,
-        going-few _ _ _ _ _ _ _ (l .inv .0) (l .q) (l .counted) (l .walked) (l .b) (l .found)
-            (l .room) (l .inv .1),
-      ),
-      λ h. e .1 (rw (← e .0, length-set room 0 0) h) ∙ laid-zero _ room,
-    )
-
-sub-page-starts : tie.Need-sub-page-starts Inv-loop μ-loop
-sub-page-starts c =
     let l = c .before .before .before .before .loop in
-    let n = c .before .before .before .next-common in
-    omega (
-      arith,
-      turned-page _ _ _ (l .q) (l .b) (l .inv .1 .partway .running .apt) (n .result) (n .ensures)
-          (c .before .if1 .left) .2,
+    let n = c .before .before .next-common in
+    let room = c .before .before .before .before .before .before .before .before .before .before .args .room .now in
+    let g = l .inv .1 in
+    let a = l .inv .0 .asked in
+    let e =
+    going-end _ _ _ _ _ _ _ a (l .q) (l .words) (l .b) (l .found) (l .room) g (n .result) (n .ensures) (c .if1 .taken) in (
+      e .0,
+      omega (arith, going-few _ _ _ _ _ _ _ a (l .q) (l .words) (l .b) (l .found) (l .room) g),
+      λ h. e .1 (rw (← e .0, length-set room 0 0) h) ∙ laid-zero _ room,
     )
 
 page-starts-requires : tie.Need-page-starts-requires Inv-loop μ-loop
 page-starts-requires c κs =
-    let l = c .before .before .before .before .before .before .loop in
-    let n = c .before .before .before .before .before .next-common in
-    let left = c .before .before .before .if1 .left in
+    let l = c .before .before .before .before .before .loop in
+    let n = c .before .before .before .next-common in
+    let left = c .before .if1 .left in
     let apt = l .inv .1 .partway .running .apt in
     let least = turned-least _ _ _ (l .q) (l .b) apt (n .result) (n .ensures) left in (
       l .inv .0,
       turned-on _ _ _ (l .q) (l .b) apt (n .result) (n .ensures) left,
-      ahead-more _ _ _ _ _ _ (l .b) _ least
-          (l .inv .1 .ahead),
+      ahead-more _ _ _ _ _ (l .b) _ least (l .inv .1 .ahead),
     )
 
 sub-put-pair : tie.Need-sub-put-pair Inv-loop μ-loop
 sub-put-pair c =
-    let l = c .before .before .before .before .before .before .before .before .before .before .before .loop in
-    let n = c .before .before .before .before .before .before .before .before .before .before .next-common in
+    let l = c .before .before .before .before .before .before .before .before .before .loop in
+    let n = c .before .before .before .before .before .before .before .next-common in
     omega (
       arith,
       turned-page _ _ _ (l .q) (l .b) (l .inv .1 .partway .running .apt) (n .result) (n .ensures)
-          (c .before .before .before .before .before .before .before .before .if1 .left) .2,
+          (c .before .before .before .before .before .if1 .left) .2,
     )
-
-cast-put-pair : tie.Need-cast-put-pair Inv-loop μ-loop
-cast-put-pair c = omega (arith, c .before .before .before .before .page-starts .ensures .1)
 
 put-pair-requires : tie.Need-put-pair-requires Inv-loop μ-loop
 put-pair-requires c κs =
-    let l = c .before .before .before .before .before .before .before .before .before .before .before .loop in
+    let l = c .before .before .before .before .before .before .before .before .before .loop in
     omega (
       arith,
-      going-few _ _ _ _ _ _ _ (l .inv .0) (l .q) (l .counted) (l .walked) (l .b) (l .found) (l .room)
+      going-few _ _ _ _ _ _ _ (l .inv .0 .asked) (l .q) (l .words) (l .b) (l .found) (l .room)
           (l .inv .1),
     )
 
 loop-less : tie.Need-loop-less Inv-loop μ-loop
 loop-less c =
-    let l =
-    c .before .before .before .before .before .before .before .before .before .before .before .before .before .before .before .before .loop in
-    let n =
-    c .before .before .before .before .before .before .before .before .before .before .before .before .before .before .before .next-common in
-    turned-fewer _ _ _ (l .q) (l .b) (l .inv .1 .partway .running .apt) (n .result) (n .ensures)
-    (c .before .before .before .before .before .before .before .before .before .before .before .before .before .if1 .left)
+    let l = c .before .before .before .before .before .before .before .before .before .before .before .before .before .before .loop in
+    let n = c .before .before .before .before .before .before .before .before .before .before .before .before .next-common in
+    turned-fewer _ _ _ (l .q) (l .b) (l .inv .1 .partway .running .apt) (n .result) (n .ensures) (c .before .before .before .before .before .before .before .before .before .before .if1 .left)
 
 loop-again : tie.Need-loop-again Inv-loop μ-loop
 loop-again c =
-    let l =
-    c .before .before .before .before .before .before .before .before .before .before .before .before .before .before .before .before .loop in
-    let n =
-    c .before .before .before .before .before .before .before .before .before .before .before .before .before .before .before .next-common in
-    let p = c .before .before .before .before .before .before .before .before .before .page-starts in
+    let l = c .before .before .before .before .before .before .before .before .before .before .before .before .before .before .loop in
+    let n = c .before .before .before .before .before .before .before .before .before .before .before .before .next-common in
+    let p = c .before .before .before .before .before .before .before .before .page-starts in
     let g = l .inv .1 in
     let put = c .before .before .before .before .put-pair .ensures _ (sym (g .found-is)) in (
       l .inv .0,
-      going-on _ _ _ _ _ _ _ (l .inv .0) (l .q) (l .counted) (l .walked) (l .b) (l .found) (l .room) g (n .result)
-          (n .ensures) (c .before .before .before .before .before .before .before .before .before .before .before .before .before .if1 .left)
-          (p .result) _ _ (p .ensures .0) (p .ensures .2) _ _ put,
+      going-on _ _ _ _ _ _ _ (l .inv .0 .asked) (l .q) (l .words) (l .b) (l .found) (l .room) g (n .result) (n .ensures)
+          (c .before .before .before .before .before .before .before .before .before .before .if1 .left) (p .result) _ (p .ensures .0) (p .ensures .2) _ _ put,
     )
 
 pub list-starts-spec : {M : Type 1} → statement M
@@ -130,19 +99,19 @@ list-starts-spec =
     (tie.spec
     Inv-loop
     μ-loop
-    slice-write-room
+    (λ c. c .before .before .before .before .pre .1)
     (λ c κs. search needs)
     loop-holds
-    next-common-requires
+    (λ c. search needs)
+    (λ c. search needs)
+    (λ c. omega (arith, c .before .before .before .before .before .before .pre .0 .row))
+    (λ c κs. c .before .loop .inv .1 .partway .running)
     same-length
     returns
-    (λ c. search needs)
-    sub-page-starts
-    (λ c. sym (c .before .before .before .before .before .loop .inv .1 .ahead .counted-room))
-    (λ c. sym (c .before .before .before .before .before .before .loop .inv .1 .ahead .walked-room))
+    (λ c. sym (c .before .before .before .before .before .loop .inv .1 .ahead .room))
     page-starts-requires
     sub-put-pair
-    cast-put-pair
+    (λ c. omega (arith, c .before .before .before .page-starts .ensures .1))
     put-pair-requires
     (λ c. search needs)
     loop-less

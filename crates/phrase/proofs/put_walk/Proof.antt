@@ -4,11 +4,11 @@ use lib.ListN.{length-set}
 use Rattle.phrase.proofs.put_walk.Statement.{statement}
 use Rattle.phrase.proofs.put_walk.Tie as tie
 
-slice-write-walks-2 : tie.Need-slice-write-walks-2
-slice-write-walks-2 c = rw length-set (omega (arith, c .pre))
+slice-write-words-2 : tie.Need-slice-write-words-2
+slice-write-words-2 c = rw length-set (omega (arith, c .pre))
 
-slice-write-walks-3 : tie.Need-slice-write-walks-3
-slice-write-walks-3 c = simp length-set (omega (arith, c .pre))
+slice-write-words-3 : tie.Need-slice-write-words-3
+slice-write-words-3 c = simp length-set (omega (arith, c .pre))
 
 pub put-walk-spec : {M : Type 1} → statement M
 put-walk-spec =
@@ -18,12 +18,9 @@ put-walk-spec =
     (λ c. search needs)
     (λ c. search needs)
     (λ c. search needs)
+    slice-write-words-2
     (λ c. search needs)
     (λ c. search needs)
-    slice-write-walks-2
-    (λ c. search needs)
-    (λ c. search needs)
-    (λ c. search needs)
-    slice-write-walks-3
+    slice-write-words-3
     (λ c. search needs)
     (λ c. search needs))

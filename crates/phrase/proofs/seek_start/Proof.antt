@@ -12,30 +12,30 @@ use Rattle.phrase.proofs.seek_start.Tie as tie
 
 returns : tie.Need-returns
 returns c =
-    let a = c .before .before .before .before .before .before .before .before .before .before .args in
+    let a = c .before .before .before .before .before .before .before .before .before .args in
     let p = c .before .before .before .pass-on in
-    sought-none (a .card .now) (a .shapes .now) (a .spans .now) (a .walks .now) (a .a) (a .i) (p .result) _ (p .ensures)
+    sought-none _ _ _ (a .a) (a .i) (p .result) _ (p .ensures)
     (ltb-false _ _ (sym (p .ensures .found) ∙ not-true _ (c .if1 .taken)))
 
 -- the word stands at its place or behind it
 beyond : (c : tie.Else1)
-    → baseIn (c .before .before .before .before .before .before .before .before .before .before .args .spans .now) (c .before .before .before .before .before .before .before .before .before .before .args .i) + c .before .before .before .before .before .before .before .before .before .before .args .a + c .before .before .before .before .before .before .before .before .before .before .args .i
-    < getD (c .before .before .before .pass-on .last .1 .1 .1 .1 .1 .0) (3 * c .before .before .before .before .before .before .before .before .before .before .args .i + 1) 0
+    → let a = c .before .before .before .before .before .before .before .before .before .args in
+    baseIn (a .words .now) (a .i) + a .a + a .i < getD (c .before .before .before .pass-on .last .1 .1 .1 .1 .0) (8 * a .i + 3 + 1) 0
 beyond c =
     let p = c .before .before .before .pass-on in
     ltb-true _ _ (sym (p .ensures .found) ∙ not-false _ (c .if1 .left))
 
 returns-2 : tie.Need-returns-2
 returns-2 c =
-    let a = c .before .before .before .before .before .before .before .before .before .before .before .before .args in
-    let p = c .before .before .before .before .before .pass-on in
-    sought-there (a .card .now) (a .shapes .now) (a .spans .now) (a .walks .now) (a .a) (a .i) (p .result) _ (p .ensures) _
-    (beyond (c .before .before)) refl
+    let a = c .before .before .before .before .before .before .before .before .before .before .args in
+    let p = c .before .before .before .before .pass-on in
+    sought-there _ _ _ (a .a) (a .i) (p .result) _ (p .ensures) _ (beyond (c .before)) refl
 
 pub seek-start-spec : {M : Type 1} → statement M
 seek-start-spec =
     tie.close
     (tie.spec
+    (λ c. search needs)
     (λ c. search needs)
     (λ c. search needs)
     (λ c. search needs)
@@ -48,11 +48,9 @@ seek-start-spec =
     (λ c. search needs)
     (λ c. search needs)
     (λ c. search needs)
+    (λ c. search needs)
     (λ c. omega (arith, beyond (c .before)))
-    (λ c. search needs)
-    (λ c. search needs)
-    (λ c. search needs)
-    (λ c. omega (arith, beyond (c .before .before)))
-    (λ c. omega (arith, beyond (c .before .before)))
+    (λ c. omega (arith, beyond (c .before)))
+    (λ c. omega (arith, beyond (c .before)))
     (λ c. search needs)
     returns-2)

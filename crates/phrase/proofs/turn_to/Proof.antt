@@ -1,67 +1,71 @@
 -- `turn_to` passes the positions before the page's: one past the last of them is the base.
-use mathlib.Core.Path.{ap, _∙_}
+use Prim.Native.Nat.{_+_, _*_}
 use native.Mathlib.Omega.{arith}
 use borrow.Author.Needs.{needs}
 use lib.ListN.{length-set}
 use Rattle.querylaws.specs.Lists.{shapeIn}
-use Rattle.span.specs.Walks.{past}
-use Rattle.phrase.specs.Words.{elementsAt}
-use Rattle.phrase.proofs.WordLaws.{walked}
+use Rattle.phrase.specs.Words.{withWalk}
+use Rattle.phrase.proofs.WordLaws.{walks-long, turned-on}
 use Rattle.phrase.proofs.turn_to.Statement.{statement}
 use Rattle.phrase.proofs.turn_to.Tie as tie
+
+abbrev start : tie.After-slice-known2 → tie.Start
+start c = c .before .before .before .before .before .before .before .before .before .before .before .before
 
 pass-to-requires : tie.Need-pass-to-requires
 unfolding shapeIn
 pass-to-requires c κs =
-    let p = c .before .before .before .before .before .before .before .before .pre in
-    rw (c .before .part-at .ensures, c .shape-in .ensures, c .before .before .walk-in .ensures) (p .0 .on, p .1, p .2)
+    let p = c .before .before .before .before .before .before .before .pre in
+    rw (c .before .part-at .ensures, c .shape-in .ensures, c .before .before .walk-at .ensures) (p .0 .on, p .1, p .2)
 
-slice-write-spans : tie.Need-slice-write-spans
-slice-write-spans c =
-    let p =
-    c .before .before .before .before .before .before .before .before .before .before .before .before .before .pre in
-    omega (arith, p .3, p .0 .block .few)
+slice-write-words : tie.Need-slice-write-words
+slice-write-words c =
+    let a = start c .args in
+    let p = start c .pre .0 in
+    rw (c .before .before .put-walk .ensures)
+    (omega (arith, walks-long (a .words .now) (8 * a .i + 3) (c .before .before .before .before .pass-to .result), p .room, p .block .few))
 
-slice-write-spans-2 : tie.Need-slice-write-spans-2
-slice-write-spans-2 c =
-    let p =
-    c .before .before .before .before .before .before .before .before .before .before .before .before .before .pre in
-    rw length-set (omega (arith, p .3, p .0 .block .few))
+slice-write-words-2 : tie.Need-slice-write-words-2
+slice-write-words-2 c =
+    let a = start c .args in
+    let p = start c .pre .0 in
+    let v = c .before .before .before .before .pass-to .result in
+    let ws = withWalk (a .words .now) (8 * a .i + 3) v in
+    rw (c .before .before .put-walk .ensures) (omega (
+      arith,
+      length-set ws (8 * a .i + 6) (v .past),
+      walks-long (a .words .now) (8 * a .i + 3) v,
+      p .room,
+      p .block .few,
+    ))
 
 returns : tie.Need-returns
 returns c =
-    let start =
-    c .before .before .before .before .before .before .before .before .before .before .before .before .before in
-    let a = start .args in
-    let w =
-    rw (
-      c .before .before .before .before .before .before .part-at .ensures,
-      c .before .before .before .before .before .shape-in .ensures,
-    ) at
-    (c .before .before .before .before .pass-to .ensures) in
-    let e = w .on .past-is ∙ ap (past (elementsAt (a .card .now) (a .shapes .now) (a .i))) (w .at) in (
-      rw e,
-      rw (c .before .before .put-walk .ensures)
-          (walked (a .card .now) (a .shapes .now) (a .walks .now) (a .i) (a .x .from)
-          (c .before .before .before .before .pass-to .result) (start .pre .0 .block) (start .pre .0 .room) w),
-    )
+    let p = start c .pre .0 in
+    let w = rw (c .before .before .before .before .before .before .part-at .ensures, c .before .before .before .before .before .shape-in .ensures) at (c .before .before .before .before .pass-to .ensures) in
+    rw (c .before .before .put-walk .ensures)
+    (turned-on _ _ _ _ _ (c .before .before .before .before .pass-to .result) (p .block) (p .room) w)
 
 pub turn-to-spec : {M : Type 1} → statement M
 turn-to-spec =
     tie.close
     (tie.spec
+    (λ c. search needs)
+    (λ c. search needs)
     (λ c κs. search needs)
     (λ c κs. search needs)
     (λ c κs. search needs)
     pass-to-requires
-    (λ c κs. search needs)
-    (λ c. omega (arith, c .before .before .before .before .before .before .before .before .before .before .before .before .before .pre .0 .block .few))
-    (λ c. omega (arith, c .before .before .before .before .before .before .before .before .before .before .before .before .before .pre .0 .block .few))
-    slice-write-spans
-    (λ c. omega (arith, c .before .before .before .before .before .before .before .before .before .before .before .before .before .pre .0 .block .few))
-    (λ c. omega (arith, c .before .before .before .before .before .before .before .before .before .before .before .before .before .pre .0 .block .few))
-    (λ c. omega (arith, c .before .before .before .before .before .before .before .before .before .before .before .before .before .pre .0 .block .few))
-    slice-write-spans-2
     (λ c. search needs)
+    (λ c. search needs)
+    (λ c κs. search needs)
+    (λ c. omega (arith, start c .pre .0 .block .few))
+    (λ c. omega (arith, start c .pre .0 .block .few))
+    (λ c. omega (arith, start c .pre .0 .block .few))
+    slice-write-words
+    (λ c. omega (arith, start c .pre .0 .block .few))
+    (λ c. omega (arith, start c .pre .0 .block .few))
+    (λ c. omega (arith, start c .pre .0 .block .few))
+    slice-write-words-2
     (λ c. search needs)
     returns)

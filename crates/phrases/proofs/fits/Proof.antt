@@ -9,20 +9,13 @@ use Rattle.triallaws.proofs.PairLaws.{found-few}
 use Rattle.phrases.proofs.fits.Statement.{statement}
 use Rattle.phrases.proofs.fits.Tie as tie
 
-number-requires : tie.Need-number-requires
-number-requires c κs =
-    let l = c .before .before .before .before .before .pre .pages .lists in
-    (l .each 0 (l .some) .room, omega arith, omega arith)
-
 mul-if1 : tie.Need-mul-if1
-mul-if1 c =
-    let b = c .before .before .before .before .before .before in
-    omega (arith, c .number .ensures, found-few _ _ _ _ _ _ (b .pre) .1)
+mul-if1 c = omega (arith, c .number .ensures, found-few _ _ _ _ _ _ (c .before .before .before .before .before .pre .asked) .1)
 
 returns : tie.Need-returns
 returns c =
-    let b = c .before .before .before .before .before .before .before in
-    let f = found-few _ _ _ _ _ _ (b .pre) .0 in
+    let b = c .before .before .before .before .before .before in
+    let f = found-few _ _ _ _ _ _ (b .pre .asked) .0 in
     sym (lt-ltb (length (foundIn (b .args .card .now) (b .args .terms .now))) (b .args .size)
     (omega (arith, c .if1 .taken, c .before .number .ensures, f)))
 
@@ -30,4 +23,15 @@ returns-2 : tie.Need-returns-2
 returns-2 c = rw (c .before .list-starts .ensures .0)
 
 pub fits-spec : {M : Type 1} → statement M
-fits-spec = tie.close (tie.spec number-requires mul-if1 returns (λ c. search needs) (λ c κs. search needs) returns-2)
+fits-spec =
+    tie.close
+    (tie.spec
+    (λ c. search needs)
+    (λ c. search needs)
+    (λ c. search needs)
+    (λ c κs. search needs)
+    mul-if1
+    returns
+    (λ c. search needs)
+    (λ c κs. search needs)
+    returns-2)
