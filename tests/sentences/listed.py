@@ -27,13 +27,15 @@ def uses_above(listing):
             yield f"{crate}: what it lists is not in the order of the file"
 
 
-def uses_are_used(listing):
-    """A crate lists none but those that its files name, and those whose structs its functions or what they call are
-    given or give back."""
+def uses_listed(listing):
+    """A crate lists those that its files name, and those whose structs its functions or what they call are given or
+    give back, and no others."""
     for crate, uses in listing.listed.items():
         if crate in listing.folders:
             used = listing.named(crate) | {whole.split("::")[0] for whole in listing.types(crate)}
             yield from (f"{crate}: it does not use {name}" for name in uses if name not in used)
+            left = used & listing.folders - {crate, *uses}
+            yield from (f"{crate}: it uses {name}, which it does not list" for name in sorted(left))
 
 
 def map_has_groups(listing):
@@ -46,4 +48,4 @@ def map_has_groups(listing):
             yield f"README.md: {crate} is in the group {group} here or there, but not in both"
 
 
-SENTENCES = [each_folder_once, each_in_a_group, uses_above, uses_are_used, map_has_groups]
+SENTENCES = [each_folder_once, each_in_a_group, uses_above, uses_listed, map_has_groups]
