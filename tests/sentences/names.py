@@ -20,7 +20,7 @@ RUN_WORD = "runs::run_word"
 
 # one seek by the cursor in hand, and the one loop that makes seeks
 SEEK_IN = "inhand::seek_in"
-LOOP = "query::scan_lists"
+LOOP = "query::next_common"
 
 # the way from the card's check to the kinds of questions, and those
 ANSWERS = ["ask::answer_all", "ask::answer_one"]

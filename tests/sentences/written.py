@@ -8,7 +8,7 @@ pub fn look(s: &[u8], upper: usize, k: usize, looks: &mut u32) -> u64 {
     runs::run_word(s, upper, k)
 }
 """
-# the plain sums of the cursors' counts, and what they are summed up of
+# the plain sums of the cursors' counts, and the walk from page to page that they are summed up of
 SUMS = """
 fn totals(q: Query, found: usize) -> Listed {
     let mut seeks = 0;
@@ -22,15 +22,26 @@ fn totals(q: Query, found: usize) -> Listed {
     }
     Listed { found, seeks, looks }
 }
-pub fn list_common(card: &[u8], shapes: &[u32], k: usize, bound: usize, room: &mut [u32]) -> Listed {
-    let r = scan_lists(card, shapes, Query::new(), k, bound, true, room);
-    totals(r.q, r.found)
+pub fn list_common(card: &[u8], shapes: &[u32], k: usize, room: &mut [u32]) -> Listed {
+    let mut q = Query::new();
+    let mut b = 0;
+    let mut found = 0;
+    loop {
+        let turn = next_common(card, shapes, q, k, b);
+        if turn.mark == SPENT {
+            return totals(turn.q, found);
+        }
+        put(room, found, turn.mark - 1);
+        found += 1;
+        q = turn.q;
+        b = turn.mark as usize;
+    }
 }
 """
 # how kind 3 tells them; pages are counted first where the room may be too small for them
 TOLD = """
 fn put_common(card: &[u8], shapes: &[u32], k: usize, room: &mut [u32]) -> usize {
-    let listed = query::list_common(card, shapes, k, 0, &mut room[3..]);
+    let listed = query::list_common(card, shapes, k, &mut room[3..]);
     room[0] = (listed.found + 2) as u32;
     room[1] = listed.seeks;
     room[2] = listed.looks;
@@ -44,7 +55,7 @@ pub fn by_common(card: &[u8], terms: &[u32], room: &mut [u32]) -> usize {
         return put_common(card, &shapes, k, room);
     }
     let mut none = [0u32; 0];
-    let counted = query::list_common(card, &shapes, k, 0, &mut none);
+    let counted = query::list_common(card, &shapes, k, &mut none);
     if room.len() < counted.found + 3 {
         return 0;
     }
