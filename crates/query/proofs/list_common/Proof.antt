@@ -81,6 +81,5 @@ list-common-spec =
     sub-put
     (λ c κs. search needs)
     add-found
-    (λ c. search needs)
     loop-less
     loop-again)
