@@ -17,7 +17,7 @@ MADE = {
     "walklaws::Cursor": [FRESH, SEEK],
     "querylaws::Query": ["querylaws::Query::new"],
     "querylaws::InHand": [LOOP],
-    "querylaws::Turn": [LOOP, LOOP],
+    "querylaws::Turn": [LOOP, LOOP, "query::list_common"],
     "querylaws::Listed": ["query::totals"],
 }
 # every place from which a function is called that looks, that makes, moves or sums up cursors, or that answers by them

@@ -25,13 +25,13 @@ READS = {
         ["numbers::read_u32(rest, 0)"], "the lengths of the blocks before one", "⌜ Walkable from k (now s) ⌝"),
     "parts::part_at": Read(["numbers::read_u32(s, at)"], "the length of a block", "⌜ Held at (now s) ⌝"),
     "openlists::length_of": Read(
-        ["numbers::read_u32(part_of(card, places, i), 9)"], "n in a list's header",
+        ["numbers::read_u32(part_of(card, places, i), LIST_N_AT)"], "n in a list's header",
         "⌜ (i < 8) × PlaceOk (now card) (now places) i ⌝"),
     "reading::shape_at": Read(
-        ["numbers::read_u32(block, 5)", "numbers::read_u32(block, 9)"], "U and n in a list's header",
+        ["numbers::read_u32(block, LIST_U_AT)", "numbers::read_u32(block, LIST_N_AT)"], "U and n in a list's header",
         "⌜ listRefusal (now block) ≡ Accepted ⌝"),
     "reading::pointer_in": Read(
-        ["numbers::read_u32(block, 9 + 4 * i)"], "pointer number i",
+        ["numbers::read_u32(block, POINTER_ZERO_AT + POINTER_SIZE * i)"], "pointer number i",
         "⌜ Open (now block) (shapeIn (now block)) × (i ≤ pointersIn (shapeIn (now block))) ⌝"),
     RUN_BITS: Read(["run_word(run, 0, o / 64)", "run_word(run, 0, o / 64 + 1)"], "the words that hold those bits"),
     LOW_PART: Read(["runs::low_field(&block[g.lower..g.upper], i * g.w, g.w)"], "a low part, of the lower run"),

@@ -23,18 +23,16 @@ fn totals(q: Query, found: usize) -> Listed {
     Listed { found, seeks, looks }
 }
 pub fn list_common(card: &[u8], shapes: &[u32], k: usize, room: &mut [u32]) -> Listed {
-    let mut q = Query::new();
-    let mut b = 0;
+    let q = Query::new();
+    let mut turn = Turn { q, mark: 0 };
     let mut found = 0;
     loop {
-        let turn = next_common(card, shapes, q, k, b);
+        turn = next_common(card, shapes, turn.q, k, turn.mark as usize);
         if turn.mark == SPENT {
             return totals(turn.q, found);
         }
         put(room, found, turn.mark - 1);
         found += 1;
-        q = turn.q;
-        b = turn.mark as usize;
     }
 }
 """
