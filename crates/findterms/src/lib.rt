@@ -9,14 +9,14 @@ ghost use Rattle.findlaws.specs.Starts.{Below, Found, LeastFrom, Put};
 use rules::INDEX_HEADER;
 
 // More than any number of a term.
-const NONE: usize = 4294967296;
+const NO_TERM: usize = 4294967296;
 
-// The least of the terms at or above t, or NONE.
+// The least of the terms at or above t, or NO_TERM.
 fn least_from(terms: &[u32], t: usize) -> usize
     requires { ⌜ t ≤ 2 ^ 32 ⌝ }
     ensures { λ r. ⌜ LeastFrom (now (terms .entry)) t r ⌝ }
 {
-    let mut least = NONE;
+    let mut least = NO_TERM;
     let mut i = 0;
     while i < terms.len() {
         let term = terms[i] as usize;
@@ -52,7 +52,7 @@ pub fn find_terms(card: &[u8], terms: &[u32], starts: &mut [usize])
     let mut t = 0;
     let mut rest = &card[INDEX_HEADER..];
     let mut next = least_from(terms, 0);
-    while next < NONE {
+    while next < NO_TERM {
         let left = parts::blocks_from(rest, 0, next - t);
         rest = left;
         t = next;

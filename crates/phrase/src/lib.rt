@@ -122,9 +122,9 @@ fn pass_on(card: &[u8], shapes: &[u32], i: usize, b: usize, words: &mut [usize])
 }
 
 // More than any start.
-pub const NONE: usize = 4294967296;
+pub const NO_START: usize = 4294967296;
 
-// The first start at or above a at which word i stands on the page, or NONE.
+// The first start at or above a at which word i stands on the page, or NO_START.
 pub fn seek_start(card: &[u8], shapes: &[u32], i: usize, a: usize, words: &mut [usize]) -> usize
     requires { ⌜ BlockAt (now card) (now shapes) i × (baseIn (now words) i < 2 ^ 32) × (a < 2 ^ 32)
         × Ready (now card) (now shapes) (now words) i (baseIn (now words) i + a + i) ⌝ }
@@ -133,7 +133,7 @@ pub fn seek_start(card: &[u8], shapes: &[u32], i: usize, a: usize, words: &mut [
 {
     let base = words[8 * i + BASE];
     if !pass_on(card, shapes, i, base + a + i, words) {
-        return NONE;
+        return NO_START;
     }
     words[8 * i + POSITIONS + 1] - 1 - base - i
 }

@@ -24,7 +24,7 @@ fn count_starts(card: &[u8], terms: &[u32], lists: &[u32], turn: Turn, words: &m
         let turned = trying::turn_next(card, terms, lists, turn, at, words);
         let i = openlists::source_of(lists[LEAD] as usize, turned.standing);
         let next = phrase::seek_start(card, &lists[POSITIONS..LEAD], i, turned.start, words);
-        if next == phrase::NONE {
+        if next == phrase::NO_START {
             return turned.count;
         }
         at = trial::tried(turned, next, terms.len());
