@@ -3,7 +3,7 @@
 ghost use mathlib.Core.Path.{_≡_};
 ghost use Prim.Native.Nat.{_<_};
 ghost use Rattle.rules.specs.declared.Refusal.the-variants.{Accepted};
-ghost use Rattle.rules.specs.Parts.{after, part};
+ghost use Rattle.rules.specs.Parts.{after};
 ghost use Rattle.rules.specs.ReadTerm.{listsOf, pagesOf, termRefusal};
 ghost use Rattle.rules.specs.Index.{indexT, termPart, indexRefusal};
 ghost use Rattle.findlaws.specs.Starts.{TermThere, TermAt};
@@ -34,17 +34,10 @@ pub fn lists_from(term: &[u8], k: usize) -> &[u8]
     parts::blocks_from(term, LISTS_AT, k)
 }
 
-// List number k.
-fn list_of(term: &[u8], k: usize) -> &[u8]
-    requires { ⌜ (termRefusal (now term) ≡ Accepted) × (k < 3) ⌝ }
-    ensures { λ r. ⌜ now r ≡ part k (listsOf (now (term .entry))) ⌝ }
-{
-    parts::part_at(lists_from(term, k), 0)
-}
-
+// The list of a term's pages.
 pub fn pages_of(term: &[u8]) -> &[u8]
     requires { ⌜ termRefusal (now term) ≡ Accepted ⌝ }
     ensures { λ r. ⌜ now r ≡ pagesOf (now (term .entry)) ⌝ }
 {
-    list_of(term, 0)
+    parts::part_at(lists_from(term, 0), 0)
 }
