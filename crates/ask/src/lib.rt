@@ -2,36 +2,15 @@
 
 ghost use mathlib.Core.Path.{_≡_};
 ghost use mathlib.Core.Bool.{true};
-ghost use Prim.Native.Nat.{_<_};
 ghost use lib.ListN.{length};
 ghost use Rattle.rules.specs.declared.Refusal.the-variants.{Accepted};
 ghost use Rattle.rules.specs.Index.{indexT, indexRefusal};
-ghost use Rattle.rules.specs.Questions.{answer, goodQuestion};
 ghost use Rattle.rules.specs.Ask.{asked, put, fitted};
 ghost use Rattle.rules.specs.Promises.{Answered};
 ghost use Rattle.questions.specs.Formed.{formed, answersTo};
-ghost use Rattle.questions.specs.Wrote.{Wrote};
 use rules::INDEX_T_AT;
 use rules::Outcome;
 use rules::Refusal;
-
-// The answer of a question that may be asked, whole at the front of the room; 0 where it does not fit.
-fn answer_one(card: &[u8], kind: u32, args: &[u32], room: &mut [u32]) -> usize
-    requires { ⌜ (indexRefusal (now card) ≡ Accepted) × (goodQuestion (indexT (now card)) kind (now args) ≡ true) ⌝ }
-    ensures { λ r. ⌜ Wrote (answer (now (card .entry)) kind (now (args .entry))) (now (room .entry)) r
-        (now (room .exit)) ⌝ }
-{
-    if kind == 1 {
-        return kinds::by_rank(card, args[0] as usize, args[1] as usize, room);
-    }
-    if kind == 2 {
-        return kinds::by_bound(card, args[0], args[1] as usize, room);
-    }
-    if kind == 3 {
-        return bycommon::by_common(card, args, room);
-    }
-    phrases::by_phrase(card, args, room)
-}
 
 // Answers well-formed questions in turn, each behind the answers before it.
 fn answer_all(card: &[u8], questions: &[u32], room: &mut [u32]) -> Outcome
@@ -46,7 +25,7 @@ fn answer_all(card: &[u8], questions: &[u32], room: &mut [u32]) -> Outcome
     while at < questions.len() {
         let from = at + 2;
         let to = questions::end_of(questions, at);
-        let size = answer_one(card, questions[at], &questions[from..to], &mut room[used..]);
+        let size = answer::answer_one(card, questions[at], &questions[from..to], &mut room[used..]);
         if size == 0 {
             return Outcome {
                 refusal: Refusal::Room,

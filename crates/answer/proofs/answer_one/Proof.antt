@@ -7,10 +7,10 @@ use lib.ListN.{length, getD}
 use Rattle.rules.specs.Index.{indexT}
 use Rattle.questions.specs.Formed.{wordsGood}
 use Rattle.questions.proofs.GoodLaws.{good-pair, pair-parts, good-rest}
-use Rattle.ask.proofs.CallLaws.{answer-rank, answer-bound, answer-common, answer-phrase}
+use Rattle.answer.proofs.KindLaws.{answer-rank, answer-bound, answer-common, answer-phrase}
 use borrow.Author.Needs.{needs}
-use Rattle.ask.proofs.answer_one.Statement.{statement}
-use Rattle.ask.proofs.answer_one.Tie as tie
+use Rattle.answer.proofs.answer_one.Statement.{statement}
+use Rattle.answer.proofs.answer_one.Tie as tie
 
 -- a term below T, and one number more
 pair : (c : tie.Start) → 0 < c .args .kind → c .args .kind < 3 → (length (c .args .args .now) ≡ 2)
