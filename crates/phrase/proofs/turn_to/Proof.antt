@@ -4,7 +4,6 @@ use native.Mathlib.Omega.{arith}
 use borrow.Author.Needs.{needs}
 use lib.ListN.{length-set}
 use Rattle.querylaws.specs.Lists.{shapeIn}
-use Rattle.phrase.specs.Words.{withWalk}
 use Rattle.phrase.proofs.WordLaws.{walks-long, turned-on}
 use Rattle.phrase.proofs.turn_to.Statement.{statement}
 use Rattle.phrase.proofs.turn_to.Tie as tie
@@ -29,15 +28,8 @@ slice-write-words-2 : tie.Need-slice-write-words-2
 slice-write-words-2 c =
     let a = start c .args in
     let p = start c .pre .0 in
-    let v = c .before .before .before .before .pass-to .result in
-    let ws = withWalk (a .words .now) (8 * a .i + 3) v in
-    rw (c .before .before .put-walk .ensures) (omega (
-      arith,
-      length-set ws (8 * a .i + 6) (v .past),
-      walks-long (a .words .now) (8 * a .i + 3) v,
-      p .room,
-      p .block .few,
-    ))
+    rw (length-set, c .before .before .put-walk .ensures)
+    (omega (arith, walks-long (a .words .now) (8 * a .i + 3) (c .before .before .before .before .pass-to .result), p .room, p .block .few))
 
 returns : tie.Need-returns
 returns c =
