@@ -23,7 +23,7 @@ use Rattle.span.specs.Spans.{onPage}
 use Rattle.span.proofs.WalkLaws.{past-none, past-some, past-mono}
 use Rattle.phrase.proofs.StartLaws.{Rises}
 
-pub getD-less : (b : ℕ) (xs : List ℕ) (j : ℕ) → getD (less b xs) j 0 ≡ getD xs j 0 - b
+getD-less : (b : ℕ) (xs : List ℕ) (j : ℕ) → getD (less b xs) j 0 ≡ getD xs j 0 - b
 unfolding less
 getD-less b [] j = omega arith
 getD-less b (x ∷ xs) zero = refl

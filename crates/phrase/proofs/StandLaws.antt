@@ -79,7 +79,7 @@ module _ (s sh ws : List ℕ) (a i : ℕ) (r : Bool) (after : List ℕ)
   within = omega (arith, open-length (partAt s sh i) (shapeIn sh i) (p .ready .passing .on .opened), p .ready .short)
 
   -- no position from there on
-  pub word-none : positionWalk after i .past ≤ b → (d : ℕ) → a ≤ d → member (d + i) (pageAt s sh after i) ≡ false
+  word-none : positionWalk after i .past ≤ b → (d : ℕ) → a ≤ d → member (d + i) (pageAt s sh after i) ≡ false
   unfolding pageAt shapeIn
   word-none l d g =
       page-lacks U (elementsAt s sh i) rises (baseIn after i) (endIn after i) within (d + i)
@@ -88,7 +88,7 @@ module _ (s sh ws : List ℕ) (a i : ℕ) (r : Bool) (after : List ℕ)
 
   module _ (found : b < positionWalk after i .past) (n : ℕ) (is : n ≡ positionWalk after i .past - 1 - baseIn ws i - i) where
     -- the first position from there on, and none before
-    pub word-has : (a ≤ n) × (n < limit) × (member (n + i) (pageAt s sh after i) ≡ true)
+    word-has : (a ≤ n) × (n < limit) × (member (n + i) (pageAt s sh after i) ≡ true)
     unfolding pageAt shapeIn
     word-has =
         let on = p .ready .passing .on in
@@ -107,7 +107,7 @@ module _ (s sh ws : List ℕ) (a i : ℕ) (r : Bool) (after : List ℕ)
               (positionWalk after i .next - 1) (x .0) (omega (arith, x .1, same)),
         )
 
-    pub word-lacks : (d : ℕ) → a ≤ d → d < n → member (d + i) (pageAt s sh after i) ≡ false
+    word-lacks : (d : ℕ) → a ≤ d → d < n → member (d + i) (pageAt s sh after i) ≡ false
     unfolding pageAt shapeIn
     word-lacks d l m =
         page-lacks U (elementsAt s sh i) rises (baseIn after i) (endIn after i) within (d + i)

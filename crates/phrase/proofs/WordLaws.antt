@@ -108,14 +108,14 @@ module _ (ws : List ℕ) (j : ℕ) (w : Walk) where
       getD-set-other second (j + 2) m (w .place) 0 c ∙ getD-set-other first (j + 1) m (w .past) 0 b
       ∙ getD-set-other ws j m (w .next) 0 a
 
-  pub walk-kept : Kept ws j (j + 3) (withWalk ws j w)
+  walk-kept : Kept ws j (j + 3) (withWalk ws j w)
   walk-kept = record {
     before = λ m h. other-number m (λ e. omega arith) (λ e. omega arith) (λ e. omega arith);
     behind = λ m h. other-number m (λ e. omega arith) (λ e. omega arith) (λ e. omega arith);
   }
 
   module _ (room : length ws ≡ 64) (few : j < 62) where
-    pub walk-here : walkAt (withWalk ws j w) j ≡ w
+    walk-here : walkAt (withWalk ws j w) j ≡ w
     walk-here =
         let a : getD (withWalk ws j w) j 0 ≡ w .next =
         getD-set-other second (j + 2) j (w .place) 0 (λ e. omega arith)

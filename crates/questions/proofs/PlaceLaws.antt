@@ -13,7 +13,7 @@ use Rattle.questions.specs.Formed.{formed, answersTo}
 use Rattle.questions.proofs.FrontLaws.{formed-front, answers-front}
 
 module _ (qs : List ℕ) (at : ℕ) where
-  pub kind-at : kindOf (drop at qs) ≡ getD qs at 0
+  kind-at : kindOf (drop at qs) ≡ getD qs at 0
   unfolding kindOf
   kind-at = getD-drop at qs 0 0 ∙ ap (λ (i : ℕ). getD qs i 0) (omega arith)
 

@@ -31,14 +31,14 @@ use Rattle.triallaws.proofs.PageLaws.{ahead-new}
 -- ---- page by page
 
 module _ (ws : List Word) where
-  pub with-more : (ps qs : List ℕ) → withStarts ws (ps ++ qs) ≡ withStarts ws ps ++ withStarts ws qs
+  with-more : (ps qs : List ℕ) → withStarts ws (ps ++ qs) ≡ withStarts ws ps ++ withStarts ws qs
   unfolding withStarts pairOf
   with-more [] qs = refl
   with-more (p ∷ ps) qs =
       ap (λ (l : List ℕ). pairOf p (starts ws p) ++ l) (with-more ps qs)
       ∙ sym (append-assoc (pairOf p (starts ws p)) (withStarts ws ps) (withStarts ws qs))
 
-  pub with-one : (ps : List ℕ) (p : ℕ) → withStarts ws (ps ++ (p ∷ [])) ≡ withStarts ws ps ++ pairOf p (starts ws p)
+  with-one : (ps : List ℕ) (p : ℕ) → withStarts ws (ps ++ (p ∷ [])) ≡ withStarts ws ps ++ pairOf p (starts ws p)
   unfolding withStarts pairOf
   with-one ps p =
       with-more ps (p ∷ []) ∙ ap (λ (l : List ℕ). withStarts ws ps ++ l) (append-nil (pairOf p (starts ws p)))
@@ -48,7 +48,7 @@ module _ (ws : List Word) where
   pair-few p zero = omega arith
   pair-few p (suc n) = rw (lt-ltb 0 (suc n) (omega arith)) (omega arith)
 
-  pub with-few : (ps : List ℕ) → length (withStarts ws ps) ≤ 2 * length ps
+  with-few : (ps : List ℕ) → length (withStarts ws ps) ≤ 2 * length ps
   unfolding withStarts pairOf
   with-few [] = omega arith
   with-few (p ∷ ps) =
@@ -58,7 +58,7 @@ module _ (ws : List Word) where
 -- ---- all common pages
 
 module _ (s ts : List ℕ) (lead : ℕ) (pg ct ps : List ℕ) (a : Asked s ts lead pg ct ps) where
-  pub whole-found : withStarts (wordsIn s ts) (wholeIn s pg (length ts) .listed) ≡ foundIn s ts
+  whole-found : withStarts (wordsIn s ts) (wholeIn s pg (length ts) .listed) ≡ foundIn s ts
   unfolding foundIn
   whole-found = ap (withStarts (wordsIn s ts)) (opened-listed s ts pg (a .pages))
 

@@ -74,7 +74,7 @@ module _ (s ts : List ℕ) (lead : ℕ) (pg ct ps : List ℕ) (a : Asked s ts le
       pub asked-rank : Ranked s pg q slot p
       asked-rank = ranked s pg q slot p asked-list (o .held slot slot-within) (o .on-page slot slot-within)
 
-      pub rank-counted : rankBy pg q slot < numberOf ct i 7
+      rank-counted : rankBy pg q slot < numberOf ct i 7
       rank-counted = rw (← same-count) (asked-rank .within)
 
   -- ---- one word more is turned
