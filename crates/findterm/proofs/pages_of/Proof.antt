@@ -12,8 +12,8 @@ part-at-requires : tie.Need-part-at-requires
 unfolding listsOf
 part-at-requires c κs =
     let b = c .before .before in
-    rw (c .lists-from .ensures) (after-held 5 0 (b .args .term .now)
-    (term-walks (b .args .term .now) (b .pre) 0 (omega arith)))
+    rw (c .lists-from .ensures) (after-held 5 _ (b .args .term .now)
+    (term-walks (b .args .term .now) (b .pre) _ (omega arith)))
 
 returns : tie.Need-returns
 unfolding pagesOf
