@@ -31,8 +31,8 @@ pub fn check_list(block: &[u8]) -> Refusal
     if n == 0 {
         return Refusal::Accepted;
     }
-    if !checkwords::runs_ok(block, g) {
-        return Refusal::Runs;
+    if checkwords::runs_ok(block, g) {
+        return Refusal::Accepted;
     }
-    Refusal::Accepted
+    Refusal::Runs
 }

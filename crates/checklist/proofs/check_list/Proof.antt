@@ -4,7 +4,6 @@ use mathlib.Core.List.{List}
 use Prim.Native.Nat.{ℕ, _<_}
 use native.Mathlib.Omega.{arith}
 use borrow.Author.Needs.{needs}
-use borrow.Author.Tests.{not-true, not-false}
 use Rattle.rules.specs.declared.Refusal.the-variants.{Accepted}
 use Rattle.rules.specs.Limits.{listHeader}
 use Rattle.rules.specs.Bytes.{Bytes}
@@ -143,16 +142,16 @@ returns-6 c =
     let r = c .before in
     let e = r .before .before in
     let g = e .before .before in
-    sym (holds-refused (by-size e) (framed-at e) (some-at (r .before)) (g .shape-of .result)
-    (shape-at g) (bytes-at e) (r .runs-ok .ensures .1 (not-true (r .runs-ok .result) (c .if6 .taken))))
+    sym (holds-accepted (by-size e) (framed-at e) (some-at (r .before)) (g .shape-of .result)
+    (shape-at g) (bytes-at e) (r .runs-ok .ensures .0 (c .if6 .taken)))
 
 returns-7 : tie.Need-returns-7
 returns-7 c =
     let r = c .before in
     let e = r .before .before in
     let g = e .before .before in
-    sym (holds-accepted (by-size e) (framed-at e) (some-at (r .before)) (g .shape-of .result)
-    (shape-at g) (bytes-at e) (r .runs-ok .ensures .0 (not-false (r .runs-ok .result) (c .if6 .left))))
+    sym (holds-refused (by-size e) (framed-at e) (some-at (r .before)) (g .shape-of .result)
+    (shape-at g) (bytes-at e) (r .runs-ok .ensures .1 (c .if6 .left)))
 
 pub check-list-spec : {M : Type 1} → statement M
 check-list-spec =

@@ -78,16 +78,16 @@ cast-bit c = record { fits = omega (arith, turn (c .before .before) .inside) }
 add-bit : tie.Need-add-bit Inv-loop μ-loop
 add-bit c = record { fits = omega (arith, turn (c .before .before) .inside) }
 
-value-at-requires : tie.Need-value-at-requires Inv-loop μ-loop
-value-at-requires c κs =
+page-at-requires : tie.Need-page-at-requires Inv-loop μ-loop
+page-at-requires c κs =
     let one = c .before .before in
     (one .before .before .before .before .before .before .before .pre .0, turn one .one)
 
 add-t16 : tie.Need-add-t16 Inv-loop μ-loop
-add-t16 c = record { fits = omega (arith, turn (c .before .before .before .before) .low, c .before .value-at .ensures) }
+add-t16 c = record { fits = omega (arith, turn (c .before .before .before .before) .low, c .before .page-at .ensures) }
 
 cast-t17 : tie.Need-cast-t17 Inv-loop μ-loop
-cast-t17 c = record { fits = omega (arith, turn (c .before .before .before .before) .low, c .before .value-at .ensures) }
+cast-t17 c = record { fits = omega (arith, turn (c .before .before .before .before) .low, c .before .page-at .ensures) }
 
 cast-t18 : tie.Need-cast-t18 Inv-loop μ-loop
 cast-t18 c = record { fits = omega (arith, turn (c .before .before .before .before) .inside) }
@@ -98,7 +98,7 @@ returns c =
     let at = one .before .before .before .before .before .loop in
     let start = one .before .before .before .before .before .before .before in
     let t = one .to-one .ensures in
-    let v = c .before .value-at .ensures in
+    let v = c .before .page-at .ensures in
     let l = landed-on (start .args .s .now) (start .args .g) (start .pre .0) (start .args .b) (one .to-one .result)
     (t .0 .at) (λ j h. at .inv .1 j (omega (arith, t .0 .rank-kept))) _ (t .0 .some)
     (omega (arith, v, c .if2 .taken)) (ap (λ (x : ℕ). x + 1) v) refl in
@@ -123,7 +123,7 @@ loop-again c =
     let at = one .before .before .before .before .before .loop in
     let start = one .before .before .before .before .before .before .before in
     let t = one .to-one .ensures in
-    let v = c .before .before .before .before .value-at .ensures in (
+    let v = c .before .before .before .before .page-at .ensures in (
       walking-drop (start .args .s .now) (start .args .g) (start .pre .0) (one .to-one .result) (t .0 .at) (t .0 .some) _
           refl refl refl,
       below-more _ _ (λ j h. at .inv .1 j (omega (arith, t .0 .rank-kept)))
@@ -157,7 +157,7 @@ land-spec =
     mul-bit
     cast-bit
     add-bit
-    value-at-requires
+    page-at-requires
     add-t16
     cast-t17
     cast-t18
