@@ -32,8 +32,8 @@ CALLS = {
     # pages are counted first where the room may be too small for them
     "query::list_common": ["bycommon::by_common", "bycommon::put_common"],
     "bycommon::put_common": ["bycommon::by_common", "bycommon::by_common"],
-    "bycommon::by_common": ["ask::answer_one"],
-    "ask::answer_one": ["ask::answer_all"],
+    "bycommon::by_common": ["answer::answer_one"],
+    "answer::answer_one": ["ask::answer_all"],
 }
 # what `seek_in` is given and gives back: the query, and the cursor in hand
 IN_HAND = ("q", "hand")

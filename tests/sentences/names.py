@@ -9,22 +9,21 @@ FRESH = "walklaws::Cursor::new"
 # what hands out a word of the upper run and counts it, and what alone calls it
 LOOK = "looks::look"
 LOOKING = ["looks::next_word", "passing::pass"]
-# the functions of another crate that a seek hands the list's bytes to, and what gives the second a low part
+# what reads words of the lower run
+LOW_PART = "landing::low_part"
+# the function of another crate that a seek hands the list's bytes to
 POINTER = "reading::pointer_at"
-ELEMENT = "reading::value_at"
-LOW_PART = "reading::low_at"
 
-# the crates whose functions read the bytes that they are given, and those of them that read a word, or bits of a run
+# the crates whose functions read the bytes that they are given, and the one of them that reads a word
 READING = ["numbers", "runs"]
 RUN_WORD = "runs::run_word"
-RUN_BITS = "runs::low_field"
 
 # one seek by the cursor in hand, and the one loop that makes seeks
 SEEK_IN = "inhand::seek_in"
 LOOP = "query::next_common"
 
 # the way from the card's check to the kinds of questions, and those
-ANSWERS = ["ask::answer_all", "ask::answer_one"]
+ANSWERS = ["ask::answer_all", "answer::answer_one"]
 KIND_3 = "bycommon::by_common"
 KINDS = [KIND_3, "kinds::by_bound", "kinds::by_rank", "phrases::by_phrase"]
 
@@ -32,8 +31,3 @@ KINDS = [KIND_3, "kinds::by_bound", "kinds::by_rank", "phrases::by_phrase"]
 def of_seek(program):
     """The functions of the seek's crates."""
     return [f for f in program.functions.values() if f.crate in OF_SEEK]
-
-
-def for_seek(program):
-    """Those, and the two that read an element for them."""
-    return of_seek(program) + [program.function(ELEMENT), program.function(LOW_PART)]

@@ -3,7 +3,7 @@ from typing import NamedTuple
 
 from reading import flow, tree
 from reading.compare import compared
-from sentences.names import ANSWERS, KIND_3, KINDS, LOOK, LOW_PART, READING, RUN_BITS, RUN_WORD
+from sentences.names import ANSWERS, KIND_3, KINDS, LOOK, LOW_PART, READING, RUN_WORD
 from sentences.written import WRITTEN
 
 
@@ -33,8 +33,9 @@ READS = {
     "reading::pointer_in": Read(
         ["numbers::read_u32(block, POINTER_ZERO_AT + POINTER_SIZE * i)"], "pointer number i",
         "⌜ Open (now block) (shapeIn (now block)) × (i ≤ pointersIn (shapeIn (now block))) ⌝"),
-    RUN_BITS: Read(["run_word(run, 0, o / 64)", "run_word(run, 0, o / 64 + 1)"], "the words that hold those bits"),
-    LOW_PART: Read(["runs::low_field(&block[g.lower..g.upper], i * g.w, g.w)"], "a low part, of the lower run"),
+    LOW_PART: Read(
+        ["runs::run_word(&s[g.lower..g.upper], 0, rank * g.w / 64)",
+         "runs::run_word(&s[g.lower..g.upper], 0, rank * g.w / 64 + 1)"], "words of the lower run"),
     LOOK: Read(["runs::run_word(s, upper, k)"], "the word of the upper run that is counted"),
 }
 

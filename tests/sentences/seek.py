@@ -1,6 +1,6 @@
 """Sentences about the seek's crates: who reads the upper run there, and what becomes of the one counter of looks."""
 from reading import flow, tree
-from sentences.names import FRESH, LOOK, LOW_PART, OF_SEEK, POINTER, RUN_BITS, RUN_WORD, SEEK, for_seek, of_seek
+from sentences.names import FRESH, LOOK, LOW_PART, OF_SEEK, POINTER, RUN_WORD, SEEK, of_seek
 
 NUMBERS = {
     "walklaws::Cursor": {"mark": "u32", "bit": "u32", "seeks": "u32", "looks": "u32"},
@@ -35,10 +35,10 @@ def steps_stay_within(program):
 
 
 def bytes_go_whole(program):
-    """In the seek's crates the list's bytes go whole to functions of theirs, to `pointer_at` and to `value_at` with its
-    `low_at`; that alone cuts them, to the lower run, and has bits of that."""
-    own = [f.path for f in for_seek(program)]
-    for f in for_seek(program):
+    """In the seek's crates the list's bytes go whole to functions of theirs and to `reading::pointer_at`; `low_part`
+    alone cuts them, to the lower run, and reads words of that."""
+    own = [f.path for f in of_seek(program)]
+    for f in of_seek(program):
         for use in flow.Bytes(program, f).uses():
             callee = program.callee(f, use.node) if use.what == "handed" else ""
             whole = isinstance(use.bytes, tree.Name) and use.bytes.path in f.of_type("&[u8]")
@@ -49,17 +49,17 @@ def bytes_go_whole(program):
 
 
 def is_lower_run(f, use, callee):
-    """Whether a use is the cut from `lower` to `upper` of the shape, its name, or bits read from it."""
+    """Whether a use is the cut from `lower` to `upper` of the shape, its name, or a word read from it."""
     runs = [f"{s}[{g}.lower..{g}.upper]" for s in f.of_type("&[u8]") for g in f.of_type("Shape")]
     cut = use.node if use.what == "cut" else use.bytes
     text = str(flow.followed(cut, flow.named(f))).removeprefix("&")
-    return text in runs and (use.what in ("cut", "named") or callee == RUN_BITS)
+    return text in runs and (use.what in ("cut", "named") or callee == RUN_WORD)
 
 
 def given_things_stay(program):
-    """In the seek's crates, `value_at` and `low_at` no parameter changes or has its name taken, and only whole locals
-    are assigned to, and the count in `look`."""
-    for f in for_seek(program):
+    """In the seek's crates no parameter changes or has its name taken, and only whole locals are assigned to, and the
+    count in `look`."""
+    for f in of_seek(program):
         for p in f.parameters:
             if p.mutable or flow.bound(f).count(p.name) > 1:
                 yield f"{f.path}: the parameter {p.name} can change"
@@ -69,9 +69,8 @@ def given_things_stay(program):
 
 
 def shape_goes_whole(program):
-    """In the seek's crates, `value_at` and `low_at` no shape is made, and each function hands on the shape that it was
-    given."""
-    for f in for_seek(program):
+    """In the seek's crates no shape is made, and each function hands on the shape that it was given."""
+    for f in of_seek(program):
         for made in tree.every(tree.Made, f.body):
             if program.meaning(f.crate, made.type) == "shape::Shape":
                 yield f"{f.path}: it makes a shape"
