@@ -304,7 +304,12 @@ fn bad_names_in_a_listing_are_told_with_their_lines() {
             "listing:2: the positions of `bolt`: refused 4: ",
         ),
     ];
-    let folder = Folder::new("bad_names");
+    each_listing_is_refused("bad_names", &cases);
+}
+
+/// Each listing is refused with the text beside it, and leaves nothing.
+fn each_listing_is_refused(name: &str, cases: &[(&str, &str)]) {
+    let folder = Folder::new(name);
     for (listing, expected) in cases {
         folder.write("listing", listing);
         let made = folder.run(&["make", "listing", "card"]);
@@ -332,15 +337,7 @@ fn bad_listings_are_told_with_their_line_and_leave_nothing() {
         ),
         ("pages 4\n\u{e9}:0\n", "listing:2: `\u{e9}` is not a number"),
     ];
-    let folder = Folder::new("bad_listings");
-    for (listing, expected) in cases {
-        folder.write("listing", listing);
-        let made = folder.run(&["make", "listing", "card"]);
-        let told = made.errors.strip_prefix("jundefola: ").unwrap();
-        assert!(told.starts_with(expected), "{listing:?}: {told}");
-        assert_eq!(made.status, 1);
-        assert_eq!(folder.names(), ["listing"]);
-    }
+    each_listing_is_refused("bad_listings", &cases);
 }
 
 #[test]
