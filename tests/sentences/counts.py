@@ -7,7 +7,7 @@ from sentences.names import FRESH, LOOK, LOOKING, LOOP, SEEK, SEEK_IN
 COUNTS = {
     FRESH: ["seeks: 0", "looks: 0"],
     SEEK: ["c.looks", "seeks: c.seeks + 1", "c.seeks", "looks: looks"],
-    "query::totals": ["c.seeks", "c.looks", "seeks: seeks", "looks: looks"],
+    "rows::totals": ["c.seeks", "c.looks", "seeks: seeks", "looks: looks"],
     "bycommon::put_common": ["listed.seeks", "listed.looks"],
 }
 # the structs that hold counts
@@ -16,9 +16,9 @@ COUNTING = ["walklaws::Cursor", "querylaws::Listed"]
 MADE = {
     "walklaws::Cursor": [FRESH, SEEK],
     "querylaws::Query": ["querylaws::Query::new"],
-    "querylaws::InHand": [LOOP],
+    "query::InHand": [LOOP],
     "querylaws::Turn": [LOOP, LOOP, "query::list_common"],
-    "querylaws::Listed": ["query::totals"],
+    "querylaws::Listed": ["rows::totals"],
 }
 # every place from which a function is called that looks, that makes, moves or sums up cursors, or that answers by them
 CALLS = {
@@ -28,7 +28,7 @@ CALLS = {
     "querylaws::Query::new": ["query::list_common", "kinds::by_bound", "pairs::list_starts"],
     SEEK_IN: [LOOP],
     LOOP: ["query::list_common", "kinds::by_bound", "pairs::list_starts"],  # kinds 3, 2 and 4
-    "query::totals": ["query::list_common"],
+    "rows::totals": ["query::list_common"],
     # pages are counted first where the room may be too small for them
     "query::list_common": ["bycommon::by_common", "bycommon::put_common"],
     "bycommon::put_common": ["bycommon::by_common", "bycommon::by_common"],

@@ -19,13 +19,13 @@ READING = ["numbers", "runs"]
 RUN_WORD = "runs::run_word"
 
 # one seek by the cursor in hand, and the one loop that makes seeks
-SEEK_IN = "inhand::seek_in"
+SEEK_IN = "query::seek_in"
 LOOP = "query::next_common"
 
 # the way from the card's check to the kinds of questions, and those
 ANSWERS = ["ask::answer_all", "answer::answer_one"]
 KIND_3 = "bycommon::by_common"
-KINDS = [KIND_3, "kinds::by_bound", "kinds::by_rank", "phrases::by_phrase"]
+KINDS = [KIND_3, "kinds::by_bound", "kinds::by_rank", "answer::by_phrase"]
 
 
 def of_seek(program):

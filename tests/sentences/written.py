@@ -8,9 +8,9 @@ pub fn look(s: &[u8], upper: usize, k: usize, looks: &mut u32) -> u64 {
     runs::run_word(s, upper, k)
 }
 """
-# the plain sums of the cursors' counts, and the walk from page to page that they are summed up of
+# the plain sums of the cursors' counts
 SUMS = """
-fn totals(q: Query, found: usize) -> Listed {
+pub fn totals(q: Query, found: usize) -> Listed {
     let mut seeks = 0;
     let mut looks = 0;
     let mut i = 0;
@@ -22,6 +22,9 @@ fn totals(q: Query, found: usize) -> Listed {
     }
     Listed { found, seeks, looks }
 }
+"""
+# the walk from page to page that they are summed up of
+PAGES = """
 pub fn list_common(card: &[u8], shapes: &[u32], k: usize, room: &mut [u32]) -> Listed {
     let q = Query::new();
     let mut turn = Turn { q, mark: 0 };
@@ -29,7 +32,7 @@ pub fn list_common(card: &[u8], shapes: &[u32], k: usize, room: &mut [u32]) -> L
     loop {
         turn = next_common(card, shapes, turn.q, k, turn.mark as usize);
         if turn.mark == SPENT {
-            return totals(turn.q, found);
+            return rows::totals(turn.q, found);
         }
         put(room, found, turn.mark - 1);
         found += 1;
@@ -49,7 +52,7 @@ pub fn by_common(card: &[u8], terms: &[u32], room: &mut [u32]) -> usize {
     let k = terms.len();
     let mut shapes = [0u32; 64];
     wordlists::open_pages(card, terms, &mut shapes);
-    if inhand::number(&shapes, 0, LENGTH) + 3 <= room.len() {
+    if rows::number(&shapes, 0, LENGTH) + 3 <= room.len() {
         return put_common(card, &shapes, k, room);
     }
     let mut none = [0u32; 0];
@@ -73,7 +76,7 @@ pub fn blocks_from(s: &[u8], from: usize, k: usize) -> &[u8] {
     rest
 }
 """
-WRITTEN = {f.path: f for crate, text in [("looks", LOOK), ("query", SUMS), ("bycommon", TOLD), ("parts", WALK)]
+WRITTEN = {f.path: f for crate, text in [("looks", LOOK), ("rows", SUMS), ("query", PAGES), ("bycommon", TOLD), ("parts", WALK)]
            for f in read(crate, text).functions.values()}
 
 

@@ -1,11 +1,47 @@
-// The answer to one question, by its kind.
+// Kind 4, the pages on which a phrase starts, and the answer to one question by its kind.
 
 ghost use mathlib.Core.Path.{_≡_};
 ghost use mathlib.Core.Bool.{true};
+ghost use lib.ListN.{length};
 ghost use Rattle.rules.specs.declared.Refusal.the-variants.{Accepted};
 ghost use Rattle.rules.specs.Index.{indexT, indexRefusal};
-ghost use Rattle.rules.specs.Questions.{answer, goodQuestion};
+ghost use Rattle.rules.specs.Questions.{wordsIn, byPhrase, answer, goodQuestion};
+ghost use Rattle.questions.specs.Formed.{wordsGood};
 ghost use Rattle.questions.specs.Wrote.{Wrote};
+ghost use Rattle.triallaws.specs.Asked.{AskedIn};
+use triallaws::COUNTS;
+use triallaws::LEAD;
+use triallaws::POSITIONS;
+
+// Finds the words' terms on one way, and opens their lists into the row.
+fn open_phrase(card: &[u8], terms: &[u32], lists: &mut [u32])
+    requires { ⌜ (indexRefusal (now card) ≡ Accepted) × (wordsGood (indexT (now card)) (now terms) ≡ true)
+        × (length (now lists) ≡ 193) ⌝ }
+    ensures { λ _. ⌜ AskedIn (now (card .entry)) (now (terms .entry)) (now (lists .exit)) ⌝ }
+{
+    let mut starts = [0usize; 8];
+    findterms::find_terms(card, terms, &mut starts);
+    let lead = wordlists::open_found(card, terms, &starts, &mut lists[0..COUNTS]);
+    openwords::open_words(card, terms, &starts, 1, &mut lists[COUNTS..POSITIONS]);
+    openwords::open_words(card, terms, &starts, 2, &mut lists[POSITIONS..LEAD]);
+    lists[LEAD] = lead as u32;
+}
+
+// Kind 4: the pages with a start of the phrase, each with the number of its starts.
+fn by_phrase(card: &[u8], terms: &[u32], room: &mut [u32]) -> usize
+    requires { ⌜ (indexRefusal (now card) ≡ Accepted) × (wordsGood (indexT (now card)) (now terms) ≡ true) ⌝ }
+    ensures { λ r. ⌜ Wrote (byPhrase (wordsIn (now (card .entry)) (now (terms .entry)))) (now (room .entry)) r
+        (now (room .exit)) ⌝ }
+{
+    let mut lists = [0u32; 193];
+    open_phrase(card, terms, &mut lists);
+    if !pairs::fits(card, terms, &lists, room.len()) {
+        return 0;
+    }
+    let found = pairs::list_starts(card, terms, &lists, room);
+    room[0] = found as u32;
+    found + 1
+}
 
 // The answer of a question that may be asked, whole at the front of the room; 0 where it does not fit.
 pub fn answer_one(card: &[u8], kind: u32, args: &[u32], room: &mut [u32]) -> usize
@@ -22,5 +58,5 @@ pub fn answer_one(card: &[u8], kind: u32, args: &[u32], room: &mut [u32]) -> usi
     if kind == 3 {
         return bycommon::by_common(card, args, room);
     }
-    phrases::by_phrase(card, args, room)
+    by_phrase(card, args, room)
 }

@@ -38,7 +38,7 @@ pub fn by_common(card: &[u8], terms: &[u32], room: &mut [u32]) -> usize
     let k = terms.len();
     let mut shapes = [0u32; 64];
     wordlists::open_pages(card, terms, &mut shapes);
-    if inhand::number(&shapes, 0, LENGTH) + 3 <= room.len() {
+    if rows::number(&shapes, 0, LENGTH) + 3 <= room.len() {
         return put_common(card, &shapes, k, room);
     }
     let mut none = [0u32; 0];

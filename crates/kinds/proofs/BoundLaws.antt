@@ -19,8 +19,8 @@ use Rattle.querylaws.proofs.RunLaws.{lead-ready, others-ready, came}
 use Rattle.querylaws.proofs.NewLaws.{new-running}
 use Rattle.querylaws.proofs.TurnLaws.{turned-none, turned-page}
 use Rattle.kinds.specs.Alone.{OpenedAlone}
-use Rattle.kinds.specs.Ranks.{rankBy}
-use Rattle.kinds.proofs.RankLaws.{turned-ranked}
+use Rattle.querylaws.specs.Ranks.{rankBy}
+use Rattle.querylaws.proofs.RankLaws.{turned-ranked}
 
 by-none : (xs : List ℕ) (b : ℕ) → firstFrom b 0 xs ≡ none → byBound xs b ≡ 0 ∷ []
 unfolding byBound numbered

@@ -1,4 +1,3 @@
 pub mod KindLaws
-pub mod RankLaws
 pub mod BoundLaws
 pub mod AloneLaws

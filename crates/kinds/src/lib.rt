@@ -10,9 +10,7 @@ ghost use Rattle.rules.specs.Index.{indexT, termPart, indexRefusal};
 ghost use Rattle.rules.specs.Questions.{pagesIn, byRank, byBound};
 ghost use Rattle.questions.specs.Wrote.{Wrote};
 ghost use Rattle.kinds.specs.Alone.{OpenedAlone};
-ghost use Rattle.kinds.specs.Ranks.{rankBy, OnElement};
 use querylaws::Query;
-use querylaws::WIDTH;
 use walklaws::SPENT;
 
 // Puts an answer whole at the front of the room; 0 where it does not fit.
@@ -61,15 +59,6 @@ pub fn by_rank(card: &[u8], t: usize, rank: usize, room: &mut [u32]) -> usize
     put_ranked(pages_in(card, t), rank, room)
 }
 
-// The rank of the page that cursor i of a query is on, in its list.
-pub fn rank_in(shapes: &[u32], q: Query, i: usize) -> usize
-    requires { ⌜ (length (now shapes) ≡ 64) × (i < 8) × (length (q .cursors) ≡ 8) × OnElement (now shapes) q i ⌝ }
-    ensures { λ r. ⌜ r ≡ rankBy (now (shapes .entry)) q i ⌝ }
-{
-    let c = q.cursors[i];
-    c.bit as usize - ((c.mark as usize - 1) >> inhand::number(shapes, i, WIDTH))
-}
-
 // Opens a list of pages as the one list of a query over its own bytes.
 fn open_alone(pages: &[u8], shapes: &mut [u32])
     requires { ⌜ (listRefusal (now pages) ≡ Accepted) × (length (now shapes) ≡ 64) ⌝ }
@@ -91,6 +80,6 @@ pub fn by_bound(card: &[u8], t: u32, bound: usize, room: &mut [u32]) -> usize
     if turn.mark == SPENT {
         return put(&[0], room);
     }
-    let rank = rank_in(&shapes, turn.q, 0);
+    let rank = rows::rank_in(&shapes, turn.q, 0);
     put(&[2, turn.mark - 1, rank as u32], room)
 }

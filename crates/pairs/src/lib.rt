@@ -1,11 +1,13 @@
-// The pages on which a phrase starts, each with its starts.
+// The pages on which a phrase starts, each with its starts, and whether they fit a room.
 
 ghost use mathlib.Core.Path.{_≡_};
 ghost use Prim.Native.Nat.{_^_, _<_};
+ghost use lib.Dec.{ltb};
 ghost use lib.ListN.{length};
 ghost use mathlib.Core.List.{_∷_};
 ghost use Rattle.rules.specs.Write.{laid};
 ghost use Rattle.triallaws.specs.Asked.{foundIn, AskedIn};
+use querylaws::LENGTH;
 use querylaws::Query;
 use triallaws::COUNTS;
 use walklaws::SPENT;
@@ -32,4 +34,16 @@ pub fn list_starts(card: &[u8], terms: &[u32], lists: &[u32], room: &mut [u32]) 
         q = turn.q;
         b = turn.mark as usize;
     }
+}
+
+// Whether the answer fits so many numbers; it is counted only where two numbers for each page of the lead may not fit.
+pub fn fits(card: &[u8], terms: &[u32], lists: &[u32], size: usize) -> bool
+    requires { ⌜ AskedIn (now card) (now terms) (now lists) ⌝ }
+    ensures { λ r. ⌜ r ≡ ltb (length (foundIn (now (card .entry)) (now (terms .entry)))) size ⌝ }
+{
+    if 2 * rows::number(&lists[0..COUNTS], 0, LENGTH) < size {
+        return true;
+    }
+    let mut none = [0u32; 1];
+    list_starts(card, terms, lists, &mut none) < size
 }

@@ -47,8 +47,8 @@ fn part_at<'a>(card: &'a [u8], shapes: &[u32], i: usize) -> &'a [u8]
     requires { ⌜ BlockAt (now card) (now shapes) i ⌝ }
     ensures { λ r. ⌜ now r ≡ partAt (now (card .entry)) (now (shapes .entry)) i ⌝ }
 {
-    let from = inhand::number(shapes, i, querylaws::FROM);
-    let to = inhand::number(shapes, i, querylaws::TO);
+    let from = rows::number(shapes, i, querylaws::FROM);
+    let to = rows::number(shapes, i, querylaws::TO);
     &card[from..to]
 }
 
@@ -69,7 +69,7 @@ pub fn ranks_at(card: &[u8], counts: &[u32], i: usize, rank: usize, words: &mut 
         (now (words .exit)) ⌝ }
 {
     let block = part_at(card, counts, i);
-    let g = inhand::shape_in(counts, i);
+    let g = rows::shape_in(counts, i);
     let w = span::pass_to(block, g, walk_at(words, 8 * i), rank);
     let v = span::pass_one(block, g, w);
     put_walk(words, 8 * i, v);
@@ -89,7 +89,7 @@ pub fn turn_to(card: &[u8], shapes: &[u32], i: usize, x: Ranks, words: &mut [usi
     let w = walk_at(words, 8 * i + POSITIONS);
     let v = span::pass_to(
         part_at(card, shapes, i),
-        inhand::shape_in(shapes, i),
+        rows::shape_in(shapes, i),
         w,
         x.from,
     );
@@ -112,7 +112,7 @@ fn pass_on(card: &[u8], shapes: &[u32], i: usize, b: usize, words: &mut [usize])
     }
     let v = span::pass_below(
         part_at(card, shapes, i),
-        inhand::shape_in(shapes, i),
+        rows::shape_in(shapes, i),
         w,
         words[8 * i + END],
         b,

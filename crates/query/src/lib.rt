@@ -2,15 +2,16 @@
 // are lent beside it.
 
 ghost use mathlib.Core.Path.{_≡_};
-ghost use Prim.Native.Nat.{_^_, _<_};
-ghost use lib.ListN.{length, set};
+ghost use lib.ListN.{set};
 ghost use Rattle.querylaws.specs.Lists.{Lists};
-ghost use Rattle.querylaws.specs.Queries.{seeksOf, looksOf, Running, Turned};
+ghost use Rattle.querylaws.specs.Queries.{movedIn, Seekable, Running, Turned};
 ghost use Rattle.querylaws.specs.Listings.{wholeIn, laidWithin, Tells};
-use querylaws::InHand;
+use querylaws::FROM;
 use querylaws::Listed;
 use querylaws::Query;
+use querylaws::TO;
 use querylaws::Turn;
+use walklaws::Cursor;
 use walklaws::SPENT;
 
 // Stores a page at the place at, if the room goes as far.
@@ -20,6 +21,24 @@ fn put(room: &mut [u32], at: usize, page: u32)
     if at < room.len() {
         room[at] = page;
     }
+}
+
+// The query, and the cursor of it that is in hand.
+struct InHand {
+    q: Query,
+    hand: Cursor,
+}
+
+// A seek for b on list i, by the cursor in hand: the query comes back as it was, and the hand moved.
+fn seek_in(card: &[u8], shapes: &[u32], mut s: InHand, i: usize, b: usize) -> InHand
+    requires { ⌜ Seekable (now card) (now shapes) i (s .hand) ⌝ }
+    ensures { λ r. ⌜ (r .q ≡ s .q) × (r .hand ≡ movedIn (now (card .entry)) (now (shapes .entry)) i (s .hand) b) ⌝ }
+{
+    let from = rows::number(shapes, i, FROM);
+    let to = rows::number(shapes, i, TO);
+    let c = seek::seek(&card[from..to], rows::shape_in(shapes, i), s.hand, b);
+    s.hand = c;
+    s
 }
 
 // The next page at or above the bound that the first k lists share; with one list, a plain seek. It is the one loop of
@@ -33,7 +52,7 @@ pub fn next_common(card: &[u8], shapes: &[u32], query: Query, k: usize, bound: u
     let mut i = 0;
     loop {
         let hand = q.cursors[i];
-        let s = inhand::seek_in(card, shapes, InHand { q, hand }, i, b);
+        let s = seek_in(card, shapes, InHand { q, hand }, i, b);
         let back = s.q;
         q = back;
         let c = s.hand;
@@ -56,27 +75,6 @@ pub fn next_common(card: &[u8], shapes: &[u32], query: Query, k: usize, bound: u
     }
 }
 
-// The seeks and looks of all cursors.
-fn totals(q: Query, found: usize) -> Listed
-    requires { ⌜ (length (q .cursors) ≡ 8) × (seeksOf q < 2 ^ 32) × (looksOf q < 2 ^ 32) ⌝ }
-    ensures { λ r. ⌜ (r .found ≡ found) × (r .seeks ≡ seeksOf q) × (r .looks ≡ looksOf q) ⌝ }
-{
-    let mut seeks = 0;
-    let mut looks = 0;
-    let mut i = 0;
-    while i < 8 {
-        let c = q.cursors[i];
-        seeks += c.seeks;
-        looks += c.looks;
-        i += 1;
-    }
-    Listed {
-        found,
-        seeks,
-        looks,
-    }
-}
-
 // Counts the pages that the first k lists share, and lists them at the room's front, as far as it goes.
 pub fn list_common(card: &[u8], shapes: &[u32], k: usize, room: &mut [u32]) -> Listed
     requires { ⌜ Lists (now card) (now shapes) k ⌝ }
@@ -90,7 +88,7 @@ pub fn list_common(card: &[u8], shapes: &[u32], k: usize, room: &mut [u32]) -> L
     loop {
         turn = next_common(card, shapes, turn.q, k, turn.mark as usize);
         if turn.mark == SPENT {
-            return totals(turn.q, found);
+            return rows::totals(turn.q, found);
         }
         put(room, found, turn.mark - 1);
         found += 1;

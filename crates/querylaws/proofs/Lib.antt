@@ -6,3 +6,4 @@ pub mod RunLaws
 pub mod TurnLaws
 pub mod NewLaws
 pub mod ListingLaws
+pub mod RankLaws

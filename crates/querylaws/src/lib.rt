@@ -38,12 +38,6 @@ impl Query {
     }
 }
 
-// The query, and the cursor of it that is in hand.
-pub struct InHand {
-    pub q: Query,
-    pub hand: Cursor,
-}
-
 // A query, and the mark of a page: page + 1, or SPENT.
 pub struct Turn {
     pub q: Query,

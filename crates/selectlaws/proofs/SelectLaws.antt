@@ -48,37 +48,39 @@ place-drop (suc k) x j h =
 
 -- ---- the counts of the bytes
 
--- `(x >> s) & m` byte by byte, where m has no bit that a higher byte could bring
-shift-byte : (s t x l m M : ℕ) → s + t ≡ 8 → l < 2 ^ 8 → m < 2 ^ t
-    → bitAnd ((x * 2 ^ 8 + l) / 2 ^ s) (M * 2 ^ 8 + m) ≡ bitAnd (x / 2 ^ s) M * 2 ^ 8 + bitAnd (l / 2 ^ s) m
-shift-byte s t x l m M e hl hm =
-    let w : 2 ^ s * 2 ^ t ≡ 2 ^ 8 = sym (pow-add 2 s t) ∙ ap (λ (n : ℕ). 2 ^ n) e in
-    let n : t + s ≡ 8 = omega arith in
+-- `(x >> s) & m` by parts of k bits, where m has no bit that a higher part could bring
+shift-part : (k s t x l m M : ℕ) → s + t ≡ k → l < 2 ^ k → m < 2 ^ t
+    → bitAnd ((x * 2 ^ k + l) / 2 ^ s) (M * 2 ^ k + m) ≡ bitAnd (x / 2 ^ s) M * 2 ^ k + bitAnd (l / 2 ^ s) m
+shift-part k s t x l m M e hl hm =
+    let w : 2 ^ s * 2 ^ t ≡ 2 ^ k = sym (pow-add 2 s t) ∙ ap (λ (n : ℕ). 2 ^ n) e in
+    let n : t + s ≡ k = omega arith in
     let u : ℕ = x % 2 ^ s in
     let v : ℕ = l / 2 ^ s in
     let hv : v < 2 ^ t = shr-lt t s (rw n hl) in
-    let low : u * 2 ^ t + v < 2 ^ 8 = subst (λ (c : ℕ). u * 2 ^ t + v < c) w (digits-lt (mod-lt x (pow-pos s)) hv) in
-    let top : x * 2 ^ t ≡ x / 2 ^ s * 2 ^ 8 + u * 2 ^ t =
+    let low : u * 2 ^ t + v < 2 ^ k = subst (λ (c : ℕ). u * 2 ^ t + v < c) w (digits-lt (mod-lt x (pow-pos s)) hv) in
+    let top : x * 2 ^ t ≡ x / 2 ^ s * 2 ^ k + u * 2 ^ t =
     ap (λ (y : ℕ). y * 2 ^ t) (sym (split x s)) ∙ add-mul (x / 2 ^ s * 2 ^ s) u (2 ^ t) ∙ rw (mul-assoc, w) in
-    let q : (x * 2 ^ 8 + l) / 2 ^ s ≡ x / 2 ^ s * 2 ^ 8 + (u * 2 ^ t + v) =
+    let q : (x * 2 ^ k + l) / 2 ^ s ≡ x / 2 ^ s * 2 ^ k + (u * 2 ^ t + v) =
     rw n at (drop-low x l t s) ∙ omega (arith, top) in
     let a : bitAnd (u * 2 ^ t + v) (0 * 2 ^ t + m) ≡ bitAnd v m =
     and-block t u 0 v m hv hm ∙ rw and-zero-r (omega arith) in
     let z : 0 * 2 ^ t + m ≡ m = omega arith in
     let a' : bitAnd (u * 2 ^ t + v) m ≡ bitAnd v m = subst (λ (y : ℕ). bitAnd (u * 2 ^ t + v) y ≡ bitAnd v m) z a in
-    ap (λ (y : ℕ). bitAnd y (M * 2 ^ 8 + m)) q
-    ∙ and-block 8 (x / 2 ^ s) M (u * 2 ^ t + v) m low (lt-of-lt-of-le hm (pow-mono {j = 8} (omega arith)))
-    ∙ ap (λ (y : ℕ). bitAnd (x / 2 ^ s) M * 2 ^ 8 + y) a'
+    ap (λ (y : ℕ). bitAnd y (M * 2 ^ k + m)) q
+    ∙ and-block k (x / 2 ^ s) M (u * 2 ^ t + v) m low (lt-of-lt-of-le hm (pow-mono {j = k} (omega arith)))
+    ∙ ap (λ (y : ℕ). bitAnd (x / 2 ^ s) M * 2 ^ k + y) a'
 
 -- `(x & m) + ((x >> s) & m)`
 abbrev pub folded : ℕ → ℕ → ℕ → ℕ
 folded s m x = bitAnd x m + bitAnd (x / 2 ^ s) m
 
-folded-byte : (s t x l m M : ℕ) → s + t ≡ 8 → l < 2 ^ 8 → m < 2 ^ t
-    → folded s (M * 2 ^ 8 + m) (x * 2 ^ 8 + l) ≡ folded s M x * 2 ^ 8 + folded s m l
-folded-byte s t x l m M e hl hm =
-    let lo : m < 2 ^ 8 = lt-of-lt-of-le hm (pow-mono {j = 8} (omega arith)) in
-    omega (arith, and-block 8 x M l m hl lo, shift-byte s t x l m M e hl hm)
+folded-part : (k s t x l m M : ℕ) → s + t ≡ k → l < 2 ^ k → m < 2 ^ t
+    → folded s (M * 2 ^ k + m) (x * 2 ^ k + l) ≡ folded s M x * 2 ^ k + folded s m l
+folded-part k s t x l m M e hl hm =
+    let lo : m < 2 ^ k = lt-of-lt-of-le hm (pow-mono {j = k} (omega arith)) in
+    let a = and-block k x M l m hl lo in
+    let b = shift-part k s t x l m M e hl hm in
+    ap₂ (λ (y z : ℕ). y + z) a b ∙ omega (arith, add-mul (bitAnd x M) (bitAnd (x / 2 ^ s) M) (2 ^ k))
 
 pub folded-le : (s m x : ℕ) → folded s m x ≤ m + m
 folded-le s m x = omega (arith, and-le-r x m, and-le-r (x / 2 ^ s) m)
@@ -110,10 +112,34 @@ every-at (suc n) f t i h =
           subst (λ (m : ℕ). T (f m)) e (both (f n) (every n f) t .0)
     ]
 
-byte-count : (l : ℕ) → l < 256 → folded 4 15 (folded 2 51 (folded 1 85 l)) ≡ ones l
+-- half a byte, by a computed test
+half-count : (l : ℕ) → l < 16 → folded 2 3 (folded 1 5 l) ≡ ones l
 unfolding every ones
-byte-count l h = eqb→eq (folded 4 15 (folded 2 51 (folded 1 85 l))) (ones l)
-    (every-at 256 (λ i. eqb (folded 4 15 (folded 2 51 (folded 1 85 i))) (ones i)) tt l h)
+half-count l h = eqb→eq (folded 2 3 (folded 1 5 l)) (ones l)
+    (every-at 16 (λ i. eqb (folded 2 3 (folded 1 5 i)) (ones i)) tt l h)
+
+byte-count : (l : ℕ) → l < 256 → folded 4 15 (folded 2 51 (folded 1 85 l)) ≡ ones l
+byte-count l b =
+    let h : ℕ = l / 16 in
+    let n : ℕ = l % 16 in
+    let hn : n < 16 = mod-lt l (pow-pos 4) in
+    let hh : h < 16 = omega arith in
+    let A : ℕ = folded 2 3 (folded 1 5 h) in
+    let B : ℕ = folded 2 3 (folded 1 5 n) in
+    let p : folded 1 85 l ≡ folded 1 5 h * 16 + folded 1 5 n =
+    ap (folded 1 85) (sym (split l 4)) ∙ folded-part 4 1 3 h n 5 5 refl hn (lit< tt) in
+    let q : folded 2 51 (folded 1 5 h * 16 + folded 1 5 n) ≡ A * 16 + B =
+    folded-part 4 2 2 (folded 1 5 h) (folded 1 5 n) 3 3 refl (omega (arith, folded-le 1 5 n)) (lit< tt) in
+    let a : A < 16 = omega (arith, folded-le 2 3 (folded 1 5 h)) in
+    let c : B < 16 = omega (arith, folded-le 2 3 (folded 1 5 n)) in
+    let low : bitAnd (A * 16 + B) 15 ≡ B = and-mask (A * 16 + B) 4 ∙ omega arith in
+    let up : (A * 16 + B) / 16 ≡ A = omega arith in
+    let o : ones l ≡ ones n + ones h = sym (ap ones (mod-eq-of-lt b)) ∙ ones-parts l 4 4
+    ∙ ap (λ (y : ℕ). ones n + ones y) (mod-eq-of-lt hh) in
+    let high : bitAnd A 15 ≡ A = and-mask A 4 ∙ mod-eq-of-lt a in
+    ap (λ (y : ℕ). folded 4 15 (folded 2 51 y)) p ∙ ap (folded 4 15) q
+    ∙ ap₂ (λ (y z : ℕ). y + z) low (ap (λ (y : ℕ). bitAnd y 15) up ∙ high)
+    ∙ omega (arith, half-count h hh, half-count n hn, o)
 
 pub counted-is : (m x : ℕ) → counted m x ≡ byteOnes m x
 unfolding byteOnes
@@ -123,10 +149,10 @@ counted-is (suc m) x =
     let l : ℕ = x % 256 in
     let hl : l < 256 = mod-lt x (pow-pos 8) in
     let a : folded 1 (each (suc m) 85) x ≡ folded 1 (each m 85) h * 256 + folded 1 85 l =
-    ap (folded 1 (each (suc m) 85)) (sym (split x 8)) ∙ folded-byte 1 7 h l 85 (each m 85) refl hl (lit< tt) in
-    let b = folded-byte 2 6 (folded 1 (each m 85) h) (folded 1 85 l) 51 (each m 51) refl
+    ap (folded 1 (each (suc m) 85)) (sym (split x 8)) ∙ folded-part 8 1 7 h l 85 (each m 85) refl hl (lit< tt) in
+    let b = folded-part 8 2 6 (folded 1 (each m 85) h) (folded 1 85 l) 51 (each m 51) refl
     (folded-lt 1 85 l (lit< tt)) (lit< tt) in
-    let c = folded-byte 4 4 (folded 2 (each m 51) (folded 1 (each m 85) h))
+    let c = folded-part 8 4 4 (folded 2 (each m 51) (folded 1 (each m 85) h))
     (folded 2 51 (folded 1 85 l)) 15 (each m 15) refl (folded-lt 2 51 (folded 1 85 l) (lit< tt)) (lit< tt) in
     ap (λ (y : ℕ). folded 4 (each (suc m) 15) (folded 2 (each (suc m) 51) y)) a ∙ ap (folded 4 (each (suc m) 15)) b ∙ c
     ∙ ap₂ (λ (y z : ℕ). y * 256 + z) (counted-is m h) (byte-count l hl)

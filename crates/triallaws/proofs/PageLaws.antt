@@ -28,8 +28,8 @@ use Rattle.phrase.specs.Words.{elementsAt, walkAt, countWalk, positionWalk, ran
 use Rattle.phrase.proofs.WordLaws.{counts-rest}
 use Rattle.phrase.proofs.Theorems.{lone-starts}
 use Rattle.openlists.specs.Places.{slotOf}
-use Rattle.kinds.specs.Ranks.{rankBy}
-use Rattle.kinds.proofs.RankLaws.{all-on}
+use Rattle.querylaws.specs.Ranks.{rankBy}
+use Rattle.querylaws.proofs.RankLaws.{all-on}
 use Rattle.triallaws.specs.Asked.{termAt, newWords, Asked, OnAll, Ahead}
 use Rattle.triallaws.proofs.RankLaws.{is-ranked, page-there, from-is, to-is, positions-small}
 

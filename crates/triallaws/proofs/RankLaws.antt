@@ -29,8 +29,8 @@ use Rattle.openlists.specs.Places.{sourceOf, slotOf}
 use Rattle.openlists.proofs.SourceLaws.{slot-lt, source-slot}
 use Rattle.wordlists.specs.Lying.{listOf}
 use Rattle.wordlists.proofs.OpenLaws.{lead-within, slot-pages}
-use Rattle.kinds.specs.Ranks.{rankBy}
-use Rattle.kinds.proofs.RankLaws.{Ranked, ranked}
+use Rattle.querylaws.specs.Ranks.{rankBy}
+use Rattle.querylaws.proofs.RankLaws.{Ranked, ranked}
 use Rattle.trial.specs.declared.Trial.{Trial}
 use Rattle.triallaws.specs.Asked.{termAt, Asked, OnAll, AheadOf, TurnedTo, Trying}
 

@@ -28,7 +28,7 @@ use Rattle.phrase.proofs.Theorems.{words-map, page-positions, page-bounds, posi
 use Rattle.openlists.specs.Places.{sourceOf, slotOf}
 use Rattle.openlists.proofs.SourceLaws.{slot-lt, source-lt, source-slot, slot-source}
 use Rattle.wordlists.proofs.OpenLaws.{lead-within}
-use Rattle.kinds.specs.Ranks.{rankBy}
+use Rattle.querylaws.specs.Ranks.{rankBy}
 use Rattle.trial.specs.declared.Trial.{Trial}
 use Rattle.triallaws.specs.Asked.{termAt, positionsHere, pageHere, Asked, OnAll, AheadOf, Ahead, TurnedTo}
 use Rattle.trial.specs.Tries.{triedAt}

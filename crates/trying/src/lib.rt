@@ -29,7 +29,7 @@ pub fn turn_next(
         return at;
     }
     let i = openlists::source_of(lists[LEAD] as usize, at.standing);
-    let rank = kinds::rank_in(&lists[0..COUNTS], turn.q, at.standing);
+    let rank = rows::rank_in(&lists[0..COUNTS], turn.q, at.standing);
     let x = phrase::ranks_at(card, &lists[COUNTS..POSITIONS], i, rank, words);
     phrase::turn_to(card, &lists[POSITIONS..LEAD], i, x, words);
     Trial {

@@ -9,7 +9,7 @@ use Rattle.walklaws.specs.Cursors.{spentMark}
 use Rattle.querylaws.specs.Queries.{newQuery, Turned}
 use Rattle.querylaws.proofs.NewLaws.{new-running}
 use Rattle.kinds.proofs.KindLaws.{pages-are, pages-accepted}
-use Rattle.kinds.proofs.RankLaws.{Ranked, turned-ranked}
+use Rattle.querylaws.proofs.RankLaws.{Ranked, turned-ranked}
 use Rattle.kinds.proofs.BoundLaws.{bound-none, bound-marked, bound-some}
 use Rattle.kinds.proofs.by_bound.Statement.{statement}
 use Rattle.kinds.proofs.by_bound.Tie as tie

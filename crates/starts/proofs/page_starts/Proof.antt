@@ -3,7 +3,7 @@ use mathlib.Core.Path.{_≡_, sym, ap, _∙_}
 use native.Mathlib.Omega.{arith}
 use borrow.Author.Needs.{needs}
 use Rattle.openlists.specs.Places.{slotOf}
-use Rattle.kinds.specs.Ranks.{rankBy}
+use Rattle.querylaws.specs.Ranks.{rankBy}
 use Rattle.triallaws.specs.Asked.{pagesIn, leadIn}
 use Rattle.triallaws.proofs.RankLaws.{slot-within, asked-list, asked-rank, rank-ready}
 use Rattle.triallaws.proofs.PageLaws.{lone-counted}

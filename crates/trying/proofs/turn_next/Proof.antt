@@ -4,7 +4,7 @@ use Prim.Native.Nat.{_<_}
 use native.Mathlib.Omega.{arith}
 use borrow.Author.Needs.{needs}
 use lib.ListN.{length}
-use Rattle.kinds.specs.Ranks.{rankBy}
+use Rattle.querylaws.specs.Ranks.{rankBy}
 use Rattle.openlists.specs.Places.{slotOf}
 use Rattle.triallaws.specs.Asked.{pagesIn, leadIn}
 use Rattle.triallaws.proofs.RankLaws.{lead-few, asked-list, asked-rank, rank-ready, turn-ready, trying-turned}

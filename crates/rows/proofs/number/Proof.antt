@@ -2,8 +2,8 @@
 use Prim.Native.Nat.{_+_, _*_}
 use native.Mathlib.Omega.{arith}
 use borrow.Author.Needs.{needs}
-use Rattle.inhand.proofs.number.Statement.{statement}
-use Rattle.inhand.proofs.number.Tie as tie
+use Rattle.rows.proofs.number.Statement.{statement}
+use Rattle.rows.proofs.number.Tie as tie
 
 cast-result : tie.Need-cast-result
 cast-result c =

@@ -1,8 +1,8 @@
 -- `shape_in` makes a shape of a list's numbers.
 use borrow.Author.Needs.{needs}
 use Rattle.querylaws.specs.Lists.{shapeIn}
-use Rattle.inhand.proofs.shape_in.Statement.{statement}
-use Rattle.inhand.proofs.shape_in.Tie as tie
+use Rattle.rows.proofs.shape_in.Statement.{statement}
+use Rattle.rows.proofs.shape_in.Tie as tie
 
 returns : tie.Need-returns
 unfolding shapeIn

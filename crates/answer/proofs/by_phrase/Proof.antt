@@ -7,8 +7,8 @@ use Rattle.triallaws.specs.Asked.{foundIn}
 use borrow.Author.Tests.{ltb-true, not-true, not-false}
 use Rattle.triallaws.proofs.AnswerLaws.{answer-none, answer-whole, laid-some}
 use borrow.Author.Needs.{needs}
-use Rattle.phrases.proofs.by_phrase.Statement.{statement}
-use Rattle.phrases.proofs.by_phrase.Tie as tie
+use Rattle.answer.proofs.by_phrase.Statement.{statement}
+use Rattle.answer.proofs.by_phrase.Tie as tie
 
 returns : tie.Need-returns
 returns c =

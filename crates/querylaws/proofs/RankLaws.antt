@@ -13,15 +13,15 @@ use Rattle.readlaws.proofs.ReadLaws.{open-reads}
 use Rattle.walklaws.specs.Cursors.{spentMark, markOf, Held}
 use Rattle.walklaws.proofs.CursorLaws.{held-rule}
 use Rattle.walklaws.proofs.OpenLaws.{open-length, open-ruled}
 use Rattle.querylaws.specs.declared.Query.{Query}
 use Rattle.querylaws.specs.declared.Turn.{Turn}
 use Rattle.querylaws.specs.Lists.{span, numberOf, partAt, shapeIn, pagesAt, boundIn, ListAt}
 use Rattle.querylaws.specs.Queries.{cursorIn, readerAt, Apt, Turned}
 use Rattle.querylaws.proofs.ListLaws.{list-rises, list-within}
 use Rattle.querylaws.proofs.RunLaws.{came}
 use Rattle.querylaws.proofs.SpanLaws.{span-cons}
 use Rattle.querylaws.proofs.TurnLaws.{turned-page}
-use Rattle.kinds.specs.Ranks.{rankBy, OnElement}
+use Rattle.querylaws.specs.Ranks.{rankBy, OnElement}
 
 -- ---- one cursor on a page
 

@@ -6,8 +6,8 @@ use lib.ListN.{length}
 use borrow.Author.Needs.{needs}
 use Rattle.triallaws.specs.Asked.{foundIn}
 use Rattle.triallaws.proofs.PairLaws.{found-few}
-use Rattle.phrases.proofs.fits.Statement.{statement}
-use Rattle.phrases.proofs.fits.Tie as tie
+use Rattle.pairs.proofs.fits.Statement.{statement}
+use Rattle.pairs.proofs.fits.Tie as tie
 
 mul-if1 : tie.Need-mul-if1
 mul-if1 c = omega (arith, c .number .ensures, found-few _ _ _ _ _ _ (c .before .before .before .before .before .pre .asked) .1)

@@ -7,8 +7,8 @@ use lib.ListN.{drop}
 use Rattle.walklaws.specs.Cursors.{unused}
 use Rattle.querylaws.specs.Queries.{total, seeksOf, looksOf}
 use Rattle.querylaws.proofs.QueryLaws.{total-drop, total-none}
-use Rattle.query.proofs.totals.Statement.{statement}
-use Rattle.query.proofs.totals.Tie as tie
+use Rattle.rows.proofs.totals.Statement.{statement}
+use Rattle.rows.proofs.totals.Tie as tie
 
 abbrev Inv-loop : tie.InvT-loop
 Inv-loop found q seeks₀ looks₀ i₀ seeks looks i =

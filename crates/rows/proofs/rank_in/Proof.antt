@@ -1,9 +1,9 @@
 -- `rank_in` takes the zeros before the element's bit from the bit.
 use Rattle.walklaws.specs.Cursors.{unused}
-use Rattle.kinds.specs.Ranks.{rankBy}
+use Rattle.querylaws.specs.Ranks.{rankBy}
 use borrow.Author.Needs.{needs}
-use Rattle.kinds.proofs.rank_in.Statement.{statement}
-use Rattle.kinds.proofs.rank_in.Tie as tie
+use Rattle.rows.proofs.rank_in.Statement.{statement}
+use Rattle.rows.proofs.rank_in.Tie as tie
 
 sub-result : tie.Need-sub-result
 unfolding unused

@@ -2,8 +2,8 @@
 use mathlib.Core.Path.{refl}
 use borrow.Author.Needs.{needs}
 use Rattle.querylaws.specs.Lists.{partAt, pagesAt}
-use Rattle.inhand.proofs.seek_in.Statement.{statement}
-use Rattle.inhand.proofs.seek_in.Tie as tie
+use Rattle.query.proofs.seek_in.Statement.{statement}
+use Rattle.query.proofs.seek_in.Tie as tie
 
 seek-requires : tie.Need-seek-requires
 unfolding partAt pagesAt

@@ -7,8 +7,8 @@ use Rattle.wordlists.proofs.LyingLaws.{word-below}
 use Rattle.wordlists.proofs.OpenLaws.{lead-within}
 use Rattle.triallaws.proofs.RowLaws.{row-asked}
 use borrow.Author.Needs.{needs}
-use Rattle.phrases.proofs.open_phrase.Statement.{statement}
-use Rattle.phrases.proofs.open_phrase.Tie as tie
+use Rattle.answer.proofs.open_phrase.Statement.{statement}
+use Rattle.answer.proofs.open_phrase.Tie as tie
 
 find-terms-requires : tie.Need-find-terms-requires
 find-terms-requires c κs =
