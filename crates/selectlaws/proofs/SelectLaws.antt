@@ -359,22 +359,31 @@ spaced b = bitAnd ((bitAnd (b * each 8 1) 9241421688590303745 + each 8 127) / 2 
 pub spaced-fits : (b : ℕ) → bitAnd (b * each 8 1) 9241421688590303745 + each 8 127 < 2 ^ 64
 spaced-fits b = omega (arith, and-le-r (b * each 8 1) 9241421688590303745)
 
--- the first byte above j of the sums of these
+-- the sums of these, each byte with its highest bit set, and the first byte above j of such sums u
+abbrev raised : ℕ → ℕ
+raised b = bitOr (spaced b * each 8 1 % 2 ^ 64) (each 8 128)
+
 abbrev firstAbove : ℕ → ℕ → ℕ
-firstAbove b j = trailingZeros 64 (marked 8 (spaced b * each 8 1 % 2 ^ 64) j) / 8
+firstAbove u j = trailingZeros 64 (bitAnd (u - (j + 1) * each 8 1) (each 8 128)) / 8
 
+-- the test of a byte b; u is met as a number, and so is worked out once for all j
 sameByte : ℕ → ℕ → Bool
-sameByte b j = eqb (firstAbove b j) (placeOfOne 8 b j)
+sameByte b zero = false
+sameByte b (suc u) = every 8 (λ j. eqb (firstAbove (suc u) j) (placeOfOne 8 b j))
 
-byte-tests : T (every 256 (λ b. every 8 (sameByte b)))
+byte-tests : T (every 256 (λ b. sameByte b (raised b)))
 unfolding every sameByte trailingZeros placeOfOne
 byte-tests = tt
 
-byte-first : (b j : ℕ) → b < 256 → j < 8 → firstAbove b j ≡ placeOfOne 8 b j
+same-byte : (b u : ℕ) → T (sameByte b u) → (j : ℕ) → j < 8 → firstAbove u j ≡ placeOfOne 8 b j
 unfolding sameByte
-byte-first b j h l =
-    eqb→eq (firstAbove b j) (placeOfOne 8 b j)
-    (every-at 8 (sameByte b) (every-at 256 (λ i. every 8 (sameByte i)) byte-tests b h) j l)
+same-byte b zero t j l = absurd t
+same-byte b (suc u) t j l =
+    eqb→eq (firstAbove (suc u) j) (placeOfOne 8 b j)
+    (every-at 8 (λ i. eqb (firstAbove (suc u) i) (placeOfOne 8 b i)) t j l)
+
+byte-first : (b j : ℕ) → b < 256 → j < 8 → firstAbove (raised b) j ≡ placeOfOne 8 b j
+byte-first b j h l = same-byte b (raised b) (every-at 256 (λ i. sameByte i (raised i)) byte-tests b h) j l
 
 -- as `one_of_byte` has it, where s holds the sums and t the marks
 pub byte-place : (b j s t : ℕ) → b < 256 → j < 8 → s ≡ spaced b * each 8 1 % 2 ^ 64 → t ≡ marked 8 s j
