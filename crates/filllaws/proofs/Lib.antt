@@ -5,3 +5,4 @@ pub mod PassLaws
 pub mod PartLaws
 pub mod FinishLaws
 pub mod RiseLaws
+pub mod WriteLaws

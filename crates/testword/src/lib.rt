@@ -92,7 +92,7 @@ pub fn check_word(n: usize, pages: &[u32], counts: &[u32], positions: &[u32]) ->
     if pages.len() != counts.len() {
         return Reach { ok: false, next: 0 };
     }
-    if !writelist::rises(n, pages) {
+    if !rising::rises(n, pages) {
         return Reach { ok: false, next: 0 };
     }
     if !counts_fit(counts, positions.len()) {

@@ -19,7 +19,7 @@ use Rattle.termlaws.proofs.BlockLaws.{term-length}
 use Rattle.shape.specs.declared.Shape.{Shape}
 use Rattle.shape.specs.Shape.{shapeOf}
 use Rattle.filllaws.specs.Filling.{Fitting}
-use Rattle.writelist.proofs.WriteLaws.{u-of, n-of, end-of, fitting-of}
+use Rattle.filllaws.proofs.WriteLaws.{u-of, n-of, end-of, fitting-of}
 use Rattle.wordlaws.specs.declared.Shapes.{Shapes}
 use Rattle.wordlaws.specs.Lists.{Sums, Places, Shaped}
 

@@ -19,7 +19,7 @@ use Rattle.rules.specs.Promises.{ListWritten}
 use Rattle.listlaws.proofs.BlockLaws.{block-size}
 use Rattle.listlaws.proofs.ValidLaws.{valid-from, valid-parts}
 use Rattle.listlaws.proofs.Theorems.{decode-block, block-accepted, accepted-block}
-use Rattle.writelist.proofs.WriteLaws.{write-limit, write-lists, write-room, write-laid}
+use Rattle.filllaws.proofs.WriteLaws.{write-limit, write-lists, write-room, write-laid}
 
 -- what acceptance by the writer says
 record Wrote (U : ℕ) (xs room : List ℕ) : Type 0 where

@@ -31,8 +31,8 @@ fn fill_term(room: &mut [u8], g: Shapes, pages: &[u32], counts: &[u32], position
     numbers::write_u32(room, 0, (third + g.positions.end) as u64);
     room[VERSION_AT] = VERSION;
     filling::fill(&mut room[LISTS_AT..], g.pages, pages);
-    fillsums::fill_sums(&mut room[second..], g.counts, counts);
-    fillplaces::fill_places(&mut room[third..], g.positions, counts, positions);
+    fillword::fill_sums(&mut room[second..], g.counts, counts);
+    fillword::fill_places(&mut room[third..], g.positions, counts, positions);
 }
 
 // Writes the block of a word that has passed its tests, the elements of whose positions end at `reach`; or tells that

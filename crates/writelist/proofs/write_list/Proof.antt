@@ -6,8 +6,8 @@ use lib.ListN.{length}
 use Rattle.rules.specs.declared.Refusal.the-variants.{Accepted}
 use Rattle.rules.specs.Write.{Made}
 use Rattle.listlaws.proofs.RisingLaws.{rising-length}
-use Rattle.writelist.proofs.WriteLaws.{write-limit, write-lists, write-room}
-use Rattle.writelist.proofs.WriteLaws.{write-laid, u-of, n-of, end-of, fitting-of}
+use Rattle.filllaws.proofs.WriteLaws.{write-limit, write-lists, write-room}
+use Rattle.filllaws.proofs.WriteLaws.{write-laid, u-of, n-of, end-of, fitting-of}
 use Rattle.writelist.proofs.write_list.Statement.{statement}
 use Rattle.writelist.proofs.write_list.Tie as tie
 

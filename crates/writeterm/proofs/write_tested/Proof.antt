@@ -9,7 +9,7 @@ use Rattle.rules.specs.Write.{Made}
 use Rattle.rules.specs.Term.{Word, lentWord, termBlock}
 use Rattle.termlaws.proofs.BlockLaws.{term-short}
 use Rattle.termlaws.proofs.Theorems.{writes}
-use Rattle.writelist.proofs.WriteLaws.{u-of}
+use Rattle.filllaws.proofs.WriteLaws.{u-of}
 use Rattle.wordlaws.specs.declared.Shapes.{Shapes}
 use Rattle.wordlaws.specs.Lists.{Shaped}
 use Rattle.wordlaws.proofs.ShapedLaws.{Bounds, bounds-of, shaped-of, block-long}

@@ -11,8 +11,8 @@ use Rattle.rules.specs.Term.{total, sums}
 use Rattle.termlaws.proofs.SumLaws.{length-sums}
 use Rattle.filllaws.proofs.RiseLaws.{take-more}
 use Rattle.wordlaws.proofs.LayLaws.{total-take, total-take-le, positive-at, getD-sums}
-use Rattle.fillsums.proofs.put_sums.Statement.{statement}
-use Rattle.fillsums.proofs.put_sums.Tie as tie
+use Rattle.stretches.proofs.put_sums.Statement.{statement}
+use Rattle.stretches.proofs.put_sums.Tie as tie
 
 abbrev Inv-loop : tie.InvT-loop
 Inv-loop part₀ before counts sum₀ i₀ i-end part sum i =

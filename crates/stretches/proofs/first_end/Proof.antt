@@ -7,8 +7,8 @@ use borrow.Author.Needs.{needs}
 use lib.ListN.{length, getD}
 use Rattle.wordlaws.specs.Stretch.{headed}
 use Rattle.wordlaws.proofs.LayLaws.{positive-at}
-use Rattle.fillplaces.proofs.first_end.Statement.{statement}
-use Rattle.fillplaces.proofs.first_end.Tie as tie
+use Rattle.stretches.proofs.first_end.Statement.{statement}
+use Rattle.stretches.proofs.first_end.Tie as tie
 
 headed-first : (e : ℕ) (cs : List ℕ) → (0 < length cs → e ≡ getD cs 0 0) → headed e cs ≡ cs
 unfolding headed

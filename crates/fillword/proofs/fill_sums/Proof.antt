@@ -12,8 +12,8 @@ use Rattle.filllaws.specs.Filling.{Partly}
 use Rattle.wordlaws.proofs.LayLaws.{Width, stretch-width, stretch-is, stretch-follows, stretch-laid}
 use Rattle.wordlaws.proofs.LayLaws.{total-split}
 use Rattle.wordlaws.proofs.LayLaws.{sums-long, sums-rise, stretch-sums, stretch-positive, stretch-total}
-use Rattle.fillsums.proofs.fill_sums.Statement.{statement}
-use Rattle.fillsums.proofs.fill_sums.Tie as tie
+use Rattle.fillword.proofs.fill_sums.Statement.{statement}
+use Rattle.fillword.proofs.fill_sums.Tie as tie
 
 abbrev Inv-loop : tie.InvT-loop
 Inv-loop room₀ g counts f₀ sum₀ done₀ room f sum done =

@@ -8,8 +8,8 @@ use lib.ListN.{length, getD, length-set}
 use lib.Seq.{getD-set-same, getD-set-other}
 use Rattle.wordlaws.specs.Stretch.{marksOf, baseAt}
 use Rattle.wordlaws.proofs.StretchLaws.{base-more}
-use Rattle.fillplaces.proofs.put_places.Statement.{statement}
-use Rattle.fillplaces.proofs.put_places.Tie as tie
+use Rattle.stretches.proofs.put_places.Statement.{statement}
+use Rattle.stretches.proofs.put_places.Tie as tie
 
 abbrev Inv-loop : tie.InvT-loop
 Inv-loop part₀ start positions base₀ i₀ i-end part base i =

@@ -7,8 +7,8 @@ use lib.ListN.{length, drop}
 use Rattle.wordlaws.specs.Stretch.{lastAt, headed}
 use Rattle.wordlaws.proofs.StretchLaws.{Marking, marking-none, marking-all, marking-rest}
 use Rattle.wordlaws.proofs.StretchLaws.{marking-end, marking-over, marking-more}
-use Rattle.fillplaces.proofs.mark.Statement.{statement}
-use Rattle.fillplaces.proofs.mark.Tie as tie
+use Rattle.stretches.proofs.mark.Statement.{statement}
+use Rattle.stretches.proofs.mark.Tie as tie
 
 abbrev Inv-loop : tie.InvT-loop
 Inv-loop part₀ counts page₀ end₀ part page end =

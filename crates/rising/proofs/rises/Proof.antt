@@ -8,8 +8,8 @@ use borrow.Author.Needs.{needs}
 use lib.ListN.{length, getD}
 use Rattle.filllaws.proofs.RiseLaws.{rising-none, climbs-end, Compared}
 use Rattle.filllaws.proofs.RiseLaws.{compared-none, compared-fell, compared-falls, compared-on}
-use Rattle.writelist.proofs.rises.Statement.{statement}
-use Rattle.writelist.proofs.rises.Tie as tie
+use Rattle.rising.proofs.rises.Statement.{statement}
+use Rattle.rising.proofs.rises.Tie as tie
 
 abbrev Inv-loop : tie.InvT-loop
 Inv-loop u list falls₀ i₀ i-end falls i =

@@ -13,8 +13,8 @@ use Rattle.wordlaws.specs.Stretch.{lastAt, headed, baseAt}
 use Rattle.wordlaws.proofs.LayLaws.{Width, stretch-width, stretch-follows, stretch-laid}
 use Rattle.wordlaws.proofs.StretchLaws.{places-long, page-left}
 use Rattle.wordlaws.proofs.StretchLaws.{stretch-bounded, stretch-placed, stretch-base}
-use Rattle.fillplaces.proofs.fill_places.Statement.{statement}
-use Rattle.fillplaces.proofs.fill_places.Tie as tie
+use Rattle.fillword.proofs.fill_places.Statement.{statement}
+use Rattle.fillword.proofs.fill_places.Tie as tie
 
 abbrev Inv-loop : tie.InvT-loop
 Inv-loop room₀ g counts positions f₀ base₀ turn₀ done₀ room f base turn done =
