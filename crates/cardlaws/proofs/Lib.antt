@@ -4,4 +4,5 @@ pub mod WalkLaws
 pub mod PassedLaws
 pub mod CardLaws
 pub mod CloseLaws
+pub mod ClosingLaws
 pub mod Theorems

@@ -19,7 +19,7 @@ use Rattle.laws.proofs.HeadLaws.{head-then}
 use Rattle.laws.proofs.PartLaws.{inside-then}
 use Rattle.cardlaws.proofs.TermsLaws.{terms-bad, terms-other, terms-next}
 use Rattle.parts.specs.Places.{headRefusal}
-use Rattle.checkindex.specs.Terms.{wordRefusal, wordInside, bodyRefusal}
+use Rattle.cardlaws.specs.Terms.{wordRefusal, wordInside, bodyRefusal}
 
 -- the block at the front, and then its N
 word-then : (N : ℕ) (s : List ℕ) → wordInside N s ≡ andThen (inside termHeader termRefusal s)

@@ -5,7 +5,7 @@ ghost use Prim.Native.Nat.{_≤_};
 ghost use lib.ListN.{length, drop};
 ghost use Rattle.rules.specs.Index.{termsRefusal};
 ghost use Rattle.rules.specs.Promises.{IndexChecked};
-ghost use Rattle.checkindex.specs.Terms.{wordRefusal, wordInside, bodyRefusal};
+ghost use Rattle.cardlaws.specs.Terms.{wordRefusal, wordInside, bodyRefusal};
 use rules::INDEX_HEADER;
 use rules::INDEX_N_AT;
 use rules::INDEX_T_AT;

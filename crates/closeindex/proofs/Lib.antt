@@ -1,2 +1,1 @@
-pub mod CloseLaws
 pub mod Theorems

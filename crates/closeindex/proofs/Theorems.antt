@@ -11,7 +11,7 @@ use Rattle.rules.specs.Index.{indexN, indexT, indexRefusal, closeIndex}
 use Rattle.rules.specs.Promises.{IndexClosed}
 use Rattle.cardlaws.specs.Cards.{Closed}
 use Rattle.cardlaws.proofs.Theorems.{closing}
-use Rattle.closeindex.proofs.CloseLaws.{close-told, close-kept}
+use Rattle.cardlaws.proofs.ClosingLaws.{close-told, close-kept}
 
 -- A success leaves an accepted index of that N and T with the terms that lay there, and changes its header's bytes alone.
 pub close-accepts : (buffer : List ℕ) (used N T : ℕ) (r : Written) (room : List ℕ)

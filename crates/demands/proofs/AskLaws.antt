@@ -19,8 +19,8 @@ use Rattle.rules.specs.Ask.{Replied, fitting, fitted, reply, joined, put, ask}
 use Rattle.laws.proofs.RefusalLaws.{accepted-true, true-accepted}
 use Rattle.questions.specs.Formed.{formed}
 use Rattle.questions.proofs.FrontLaws.{formed-front}
-use Rattle.jundefola.specs.declared.HostAsked.{HostAsked}
-use Rattle.jundefola.specs.Host.{Heard, HostAnswered}
+use Rattle.hostlaws.specs.declared.HostAsked.{HostAsked}
+use Rattle.hostlaws.specs.Host.{Heard, HostAnswered}
 use Rattle.demands.specs.Asking.{Query, written, Good}
 use Rattle.demands.specs.Sentences.{First, indexSentences, asking}
 use Rattle.demands.proofs.FirstLaws.{Tests, first-end, first-then}

@@ -27,12 +27,12 @@ use Rattle.laws.proofs.RefusalLaws.{number-inj}
 use Rattle.listlaws.proofs.Theorems as lists
 use Rattle.termlaws.proofs.Theorems as words
 use Rattle.cardlaws.proofs.Theorems as cards
-use Rattle.closeindex.proofs.CloseLaws.{close-told}
+use Rattle.cardlaws.proofs.ClosingLaws.{close-told}
 use Rattle.questions.specs.Formed.{formed, answersTo}
-use Rattle.jundefola.specs.declared.HostWritten.{HostWritten}
-use Rattle.jundefola.specs.declared.HostAsked.{HostAsked}
-use Rattle.jundefola.specs.Host.{Told, HostListChecked, HostListWritten, HostTermChecked, HostTermWritten}
-use Rattle.jundefola.specs.Host.{HostIndexChecked, HostIndexClosed, HostAnswered}
+use Rattle.hostlaws.specs.declared.HostWritten.{HostWritten}
+use Rattle.hostlaws.specs.declared.HostAsked.{HostAsked}
+use Rattle.hostlaws.specs.Host.{Told, HostListChecked, HostListWritten, HostTermChecked, HostTermWritten}
+use Rattle.hostlaws.specs.Host.{HostIndexChecked, HostIndexClosed, HostAnswered}
 use Rattle.demands.specs.Asking.{ValidWord, Query, written, Good, pagesAt, named, pagesNamed, plain, plainAll}
 use Rattle.demands.specs.Asking.{upperRuns, leadOn, othersOn, times, readingIt}
 use Rattle.demands.proofs.WriteLaws.{number-le, to-writable, from-writable, list-keeps, term-keeps, close-keeps}

@@ -22,10 +22,10 @@ use Rattle.rules.specs.ReadTerm.{termRefusal}
 use Rattle.rules.specs.Index.{indexT, indexRefusal, closeIndex}
 use Rattle.rules.specs.Questions.{wellFormed, replies}
 use Rattle.rules.specs.Ask.{joined}
-use Rattle.jundefola.specs.declared.HostWritten.{HostWritten}
-use Rattle.jundefola.specs.declared.HostAsked.{HostAsked}
-use Rattle.jundefola.specs.Host.{HostListChecked, HostListWritten, HostTermChecked, HostTermWritten}
-use Rattle.jundefola.specs.Host.{HostIndexChecked, HostIndexClosed, HostAnswered}
+use Rattle.hostlaws.specs.declared.HostWritten.{HostWritten}
+use Rattle.hostlaws.specs.declared.HostAsked.{HostAsked}
+use Rattle.hostlaws.specs.Host.{HostListChecked, HostListWritten, HostTermChecked, HostTermWritten}
+use Rattle.hostlaws.specs.Host.{HostIndexChecked, HostIndexClosed, HostAnswered}
 use Rattle.demands.specs.Faults.{OutOfOrder, NotBelow}
 use Rattle.demands.specs.BadQuestions.{SomeBad}
 use Rattle.demands.specs.Sentences.{Sentence, _when_, First, listSentences, termSentences, indexSentences}

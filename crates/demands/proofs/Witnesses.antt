@@ -32,10 +32,10 @@ use Rattle.rules.specs.Questions.{wellFormed, replies}
 use Rattle.rules.specs.Ask.{fitting, fitted, reply, joined, put, ask}
 use Rattle.rules.specs.Table.{s9, s9Word}
 use Rattle.listlaws.proofs.RisingLaws.{and-parts}
-use Rattle.jundefola.specs.declared.HostWritten.{HostWritten}
-use Rattle.jundefola.specs.declared.HostAsked.{HostAsked}
-use Rattle.jundefola.specs.Host.{HostListChecked, HostListWritten, HostTermChecked, HostTermWritten, HostIndexChecked}
-use Rattle.jundefola.specs.Host.{HostIndexClosed, HostAnswered}
+use Rattle.hostlaws.specs.declared.HostWritten.{HostWritten}
+use Rattle.hostlaws.specs.declared.HostAsked.{HostAsked}
+use Rattle.hostlaws.specs.Host.{HostListChecked, HostListWritten, HostTermChecked, HostTermWritten, HostIndexChecked}
+use Rattle.hostlaws.specs.Host.{HostIndexClosed, HostAnswered}
 use Rattle.demands.specs.Asking.{ValidWord, Query, Good, named, pagesNamed, plain, plainAll}
 
 -- ---- the promises, for every input

@@ -21,9 +21,9 @@ use Rattle.laws.proofs.RefusalLaws.{number-inj, accepted-true, true-accepted}
 use Rattle.laws.proofs.RoomLaws.{success, made-passed, stored-fits, fits-stored}
 use Rattle.listlaws.proofs.ValidLaws.{valid-from, valid-parts}
 use Rattle.termlaws.specs.Words.{Writable}
-use Rattle.closeindex.proofs.CloseLaws.{close-told}
-use Rattle.jundefola.specs.declared.HostWritten.{HostWritten}
-use Rattle.jundefola.specs.Host.{Told, told, toldOf}
+use Rattle.cardlaws.proofs.ClosingLaws.{close-told}
+use Rattle.hostlaws.specs.declared.HostWritten.{HostWritten}
+use Rattle.hostlaws.specs.Host.{Told, told, toldOf}
 use Rattle.demands.specs.Asking.{ValidWord}
 
 -- ---- numbers of refusal

@@ -3,26 +3,13 @@
 ghost use mathlib.Core.Path.{_≡_};
 ghost use Rattle.rules.specs.Refusal.{number};
 ghost use Rattle.rules.specs.Term.{lentWord};
-ghost use Rattle.jundefola.specs.Host.{HostListChecked, HostListWritten, HostTermChecked, HostTermWritten};
-ghost use Rattle.jundefola.specs.Host.{HostIndexChecked, HostIndexClosed, HostAnswered};
+ghost use Rattle.hostlaws.specs.Host.{HostListChecked, HostListWritten, HostTermChecked, HostTermWritten};
+ghost use Rattle.hostlaws.specs.Host.{HostIndexChecked, HostIndexClosed, HostAnswered};
+use hostlaws::HostAsked;
+use hostlaws::HostWritten;
 use rules::Outcome;
 use rules::Refusal;
 use rules::Written;
-
-// What a writer, or closing an index, answers.
-#[repr(C)]
-pub struct HostWritten {
-    pub refusal: u32,
-    pub length: usize,
-}
-
-// What a run of questions answers.
-#[repr(C)]
-pub struct HostAsked {
-    pub refusal: u32,
-    pub answered: usize,
-    pub used: usize,
-}
 
 // A writer's answer with its number.
 fn written(w: Written) -> HostWritten

@@ -13,7 +13,7 @@ use Rattle.laws.proofs.RefusalLaws.{told-stop, told-passed, andThen-next}
 use Rattle.laws.proofs.HeadLaws.{head-passed}
 use Rattle.parts.specs.Places.{headRefusal}
 use Rattle.parts.proofs.PlaceLaws.{part-behind}
-use Rattle.checkindex.specs.Terms.{bodyRefusal}
+use Rattle.cardlaws.specs.Terms.{bodyRefusal}
 use Rattle.checkindex.proofs.TermsLaws.{index-then}
 use Rattle.checkindex.proofs.check_index.Statement.{statement}
 use Rattle.checkindex.proofs.check_index.Tie as tie

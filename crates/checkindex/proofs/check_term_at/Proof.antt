@@ -2,7 +2,7 @@
 use borrow.Author.Needs.{needs}
 use lib.Dec.{lit≤}
 use Rattle.parts.proofs.PlaceLaws.{front-held, front-refused, front-answers}
-use Rattle.checkindex.specs.Terms.{wordRefusal}
+use Rattle.cardlaws.specs.Terms.{wordRefusal}
 use Rattle.checkindex.proofs.check_term_at.Statement.{statement}
 use Rattle.checkindex.proofs.check_term_at.Tie as tie
 

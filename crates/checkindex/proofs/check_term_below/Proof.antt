@@ -12,7 +12,7 @@ use Rattle.rules.specs.ReadTerm.{pagesOf, termRefusal}
 use Rattle.laws.proofs.RefusalLaws.{told-stop, told-passed, andThen-next}
 use Rattle.listlaws.proofs.RefusalLaws.{accepted-framed}
 use Rattle.termlaws.proofs.Theorems.{accepted-lists}
-use Rattle.checkindex.specs.Terms.{wordRefusal}
+use Rattle.cardlaws.specs.Terms.{wordRefusal}
 use Rattle.checkindex.proofs.check_term_below.Statement.{statement}
 use Rattle.checkindex.proofs.check_term_below.Tie as tie
 

@@ -13,7 +13,7 @@ use Rattle.rules.specs.Index.{termsRefusal}
 use Rattle.laws.proofs.RefusalLaws.{told-stop, told-passed, andThen-next}
 use Rattle.parts.specs.Places.{Held}
 use Rattle.parts.proofs.PlaceLaws.{inside-held, drop-next}
-use Rattle.checkindex.specs.Terms.{wordRefusal, wordInside}
+use Rattle.cardlaws.specs.Terms.{wordRefusal, wordInside}
 use Rattle.checkindex.proofs.TermsLaws.{terms-more, terms-over, terms-done}
 use Rattle.checkindex.proofs.check_terms.Statement.{statement}
 use Rattle.checkindex.proofs.check_terms.Tie as tie

@@ -7,7 +7,7 @@ use borrow.Author.Needs.{needs}
 use Rattle.rules.specs.declared.Refusal.the-variants.{Accepted}
 use Rattle.cardlaws.specs.Cards.{Closable}
 use Rattle.cardlaws.proofs.CloseLaws.{closed-made}
-use Rattle.closeindex.proofs.CloseLaws.{close-refused, close-passed}
+use Rattle.cardlaws.proofs.ClosingLaws.{close-refused, close-passed}
 use Rattle.closeindex.proofs.close_index.Statement.{statement}
 use Rattle.closeindex.proofs.close_index.Tie as tie
 

@@ -2,8 +2,8 @@
 use mathlib.Core.Path.{sym, ap, _∙_}
 use native.Mathlib.Omega.{arith}
 use borrow.Author.Needs.{needs}
-use Rattle.checkindex.specs.Terms.{bodyRefusal}
-use Rattle.closeindex.proofs.CloseLaws.{close-room, close-short, close-long, close-next, part-used}
+use Rattle.cardlaws.specs.Terms.{bodyRefusal}
+use Rattle.cardlaws.proofs.ClosingLaws.{close-room, close-short, close-long, close-next, part-used}
 use Rattle.closeindex.proofs.close_refusal.Statement.{statement}
 use Rattle.closeindex.proofs.close_refusal.Tie as tie
 

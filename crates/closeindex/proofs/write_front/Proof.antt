@@ -8,7 +8,7 @@ use Rattle.rules.specs.Bytes.{be}
 use Rattle.rules.specs.Index.{indexFront}
 use Rattle.laws.proofs.RoomLaws.{length-laid}
 use Rattle.cardlaws.proofs.FrontLaws.{length-front}
-use Rattle.closeindex.proofs.CloseLaws.{front-stored}
+use Rattle.cardlaws.proofs.ClosingLaws.{front-stored}
 use Rattle.closeindex.proofs.write_front.Statement.{statement}
 use Rattle.closeindex.proofs.write_front.Tie as tie
 

@@ -1,5 +1,5 @@
 -- What `ask` answers, with its number.
-use Rattle.jundefola.proofs.HostLaws.{heard-asked}
+use Rattle.hostlaws.proofs.HostLaws.{heard-asked}
 use borrow.Author.Needs.{needs}
 use Rattle.jundefola.proofs.jf_ask.Statement.{statement}
 use Rattle.jundefola.proofs.jf_ask.Tie as tie

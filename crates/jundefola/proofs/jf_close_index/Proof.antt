@@ -1,5 +1,5 @@
 -- What `close_index` answers, with its number.
-use Rattle.jundefola.proofs.HostLaws.{told-made}
+use Rattle.hostlaws.proofs.HostLaws.{told-made}
 use borrow.Author.Needs.{needs}
 use Rattle.jundefola.proofs.jf_close_index.Statement.{statement}
 use Rattle.jundefola.proofs.jf_close_index.Tie as tie

@@ -1,5 +1,5 @@
 -- What `write_term` answers, with its number.
-use Rattle.jundefola.proofs.HostLaws.{told-made}
+use Rattle.hostlaws.proofs.HostLaws.{told-made}
 use borrow.Author.Needs.{needs}
 use Rattle.jundefola.proofs.jf_write_term.Statement.{statement}
 use Rattle.jundefola.proofs.jf_write_term.Tie as tie

@@ -7,9 +7,9 @@ use Rattle.rules.specs.Refusal.{number}
 use Rattle.rules.specs.Write.{Made, made}
 use Rattle.rules.specs.declared.Outcome.{Outcome}
 use Rattle.rules.specs.Ask.{Asked, asked}
-use Rattle.jundefola.specs.declared.HostAsked.{HostAsked}
-use Rattle.jundefola.specs.declared.HostWritten.{HostWritten}
-use Rattle.jundefola.specs.Host.{told, toldOf, heard, heardOf}
+use Rattle.hostlaws.specs.declared.HostAsked.{HostAsked}
+use Rattle.hostlaws.specs.declared.HostWritten.{HostWritten}
+use Rattle.hostlaws.specs.Host.{told, toldOf, heard, heardOf}
 
 pub told-made : (w : Written) (r : HostWritten) (room : List ℕ) (m : Made)
     → (r .refusal ≡ number (w .refusal)) × (r .length ≡ w .size) → made w room ≡ m → toldOf r room ≡ told m

@@ -6,10 +6,10 @@ use Prim.Native.Nat.{ℕ}
 use Rattle.rules.specs.Term.{Word}
 use Rattle.rules.specs.Promises.{Determined}
 use Rattle.rules.proofs.Unique.{by-equation}
-use Rattle.jundefola.specs.declared.HostWritten.{HostWritten}
-use Rattle.jundefola.specs.declared.HostAsked.{HostAsked}
-use Rattle.jundefola.specs.Host.{Told, toldOf, heardOf, HostListChecked, HostListWritten, HostTermChecked}
-use Rattle.jundefola.specs.Host.{HostTermWritten, HostIndexChecked, HostIndexClosed, HostAnswered}
+use Rattle.hostlaws.specs.declared.HostWritten.{HostWritten}
+use Rattle.hostlaws.specs.declared.HostAsked.{HostAsked}
+use Rattle.hostlaws.specs.Host.{Told, toldOf, heardOf, HostListChecked, HostListWritten, HostTermChecked}
+use Rattle.hostlaws.specs.Host.{HostTermWritten, HostIndexChecked, HostIndexClosed, HostAnswered}
 
 pub check-list-unique : (s : List ℕ) → Determined {A = ℕ} (λ r. HostListChecked s r)
 check-list-unique s = by-equation (λ r. r) (λ r. r) (λ r. refl) _

@@ -24,8 +24,8 @@ use Rattle.rules.specs.Term.{Word, writeTerm}
 use Rattle.rules.specs.ReadTerm.{termRefusal}
 use Rattle.rules.specs.Index.{indexRefusal, closeIndex}
 use Rattle.rules.specs.Ask.{Asked, ask}
-use Rattle.jundefola.specs.declared.HostWritten.{HostWritten}
-use Rattle.jundefola.specs.declared.HostAsked.{HostAsked}
+use Rattle.hostlaws.specs.declared.HostWritten.{HostWritten}
+use Rattle.hostlaws.specs.declared.HostAsked.{HostAsked}
 
 pub record Told : Type 0 where
   pub refusal : ℕ

@@ -17,11 +17,11 @@ use Rattle.rules.specs.Write.{refused, laid}
 use Rattle.laws.proofs.ByteLaws.{length-be, sets-then}
 use Rattle.laws.proofs.RefusalLaws.{told-passed, accepted-true}
 use Rattle.laws.proofs.RoomLaws.{sets-laid}
 use Rattle.cardlaws.specs.Cards.{Closable}
 use Rattle.cardlaws.proofs.PassedLaws.{accepted-closable}
 use Rattle.cardlaws.proofs.FrontLaws.{length-front}
 use Rattle.cardlaws.proofs.CloseLaws.{drop-take}
-use Rattle.checkindex.specs.Terms.{bodyRefusal}
+use Rattle.cardlaws.specs.Terms.{bodyRefusal}
 
 module _ (buffer : List ℕ) (used N T : ℕ) where
   pub close-room : length buffer < used → closeRefusal buffer used N T ≡ Room
