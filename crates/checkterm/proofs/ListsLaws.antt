@@ -1,29 +1,26 @@
 -- Laws of the three lists of a term as they are checked:
 -- each answer, what is left where all have passed, and the term's refusal.
-use mathlib.Core.Bool.{true, cond, not}
+use mathlib.Core.Bool.{cond}
 use mathlib.Core.Path.{_≡_, refl, sym, ap, _∙_}
-use mathlib.Core.List.{List, [], _∷_}
-use Prim.Native.Nat.{ℕ, zero, suc, _+_, _-_, _≤_, _<_}
+use mathlib.Core.List.{List}
+use Prim.Native.Nat.{ℕ, zero, suc, _+_, _≤_, _<_}
 use native.Mathlib.Omega.{arith}
-use borrow.Author.Tests.{lt-ltb, le-ltb, eq-eqb, ne-eqb}
-use lib.Dec.{eqb, lit<}
-use lib.ListN.{length, getD, drop, length-append}
+use borrow.Author.Tests.{lt-ltb, le-ltb}
+use lib.Dec.{lit<}
+use lib.ListN.{length, drop, length-append}
 use Rattle.rules.specs.declared.Refusal.{Refusal}
 use Rattle.rules.specs.declared.Refusal.the-variants.{Accepted, Layout, Parts}
 use Rattle.rules.specs.Refusal.{andThen}
-use Rattle.rules.specs.Limits.{limit, listHeader, termHeader}
-use Rattle.rules.specs.ReadList.{stated, listU, listN, decode, listRefusal}
-use Rattle.rules.specs.Term.{next}
+use Rattle.rules.specs.Limits.{listHeader, termHeader}
+use Rattle.rules.specs.ReadList.{stated, listRefusal}
 use Rattle.rules.specs.Parts.{after, part, inside}
 use Rattle.rules.specs.ReadTerm.{listsOf, pagesOf, countsOf, positionsOf, disagree, termRefusal}
 use Rattle.laws.proofs.RefusalLaws.{andThen-next, andThen-assoc, andThen-both}
 use Rattle.laws.proofs.HeadLaws.{head-then}
 use Rattle.laws.proofs.PartLaws.{part-after, inside-parts, inside-lies}
-use Rattle.listlaws.proofs.ValidLaws.{valid-parts}
-use Rattle.listlaws.proofs.Theorems.{accepted-block}
-use Rattle.termlaws.proofs.OrderLaws.{rising-order}
 use Rattle.parts.specs.Places.{headRefusal, Walkable}
-use Rattle.checkterm.specs.Lists.{listsRefusal, disagreeing, restRefusal, ListsIn}
+use Rattle.agreeing.specs.Agreeing.{disagreeing}
+use Rattle.checkterm.specs.Lists.{listsRefusal, restRefusal, ListsIn}
 
 -- ---- one list more, and none
 
@@ -57,51 +54,6 @@ pub lists-walk : (s : List ℕ) → ListsIn s → (k : ℕ) → k < 3 → Walkab
 lists-walk s l k h i m =
     let y = l i (omega arith) .lies in
     (omega (arith, y .holds), y .within)
-
--- ---- the last element
-
-pub next-last : (b : ℕ) (xs : List ℕ) → 0 < length xs → next b xs ≡ getD xs (length xs - 1) 0 + 1
-unfolding next
-next-last b [] h = absurd (omega arith)
-next-last b (x ∷ []) h = refl
-next-last b (x ∷ (y ∷ ys)) h =
-    let e : length (x ∷ (y ∷ ys)) - 1 ≡ suc (length (y ∷ ys) - 1) = omega arith in
-    rw e (next-last (x + 1) (y ∷ ys) (omega arith))
-
-pub next-none : (b : ℕ) (xs : List ℕ) → length xs ≡ 0 → next b xs ≡ b
-unfolding next
-next-none b [] h = refl
-next-none b (x ∷ xs) h = absurd (omega arith)
-
-pub accepted-next : (s : List ℕ) → listRefusal s ≡ Accepted → next 0 (decode s) ≤ limit
-accepted-next s a =
-    let v = valid-parts (listU s) (decode s) (accepted-block s a .0) in
-    omega (arith, v .0, rising-order 0 (listU s) (decode s) (omega arith) (v .1) .1)
-
--- ---- whether three lists disagree
-
-module _ (p c q : List ℕ) where
-  pub differ-n : (listN c ≡ listN p → ⊥) → disagreeing p c q ≡ true
-  differ-n h = rw (ne-eqb (listN c) (listN p) h)
-
-  module _ (n : listN c ≡ listN p) where
-    pub differ-sum : (listU c ≡ next 0 (decode c) → ⊥) → disagreeing p c q ≡ true
-    differ-sum h = rw (eq-eqb (listN c) (listN p) n, ne-eqb (listU c) (next 0 (decode c)) h)
-
-    module _ (u : listU c ≡ next 0 (decode c)) where
-      pub differ-positions : (listN q ≡ listU c → ⊥) → disagreeing p c q ≡ true
-      differ-positions h = rw (
-        eq-eqb (listN c) (listN p) n,
-        eq-eqb (listU c) (next 0 (decode c)) u,
-        ne-eqb (listN q) (listU c) h,
-      )
-
-      pub differ-last : listN q ≡ listU c → disagreeing p c q ≡ not (eqb (listU q) (next 0 (decode q)))
-      differ-last h = rw (
-        eq-eqb (listN c) (listN p) n,
-        eq-eqb (listU c) (next 0 (decode c)) u,
-        eq-eqb (listN q) (listU c) h,
-      )
 
 -- the lists of a term
 pub disagree-parts : (s p c q : List ℕ) → p ≡ part 0 (drop 5 s) → c ≡ part 1 (drop 5 s) → q ≡ part 2 (drop 5 s)

@@ -4,17 +4,13 @@
 ghost use mathlib.Core.Path.{_≡_};
 ghost use Prim.Native.Nat.{_≤_};
 ghost use lib.ListN.{length, drop};
-ghost use Rattle.rules.specs.declared.Refusal.the-variants.{Accepted};
 ghost use Rattle.rules.specs.Limits.{listHeader};
-ghost use Rattle.rules.specs.ReadList.{decode, listRefusal};
-ghost use Rattle.rules.specs.Term.{next};
+ghost use Rattle.rules.specs.ReadList.{listRefusal};
 ghost use Rattle.rules.specs.Parts.{inside};
 ghost use Rattle.rules.specs.ReadTerm.{listsOf};
 ghost use Rattle.rules.specs.Promises.{TermChecked};
-ghost use Rattle.checkterm.specs.Lists.{listsRefusal, disagreeing, restRefusal, ListsIn};
+ghost use Rattle.checkterm.specs.Lists.{listsRefusal, restRefusal, ListsIn};
 use rules::LIST_HEADER;
-use rules::LIST_N_AT;
-use rules::LIST_U_AT;
 use rules::LISTS_AT;
 use rules::Refusal;
 use rules::TERM_HEADER;
@@ -49,37 +45,6 @@ fn check_lists(block: &[u8]) -> Refusal
     Refusal::Accepted
 }
 
-// The last element plus 1, or 0 where there is none.
-fn next_of(list: &[u8]) -> usize
-    requires { ⌜ listRefusal (now list) ≡ Accepted ⌝ }
-    ensures { λ r. ⌜ r ≡ next 0 (decode (now (list .entry))) ⌝ }
-{
-    let g = reading::shape_at(list);
-    if g.n == 0 {
-        return 0;
-    }
-    nearones::last_of(list, g) + 1
-}
-
-// Whether the three lists of a term disagree.
-fn disagree(pages: &[u8], counts: &[u8], positions: &[u8]) -> bool
-    requires { ⌜ (listRefusal (now pages) ≡ Accepted) × (listRefusal (now counts) ≡ Accepted)
-        × (listRefusal (now positions) ≡ Accepted) ⌝ }
-    ensures { λ r. ⌜ r ≡ disagreeing (now (pages .entry)) (now (counts .entry)) (now (positions .entry)) ⌝ }
-{
-    if numbers::read_u32(counts, LIST_N_AT) != numbers::read_u32(pages, LIST_N_AT) {
-        return true;
-    }
-    let total = numbers::read_u32(counts, LIST_U_AT);
-    if total as usize != next_of(counts) {
-        return true;
-    }
-    if numbers::read_u32(positions, LIST_N_AT) != total {
-        return true;
-    }
-    numbers::read_u32(positions, LIST_U_AT) as usize != next_of(positions)
-}
-
 // The refusal of what follows the lists: bytes left over, and then lists that disagree.
 fn check_rest(block: &[u8]) -> Refusal
     requires { ⌜ ListsIn (now block) ⌝ }
@@ -92,7 +57,7 @@ fn check_rest(block: &[u8]) -> Refusal
     }
     let pages = parts::block_of(block, LISTS_AT, 0);
     let counts = parts::block_of(block, LISTS_AT, 1);
-    if disagree(pages, counts, positions) {
+    if agreeing::disagree(pages, counts, positions) {
         return Refusal::Parts;
     }
     Refusal::Accepted

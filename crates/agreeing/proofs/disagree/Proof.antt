@@ -11,9 +11,9 @@ use Rattle.rules.specs.declared.Refusal.the-variants.{Accepted}
 use Rattle.rules.specs.ReadList.{listU, listN, decode, listRefusal}
 use Rattle.rules.specs.Term.{next}
 use Rattle.listlaws.proofs.RefusalLaws.{accepted-framed}
-use Rattle.checkterm.proofs.ListsLaws.{differ-n, differ-sum, differ-positions, differ-last}
-use Rattle.checkterm.proofs.disagree.Statement.{statement}
-use Rattle.checkterm.proofs.disagree.Tie as tie
+use Rattle.agreeing.proofs.AgreeLaws.{differ-n, differ-sum, differ-positions, differ-last}
+use Rattle.agreeing.proofs.disagree.Statement.{statement}
+use Rattle.agreeing.proofs.disagree.Tie as tie
 
 header : (s : List ℕ) → listRefusal s ≡ Accepted → 13 ≤ length s
 header s a = accepted-framed s a .0 .header

@@ -9,9 +9,9 @@ use Rattle.rules.specs.Term.{next}
 use Rattle.shape.specs.declared.Shape.{Shape}
 use Rattle.shape.proofs.ShapeLaws.{shape-n}
 use Rattle.listlaws.proofs.ReadLaws.{accepted-length}
-use Rattle.checkterm.proofs.ListsLaws.{next-last, next-none, accepted-next}
-use Rattle.checkterm.proofs.next_of.Statement.{statement}
-use Rattle.checkterm.proofs.next_of.Tie as tie
+use Rattle.agreeing.proofs.AgreeLaws.{next-last, next-none, accepted-next}
+use Rattle.agreeing.proofs.next_of.Statement.{statement}
+use Rattle.agreeing.proofs.next_of.Tie as tie
 
 -- the shape's n is the number of elements
 many : (c : tie.After-shape-at) → c .shape-at .result .n ≡ length (decode (c .before .before .args .list .now))
