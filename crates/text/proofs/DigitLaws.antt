@@ -8,8 +8,8 @@ use native.Mathlib.Omega.{arith}
 use borrow.Author.Tests.{lt-ltb, le-ltb}
 use lib.ListN.{length, set, length-append}
 use Rattle.rules.specs.Program.{decimal, digits}
-use Rattle.text.specs.Laid.{Put}
-use Rattle.text.proofs.PutLaws.{put-one, put-cat, put-same}
+use Rattle.files.specs.Laid.{Put}
+use Rattle.files.proofs.PutLaws.{put-one, put-cat, put-same}
 
 module _ (f n : ℕ) where
   decimal-one : n < 10 → decimal (suc f) n ≡ (48 + n) ∷ []

@@ -8,7 +8,7 @@ use lib.ListN.{length, getD, take, drop, length-append, length-take, length-drop
 use lib.Seq.{drop-cons, drop-drop, getD-take, getD-drop, take-at, drop-at}
 use Rattle.rules.specs.Program.{digits, line, lines}
 use Rattle.rules.specs.Ask.{joined}
-use Rattle.text.specs.Laid.{cut, answersIn, Counted}
+use Rattle.text.specs.Answers.{cut, answersIn, Counted}
 use Rattle.text.proofs.DigitLaws.{digits-most}
 
 -- ---- a line

@@ -11,8 +11,8 @@ use Rattle.rules.specs.declared.Refusal.{Refusal}
 use Rattle.rules.specs.Refusal.{number, accepted}
 use Rattle.rules.specs.Bytes.{be}
 use Rattle.rules.specs.Program.{line, refusedWord, refusedLine}
-use Rattle.text.specs.Laid.{Put}
-use Rattle.text.proofs.PutLaws.{put-same, put-cat}
+use Rattle.files.specs.Laid.{Put}
+use Rattle.files.proofs.PutLaws.{put-same, put-cat}
 use Rattle.text.proofs.LineLaws.{line-most}
 
 -- its first eight bytes, as one number

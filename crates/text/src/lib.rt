@@ -1,9 +1,10 @@
-// What the program prints, laid into lent bytes, and the numbers that it reads from a file.
+// What the program prints, laid into lent bytes.
 
 ghost use Prim.Native.Nat.{_+_, _≤_, _<_};
 ghost use lib.ListN.{length};
 ghost use Rattle.rules.specs.Program.{digits, line, lines, refusedLine};
-ghost use Rattle.text.specs.Laid.{Put, answersIn, Counted, wordsOf};
+ghost use Rattle.files.specs.Laid.{Put};
+ghost use Rattle.text.specs.Answers.{answersIn, Counted};
 use rules::Refusal;
 
 // The eight bytes of `refused `.
@@ -64,16 +65,4 @@ pub fn put_refused(text: &mut [u8], at: usize, r: Refusal) -> usize
     }
     numbers::write_u64(text, at, REFUSED);
     put_line(text, at + 8, &[n])
-}
-
-// Reads the whole four-byte numbers of a file of at most 32 KiB.
-pub fn read_numbers(bytes: &[u8], numbers: &mut [u32; 8192]) -> usize
-    requires { ⌜ length (now bytes) ≤ 32768 ⌝ }
-    ensures { λ r. ⌜ Put (wordsOf (now (bytes .entry))) 0 r (now (numbers .entry)) (now (numbers .exit)) ⌝ }
-{
-    let count = bytes.len() / 4;
-    for i in 0..count {
-        numbers[i] = numbers::read_u32(bytes, 4 * i) as u32;
-    }
-    count
 }

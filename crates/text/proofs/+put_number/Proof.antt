@@ -4,7 +4,7 @@ use native.Mathlib.Omega.{arith}
 use lib.ListN.{length-set}
 use borrow.Fn.Kinds.{In}
 use borrow.Fn.PlainCycle.{Measures, is, falls, and}
-use Rattle.text.proofs.PutLaws.{put-length}
+use Rattle.files.proofs.PutLaws.{put-length}
 use Rattle.text.proofs.DigitLaws.{one-length, tens-length, put-digit, put-digits}
 use Rattle.text.proofs.+put_number.{statement}
 use Rattle.text.proofs.+put_number.Tie.{close}

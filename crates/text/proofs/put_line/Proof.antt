@@ -6,9 +6,9 @@ use native.Mathlib.Omega.{arith}
 use borrow.Author.Needs.{needs}
 use lib.ListN.{length, drop, getD, length-set}
 use Rattle.rules.specs.Program.{digits}
-use Rattle.text.specs.Laid.{Put, Partly}
-use Rattle.text.proofs.PutLaws.{put-one, put-same, put-cat, put-length, partly-none, partly-same, partly-more}
-use Rattle.text.proofs.PutLaws.{partly-end}
+use Rattle.files.specs.Laid.{Put, Partly}
+use Rattle.files.proofs.PutLaws.{put-one, put-same, put-cat, put-length, partly-none, partly-same, partly-more}
+use Rattle.files.proofs.PutLaws.{partly-end}
 use Rattle.text.proofs.LineLaws.{ending, line-first, first-length, ending-at, ending-length, ending-last}
 use Rattle.text.proofs.put_line.Statement.{statement}
 use Rattle.text.proofs.put_line.Tie as tie

@@ -4,8 +4,9 @@ use Prim.Native.Nat.{_+_, _-_, _≤_, _<_}
 use native.Mathlib.Omega.{arith}
 use lib.ListN.{length, drop}
 use Rattle.rules.specs.Program.{line, lines}
-use Rattle.text.specs.Laid.{Put, Partly, answersIn, Counted}
-use Rattle.text.proofs.PutLaws.{put-length, partly-none, partly-same, partly-more, partly-all}
+use Rattle.files.specs.Laid.{Put, Partly}
+use Rattle.files.proofs.PutLaws.{put-length, partly-none, partly-same, partly-more, partly-all}
+use Rattle.text.specs.Answers.{answersIn, Counted}
 use Rattle.text.proofs.LineLaws.{answer-at, counted-fits, counted-rest, counted-some, lines-at, lines-length}
 use Rattle.text.proofs.LineLaws.{lines-none}
 use Rattle.text.proofs.put_lines.Statement.{statement}

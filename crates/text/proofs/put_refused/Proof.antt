@@ -2,7 +2,7 @@
 use mathlib.Core.Path.{sym}
 use native.Mathlib.Omega.{arith}
 use borrow.Author.Needs.{needs}
-use Rattle.text.proofs.PutLaws.{put-none, put-same}
+use Rattle.files.proofs.PutLaws.{put-none, put-same}
 use Rattle.text.proofs.RefusedLaws.{refused-none, refused-length, put-refused}
 use Rattle.text.proofs.put_refused.Statement.{statement}
 use Rattle.text.proofs.put_refused.Tie as tie

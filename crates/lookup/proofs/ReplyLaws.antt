@@ -17,7 +17,7 @@ use Rattle.rules.specs.Common.{common}
 use Rattle.rules.specs.Questions.{firstFrom, commonPages, withStarts, numbered, pagesIn, listsIn, wordsIn, byRank}
 use Rattle.rules.specs.Questions.{byBound, byCommon, byPhrase, answer, kindOf, argsOf, behind, wellFormed, replies}
 use Rattle.rules.specs.Ask.{Replied, fitting, fitted, reply, joined}
-use Rattle.text.specs.Laid.{Counted}
+use Rattle.text.specs.Answers.{Counted}
 
 -- ---- one answer
 

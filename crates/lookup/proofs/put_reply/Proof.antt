@@ -7,18 +7,18 @@ use borrow.Author.Needs.{needs}
 use lib.ListN.{take, replicate}
 use Rattle.rules.specs.Ask.{Replied, reply}
 use Rattle.rules.specs.Program.{answerRoom}
-use Rattle.text.specs.Laid.{wordsOf}
-use Rattle.text.proofs.PutLaws.{put-length}
+use Rattle.files.specs.Laid.{wordsOf}
+use Rattle.files.proofs.PutLaws.{put-length}
 use Rattle.text.proofs.RefusedLaws.{refused-most}
-use Rattle.lookuptext.proofs.ToldLaws.{Told, read-within, read-words, told, told-counted, told-lines, put-told}
-use Rattle.lookuptext.proofs.put_reply.Statement.{statement}
-use Rattle.lookuptext.proofs.put_reply.Tie as tie
-use Rattle.lookuptext.proofs.put_reply.Reads as reads
-use Rattle.lookuptext.proofs.put_reply.Lts as lts
+use Rattle.lookup.proofs.ToldLaws.{Told, read-within, read-words, told, told-counted, told-lines, put-told}
+use Rattle.lookup.proofs.put_reply.Statement.{statement}
+use Rattle.lookup.proofs.put_reply.Tie as tie
+use Rattle.lookup.proofs.put_reply.Reads as reads
+use Rattle.lookup.proofs.put_reply.Lts as lts
 use Rattle.ask.proofs.ask.Reads as ask-reads
 use Rattle.text.proofs.put_lines.Reads as put-lines-reads
 use Rattle.text.proofs.put_refused.Reads as put-refused-reads
-use Rattle.text.proofs.read_numbers.Reads as read-numbers-reads
+use Rattle.files.proofs.read_numbers.Reads as read-numbers-reads
 
 -- the two local rooms at first
 abbrev zeros : List ℕ

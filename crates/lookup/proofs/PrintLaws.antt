@@ -1,11 +1,10 @@
 -- Laws of what the program prints: its three cases, and its length.
-use mathlib.Core.Bool.{Bool, true, false, cond, _&&_, _||_}
+use mathlib.Core.Bool.{Bool, true, false, cond, _&&_, _||_, true≢false}
 use mathlib.Core.Path.{_≡_, refl, sym, ap, _∙_}
-use mathlib.Core.Logic.{_⊎_, inl, inr}
 use mathlib.Core.List.{List}
-use Prim.Native.Nat.{ℕ, _%_, _≤_, _<_}
+use Prim.Native.Nat.{ℕ, _%_, _≤_}
 use native.Mathlib.Omega.{arith}
-use borrow.Author.Tests.{lt-ltb, le-ltb}
+use borrow.Author.Tests.{ltb-false}
 use lib.Dec.{ltb}
 use lib.ListN.{length}
 use Rattle.rules.specs.declared.Refusal.the-variants.{Question, Room}
@@ -15,43 +14,50 @@ use Rattle.rules.specs.Write.{laid}
 use Rattle.rules.specs.Ask.{reply}
 use Rattle.rules.specs.Program.{fileLimit, answerRoom, lines, refusedLine, printedReply, printed}
 use Rattle.laws.proofs.RefusalLaws.{accepted-true, andThen-next, andThen-stop}
-use Rattle.text.specs.Laid.{Put, wordsOf}
-use Rattle.text.proofs.PutLaws.{put-same, put-laid}
+use Rattle.files.specs.Laid.{Put, wordsOf}
+use Rattle.files.proofs.PutLaws.{put-same, put-laid}
 
 -- ---- three cases
 
-or-true : (a b : Bool) → b ≡ true → a || b ≡ true
-or-true true b e = refl
-or-true false b e = e
+or-false : (a b : Bool) → a || b ≡ false → b ≡ false
+or-false true b e = absurd (true≢false e)
+or-false false b e = e
 
 and-false : (a : Bool) → a && false ≡ false
 and-false true = refl
 and-false false = refl
 
-pub printed-large : (s qs : List ℕ) → (fileLimit < length s) ⊎ (fileLimit < length qs) → printed s qs ≡ refusedLine Room
-unfolding printed
-printed-large s qs (inl h) = rw (lt-ltb fileLimit (length s) h)
-printed-large s qs (inr h) =
-    rw (or-true (ltb fileLimit (length s)) (ltb fileLimit (length qs)) (lt-ltb fileLimit (length qs) h))
+-- a file is too long
+abbrev over : List ℕ → List ℕ → Bool
+over s qs = ltb fileLimit (length s) || ltb fileLimit (length qs)
 
-module _ (s qs : List ℕ) (h : length s ≤ fileLimit) (l : length qs ≤ fileLimit) where
+module _ (s qs : List ℕ) where
+  pub printed-large : over s qs ≡ true → printed s qs ≡ refusedLine Room
+  unfolding printed
+  printed-large e = rw e
+
+  pub questions-within : over s qs ≡ false → length qs ≤ fileLimit
+  questions-within e =
+      ltb-false fileLimit (length qs) (or-false (ltb fileLimit (length s)) (ltb fileLimit (length qs)) e)
+
+module _ (s qs : List ℕ) (h : over s qs ≡ false) where
   abbrev whole : List ℕ
   whole = printedReply (reply s (wordsOf qs) answerRoom)
 
   printed-small : printed s qs ≡ cond (accepted (indexRefusal s) && ltb 0 (length qs % 4)) (refusedLine Question) whole
   unfolding printed
-  printed-small = rw (le-ltb fileLimit (length s) h, le-ltb fileLimit (length qs) l)
+  printed-small = rw h
 
-  pub printed-whole : length qs % 4 ≡ 0 → printed s qs ≡ whole
-  printed-whole e = printed-small ∙ rw (le-ltb 0 (length qs % 4) (omega arith), and-false (accepted (indexRefusal s)))
+  pub printed-whole : ltb 0 (length qs % 4) ≡ false → printed s qs ≡ whole
+  printed-whole e = printed-small ∙ rw (e, and-false (accepted (indexRefusal s)))
 
   -- the card's own refusal goes first
   stopped : accepted (indexRefusal s) ≡ false → whole ≡ refusedLine (indexRefusal s)
   unfolding reply printedReply lines
   stopped e = rw e
 
-  pub printed-rest : 0 < length qs % 4 → printed s qs ≡ refusedLine (andThen (indexRefusal s) Question)
-  printed-rest g = printed-small ∙ rw (lt-ltb 0 (length qs % 4) g) (go (accepted (indexRefusal s)) refl)
+  pub printed-rest : ltb 0 (length qs % 4) ≡ true → printed s qs ≡ refusedLine (andThen (indexRefusal s) Question)
+  printed-rest e = printed-small ∙ rw e (go (accepted (indexRefusal s)) refl)
     where
       go : (b : Bool) → accepted (indexRefusal s) ≡ b → cond (b && true) (refusedLine Question) whole
           ≡ refusedLine (andThen (indexRefusal s) Question)

@@ -11,7 +11,7 @@ use lib.Seq.{drop-drop}
 use Rattle.rules.specs.Bytes.{beAt}
 use Rattle.rules.specs.Program.{numbersOf}
 use Rattle.laws.proofs.ByteLaws.{beAt-drop}
-use Rattle.text.specs.Laid.{wordsOf}
+use Rattle.files.specs.Laid.{wordsOf}
 
 numbers-stop : (qs : List ℕ) → numbersOf zero qs ≡ []
 unfolding numbersOf

@@ -8,7 +8,7 @@ use lib.ListN.{length, set, length-append}
 use lib.Seq.{length-sets, sets-eq}
 use Rattle.rules.specs.Write.{laid}
 use Rattle.laws.proofs.ByteLaws.{sets-cat}
-use Rattle.text.specs.Laid.{Put, Partly}
+use Rattle.files.specs.Laid.{Put, Partly}
 
 -- ---- laid
 

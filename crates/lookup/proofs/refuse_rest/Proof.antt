@@ -4,8 +4,8 @@ use borrow.Author.Needs.{needs}
 use Rattle.rules.specs.declared.Refusal.the-variants.{Question}
 use Rattle.rules.specs.Index.{indexRefusal}
 use Rattle.laws.proofs.RefusalLaws.{andThen-next, told-stop, told-passed}
-use Rattle.lookuptext.proofs.refuse_rest.Statement.{statement}
-use Rattle.lookuptext.proofs.refuse_rest.Tie as tie
+use Rattle.lookup.proofs.refuse_rest.Statement.{statement}
+use Rattle.lookup.proofs.refuse_rest.Tie as tie
 
 returns : tie.Need-returns
 returns c =

@@ -9,12 +9,13 @@ use Rattle.rules.specs.Write.{laid}
 use Rattle.rules.specs.Ask.{Replied, reply, joined, Asked, asked, put, ask}
 use Rattle.rules.specs.Program.{answerRoom, lines, refusedLine, printedReply}
 use Rattle.laws.proofs.RoomLaws.{take-laid, length-laid}
-use Rattle.text.specs.Laid.{Put, answersIn, Counted, wordsOf}
-use Rattle.text.proofs.PutLaws.{put-same, put-cat, put-laid}
+use Rattle.files.specs.Laid.{Put, wordsOf}
+use Rattle.files.proofs.PutLaws.{put-same, put-cat, put-laid}
+use Rattle.files.proofs.WordLaws.{words-length}
+use Rattle.text.specs.Answers.{answersIn, Counted}
 use Rattle.text.proofs.LineLaws.{lines-most, answers-joined}
 use Rattle.text.proofs.RefusedLaws.{refused-most}
-use Rattle.text.proofs.WordLaws.{words-length}
-use Rattle.lookuptext.proofs.ReplyLaws.{Fitting, reply-fits}
+use Rattle.lookup.proofs.ReplyLaws.{Fitting, reply-fits}
 
 -- ---- the numbers read
 

@@ -5,11 +5,11 @@ use Prim.Native.Nat.{_+_, _-_, _*_, _/_, _≤_}
 use native.Mathlib.Omega.{arith}
 use borrow.Author.Needs.{needs}
 use lib.ListN.{length, drop}
-use Rattle.text.specs.Laid.{Partly, wordsOf}
-use Rattle.text.proofs.PutLaws.{put-one, partly-none, partly-same, partly-more, partly-all}
-use Rattle.text.proofs.WordLaws.{words-at, words-none}
-use Rattle.text.proofs.read_numbers.Statement.{statement}
-use Rattle.text.proofs.read_numbers.Tie as tie
+use Rattle.files.specs.Laid.{Partly, wordsOf}
+use Rattle.files.proofs.PutLaws.{put-one, partly-none, partly-same, partly-more, partly-all}
+use Rattle.files.proofs.WordLaws.{words-at, words-none}
+use Rattle.files.proofs.read_numbers.Statement.{statement}
+use Rattle.files.proofs.read_numbers.Tie as tie
 
 abbrev Inv-loop : tie.InvT-loop
 Inv-loop bytes numbers₀ count i₀ numbers i =
