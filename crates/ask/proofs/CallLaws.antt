@@ -11,7 +11,7 @@ use Rattle.rules.specs.Write.{laid}
 use Rattle.rules.specs.Index.{indexT, indexRefusal}
 use Rattle.rules.specs.Ask.{reply, joined, put, fitted, ask}
 use Rattle.questions.specs.Formed.{formed, answersTo}
-use Rattle.ask.specs.Running.{outcome}
+use Rattle.replies.specs.Running.{outcome}
 
 module _ (s qs room : List ℕ) where
   pub ask-refused : (r : Refusal) → r ≡ indexRefusal s → accepted r ≡ false → outcome r 0 0 room ≡ ask s qs room

@@ -1,3 +1,1 @@
-pub mod RunLaws
-pub mod TurnLaws
 pub mod CallLaws

@@ -19,29 +19,19 @@ fn answer_all(card: &[u8], questions: &[u32], room: &mut [u32]) -> Outcome
         ≡ put (fitted (length (now (room .entry))) (answersTo (now (card .entry)) (now (questions .entry))))
         (now (room .entry)) ⌝ }
 {
-    let mut at = 0;
-    let mut answered = 0;
-    let mut used = 0;
-    while at < questions.len() {
+    let mut run = replies::started();
+    while run.at < questions.len() {
+        let at = run.at;
         let from = at + 2;
         let to = questions::end_of(questions, at);
+        let used = run.used;
         let size = answer::answer_one(card, questions[at], &questions[from..to], &mut room[used..]);
         if size == 0 {
-            return Outcome {
-                refusal: Refusal::Room,
-                answered,
-                used,
-            };
+            return replies::stopped(run);
         }
-        used += size;
-        answered += 1;
-        at = to;
+        run = replies::further(run, to, size);
     }
-    Outcome {
-        refusal: Refusal::Accepted,
-        answered,
-        used,
-    }
+    replies::ended(run)
 }
 
 // The call: the card is checked whole, then all questions, and then each is answered in turn.

@@ -13,23 +13,6 @@ ghost use Rattle.kinds.specs.Alone.{OpenedAlone};
 use querylaws::Query;
 use walklaws::SPENT;
 
-// Puts an answer whole at the front of the room; 0 where it does not fit.
-fn put(answer: &[u32], room: &mut [u32]) -> usize
-    requires { ⌜ 0 < length (now answer) ⌝ }
-    ensures { λ r. ⌜ Wrote (now (answer .entry)) (now (room .entry)) r (now (room .exit)) ⌝ }
-{
-    let size = answer.len();
-    if room.len() < size {
-        return 0;
-    }
-    let mut i = 0;
-    while i < size {
-        room[i] = answer[i];
-        i += 1;
-    }
-    size
-}
-
 // The block of a word's pages.
 fn pages_in(card: &[u8], t: usize) -> &[u8]
     requires { ⌜ (indexRefusal (now card) ≡ Accepted) × (t < indexT (now card)) ⌝ }
@@ -45,10 +28,10 @@ fn put_ranked(pages: &[u8], rank: usize, room: &mut [u32]) -> usize
 {
     let g = reading::shape_at(pages);
     if g.n <= rank {
-        return put(&[0], room);
+        return replies::put(&[0], room);
     }
     let page = byrank::element_at(pages, g, rank);
-    put(&[1, page as u32], room)
+    replies::put(&[1, page as u32], room)
 }
 
 // Kind 1: the page of that rank of word t, if there is one.
@@ -78,8 +61,8 @@ pub fn by_bound(card: &[u8], t: u32, bound: usize, room: &mut [u32]) -> usize
     open_alone(pages, &mut shapes);
     let turn = query::next_common(pages, &shapes, Query::new(), 1, bound);
     if turn.mark == SPENT {
-        return put(&[0], room);
+        return replies::put(&[0], room);
     }
     let rank = rows::rank_in(&shapes, turn.q, 0);
-    put(&[2, turn.mark - 1, rank as u32], room)
+    replies::put(&[2, turn.mark - 1, rank as u32], room)
 }

@@ -7,8 +7,8 @@ use lib.ListN.{length, getD, take, set, length-set}
 use lib.Seq.{take-length}
 use Rattle.rules.specs.Write.{laid}
 use Rattle.questions.proofs.WroteLaws.{wrote-whole, wrote-none, laid-more}
-use Rattle.kinds.proofs.put.Statement.{statement}
-use Rattle.kinds.proofs.put.Tie as tie
+use Rattle.replies.proofs.put.Statement.{statement}
+use Rattle.replies.proofs.put.Tie as tie
 
 abbrev Inv-loop : tie.InvT-loop
 Inv-loop answer room₀ size i₀ room i =

@@ -17,8 +17,8 @@ use Rattle.questions.specs.Wrote.{Wrote}
 use Rattle.questions.proofs.PlaceLaws.{formed-inside, formed-good, answers-at}
 use Rattle.questions.proofs.WroteLaws.{tail-part, tail-back}
 use Rattle.laws.proofs.RoomLaws.{length-laid}
-use Rattle.ask.specs.Running.{outcome, running, Under, Turned}
-use Rattle.ask.proofs.RunLaws.{run-start, run-end, run-on, run-stop}
+use Rattle.replies.specs.Running.{outcome, running, Under, Turned}
+use Rattle.replies.proofs.RunLaws.{run-start, run-end, run-on, run-stop}
 
 module _ (s qs room₀ : List ℕ) where
   pub under-start : formed (indexT s) qs ≡ true → Under s qs room₀ room₀ 0 0 0

@@ -12,7 +12,7 @@ use Rattle.rules.specs.declared.Refusal.{Refusal}
 use Rattle.rules.specs.declared.Refusal.the-variants.{Accepted, Room}
 use Rattle.rules.specs.Write.{laid}
 use Rattle.rules.specs.Ask.{fitting, fitted, joined, put}
-use Rattle.ask.specs.Running.{outcome, halted, running}
+use Rattle.replies.specs.Running.{outcome, halted, running}
 
 -- two outcomes are one where their parts are
 same-outcome : (r q : Refusal) (n m u v : ℕ) (s t : List ℕ) → r ≡ q → n ≡ m → u ≡ v → s ≡ t → outcome r n u s
