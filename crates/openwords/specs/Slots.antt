@@ -7,7 +7,7 @@ use mathlib.Core.List.{List}
 use Prim.Native.Nat.{ℕ, _<_}
 use lib.ListN.{length, getD}
 use Rattle.querylaws.specs.Lists.{partAt}
-use Rattle.phrase.specs.Words.{BlockAt}
+use Rattle.turning.specs.Words.{BlockAt}
 use Rattle.wordlists.specs.Lying.{listOf}
 
 pub record Slot (s sh : List ℕ) (i : ℕ) (b : List ℕ) : Type 0 where

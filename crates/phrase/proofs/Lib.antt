@@ -1,5 +1,2 @@
-pub mod StartLaws
 pub mod PageLaws
-pub mod WordLaws
-pub mod StandLaws
-pub mod Theorems
+mod StandLaws

@@ -13,15 +13,15 @@ use Rattle.rules.specs.ReadTerm.{less}
 use Rattle.rules.specs.Questions.{member}
 use Rattle.shape.specs.declared.Shape.{Shape}
 use Rattle.seeklaws.specs.Cursors.{firstAt}
-use Rattle.seeklaws.proofs.FirstLaws.{rising-lt, rising-below, firstAt-before, firstAt-at}
+use Rattle.seeklaws.proofs.FirstLaws.{rising-lt, firstAt-before, firstAt-at}
 use Rattle.commonlaws.proofs.SharedLaws.{member-at, member-none}
 use Rattle.termlaws.proofs.PlaceLaws.{length-less}
 use Rattle.walklaws.proofs.OpenLaws.{open-length, open-rising}
 use Rattle.span.specs.declared.Walk.{Walk}
-use Rattle.span.specs.Walks.{past, Passing}
-use Rattle.span.specs.Spans.{onPage}
+use Rattle.span.specs.Walks.{past}
 use Rattle.span.proofs.WalkLaws.{past-none, past-some, past-mono}
-use Rattle.phrase.proofs.StartLaws.{Rises}
+use Rattle.upto.specs.Bounds.{Passing}
+use Rattle.phrase.specs.Pages.{onPage}
 
 getD-less : (b : ℕ) (xs : List ℕ) (j : ℕ) → getD (less b xs) j 0 ≡ getD xs j 0 - b
 unfolding less
@@ -39,14 +39,14 @@ module _ (U : ℕ) (es : List ℕ) (rises : rising 0 U es ≡ true) (base to : �
   unfolding onPage
   page-length = length-less base (slice f to es) ∙ length-slice f to es within
 
-  page-at : (j : ℕ) → f + j < to → getD (onPage es base to) j 0 ≡ getD es (f + j) 0 - base
+  pub page-at : (j : ℕ) → f + j < to → getD (onPage es base to) j 0 ≡ getD es (f + j) 0 - base
   unfolding onPage
   page-at j h =
       getD-less base (slice f to es) j
       ∙ ap (λ (e : ℕ). e - base) (getD-drop f (take to es) j 0 ∙ getD-take to es (f + j) 0 h)
 
   -- its elements lie behind the base
-  page-from : (j : ℕ) → f ≤ j → j < to → base ≤ getD es j 0
+  pub page-from : (j : ℕ) → f ≤ j → j < to → base ≤ getD es j 0
   page-from j l h =
       elim (decLt f j) [
         | yes g ↦ omega (arith, firstAt-at base es (omega arith), rising-lt 0 U es rises f j g (omega arith))
@@ -54,23 +54,6 @@ module _ (U : ℕ) (es : List ℕ) (rises : rising 0 U es ≡ true) (base to : �
             let e : f ≡ j = omega arith in
             rw e at (firstAt-at base es (omega arith))
       ]
-
-  -- its positions rise
-  pub page-rises : Rises 0 U (onPage es base to)
-  page-rises = record {
-    below = λ j h.
-        let l : f + j < to = omega (arith, page-length) in
-        (omega arith, omega (arith, page-at j l, rising-below 0 U es rises (f + j) (omega arith)));
-    up = λ i j l h.
-        let m : f + j < to = omega (arith, page-length) in
-        omega (
-          arith,
-          page-at i (omega arith),
-          page-at j m,
-          page-from (f + i) (omega arith) (omega arith),
-          rising-lt 0 U es rises (f + i) (f + j) (omega arith) (omega arith),
-        );
-  }
 
   pub page-lacks : (x : ℕ) → ((j : ℕ) → j < to → getD es j 0 ≡ base + x → ⊥) → member x (onPage es base to) ≡ false
   page-lacks x g =

@@ -1,9 +1,11 @@
--- Laws of seeking a start: what a word tells of it, by where reading of its elements stands then.
+-- Laws of seeking a start: what passing a word's elements leaves, and what the word tells by where reading stands then.
 use mathlib.Core.Bool.{Bool, true, false}
-use mathlib.Core.Path.{_≡_, refl}
+use mathlib.Core.Path.{_≡_, refl, sym, ap, _∙_}
 use mathlib.Core.List.{List}
 use Prim.Native.Nat.{ℕ, _+_, _-_, _*_, _^_, _≤_, _<_}
 use native.Mathlib.Omega.{arith}
+use borrow.Author.Tests.{lt-ltb}
+use lib.Dec.{ltb}
 use lib.ListN.{length}
 use Rattle.rules.specs.Limits.{limit}
 use Rattle.rules.specs.List.{rising}
@@ -11,51 +13,46 @@ use Rattle.rules.specs.ReadList.{listU}
 use Rattle.rules.specs.Questions.{member}
 use Rattle.walklaws.proofs.OpenLaws.{open-within, open-length, open-rising}
 use Rattle.querylaws.specs.Lists.{partAt, shapeIn}
-use Rattle.span.specs.Walks.{WalkOn}
-use Rattle.span.proofs.WalkLaws.{past-le, past-mono}
-use Rattle.phrase.specs.Words.{elementsAt, positionWalk, baseIn, endIn, pageAt, Ready, PassedOn, Sought}
+use Rattle.span.specs.declared.Walk.{Walk}
+use Rattle.span.proofs.WalkLaws.{past-le}
+use Rattle.upto.specs.Bounds.{PassedBelow}
+use Rattle.turning.specs.Words.{elementsAt, withWalk, positionWalk, baseIn, endIn}
+use Rattle.turning.proofs.WordLaws.{walks-long, walk-kept, walk-here}
+use Rattle.phrase.specs.Pages.{pageAt, Ready, PassedOn, Sought}
 use Rattle.phrase.proofs.PageLaws.{page-lacks, page-has, none-left, stands-last, stands-between}
 
--- a word whose numbers are as they were is ready for what it was, and for more
-pub ready-same : (s sh ws after : List ℕ) (i b : ℕ) → length after ≡ 64 → positionWalk after i ≡ positionWalk ws i
-    → endIn after i ≡ endIn ws i → Ready s sh ws i b → Ready s sh after i b
-ready-same s sh ws after i b l e z r = record {
-  room = l;
-  short = omega (arith, z, r .short);
-  passing = rw (e, z) (r .passing);
-}
+-- ---- what passing word i's elements up to b leaves
 
-pub ready-more : (s sh ws : List ℕ) (i b d : ℕ) → b ≤ d → Ready s sh ws i b → Ready s sh ws i d
-ready-more s sh ws i b d l r = record {
-  room = r .room;
-  short = r .short;
-  passing = record { on = r .passing .on; inside = r .passing .inside; below = omega (arith, r .passing .below) };
-}
+module _ (s sh ws : List ℕ) (i b : ℕ) (r : Ready s sh ws i b) where
+  -- word i stands at b or behind it already
+  pub passed-there : b < positionWalk ws i .past → PassedOn s sh ws i b true ws
+  passed-there h = record {
+    ready = r;
+    found = sym (lt-ltb b (positionWalk ws i .past) h);
+    all = λ l. absurd (omega arith);
+    kept = record { before = λ m l. refl; behind = λ m l. refl };
+  }
 
--- a word whose reading stands before its page is ready for any start there
-pub ready-begun : (s sh ws : List ℕ) (i : ℕ) → length ws ≡ 64
-    → WalkOn (partAt s sh i) (shapeIn sh i) (positionWalk ws i)
-    → positionWalk ws i .past ≡ baseIn ws i → positionWalk ws i .next ≤ endIn ws i
-    → endIn ws i ≤ length (elementsAt s sh i) → Ready s sh ws i (baseIn ws i)
-unfolding shapeIn
-ready-begun s sh ws i room on before inside short =
-    let size = open-length (partAt s sh i) (shapeIn sh i) (on .opened) in
-    record {
-      room = room;
-      short = omega (arith, size, short);
-      passing = record {
-        on = on;
-        inside = inside;
-        below = omega (
-          arith,
-          past-mono (listU (partAt s sh i)) (elementsAt s sh i)
-              (open-rising (partAt s sh i) (shapeIn sh i) (on .opened)) (positionWalk ws i .next - 1)
-              (positionWalk ws i .next) (omega arith) (omega (arith, size, on .within)),
-          on .past-is,
-          before,
-        );
-      };
-    }
+  pub passed-on : i < 8 → (v : Walk)
+      → PassedBelow (partAt s sh i) (shapeIn sh i) (endIn ws i) b (positionWalk ws i) v
+      → PassedOn s sh ws i b (ltb b (v .past)) (withWalk ws (8 * i + 3) v)
+  passed-on few v p =
+      let after : List ℕ = withWalk ws (8 * i + 3) v in
+      let e = walk-here ws (8 * i + 3) v (r .room) (omega arith) in
+      let k = walk-kept ws (8 * i + 3) v in
+      let z : endIn after i ≡ endIn ws i = k .behind (8 * i + 7) (omega arith) in
+      let f : positionWalk after i .past ≡ v .past = ap (λ (w : Walk). w .past) e in
+      let n : positionWalk after i .next ≡ v .next = ap (λ (w : Walk). w .next) e in
+      record {
+        ready = record {
+          room = walks-long ws (8 * i + 3) v ∙ r .room;
+          short = omega (arith, z, r .short);
+          passing = rw (e, z) (p .passing);
+        };
+        found = ap (ltb b) (sym f);
+        all = λ l. n ∙ p .all (omega (arith, f)) ∙ sym z;
+        kept = record { before = k .before; behind = λ m l. k .behind m (omega arith) };
+      }
 
 -- ---- what word i tells of starts from a on
 

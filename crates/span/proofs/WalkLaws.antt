@@ -13,13 +13,12 @@ use Rattle.rules.specs.ReadList.{listU, decode}
 use Rattle.rules.specs.Seek.{placeOf}
 use Rattle.laws.proofs.CountLaws.{below-none, below-suc}
 use Rattle.shape.specs.declared.Shape.{Shape}
-use Rattle.seeklaws.specs.Cursors.{firstAt}
-use Rattle.seeklaws.proofs.FirstLaws.{rising-lt, rising-below, firstAt-unique}
+use Rattle.seeklaws.proofs.FirstLaws.{rising-lt, rising-below}
 use Rattle.readlaws.specs.Open.{Open, OneAt}
 use Rattle.readlaws.proofs.ReadLaws.{one-ranks}
 use Rattle.walklaws.proofs.OpenLaws.{open-length, open-ruled, placed-at}
 use Rattle.span.specs.declared.Walk.{Walk}
-use Rattle.span.specs.Walks.{past, behind, WalkOn, PassedTo, Passing}
+use Rattle.span.specs.Walks.{past, behind, WalkOn, PassedTo}
 
 -- ---- one past the first elements
 
@@ -59,21 +58,6 @@ past-lt U xs r (suc i) j l h =
 pub past-mono : (U : ℕ) (xs : List ℕ) → rising 0 U xs ≡ true → (i j : ℕ) → i ≤ j → j ≤ length xs → past xs i ≤ past xs j
 past-mono U xs r i j l h =
     elim (ℕ-discrete i j) [ yes e ↦ rw e (omega arith) | no e ↦ omega (arith, past-lt U xs r i j (omega (arith, e)) h) ]
-
--- number i is that of the first element past those before it
-pub first-past : (U : ℕ) (xs : List ℕ) → rising 0 U xs ≡ true → (i : ℕ) → i ≤ length xs → firstAt (past xs i) xs ≡ i
-first-past U xs r zero h =
-    firstAt-unique (past xs 0) xs 0 h (λ j l. absurd (omega arith)) (λ l. rw (past-none xs) (omega arith))
-first-past U xs r (suc i) h =
-    let e : suc i - 1 ≡ i = omega arith in
-    let p : past xs (suc i) ≡ getD xs i 0 + 1 = rw e at (past-some xs (suc i) (omega arith) h) in
-    firstAt-unique (past xs (suc i)) xs (suc i) h
-    (λ j l. elim (ℕ-discrete j i) [
-      | yes d ↦ rw (p, d) (omega arith)
-      | no d ↦ omega
-          (arith, p, rising-lt 0 U xs r j i (omega arith) (omega arith))
-    ])
-    (λ l. omega (arith, p, rising-lt 0 U xs r i (suc i) (omega arith) l))
 
 -- ---- where reading stands
 
@@ -120,10 +104,3 @@ passed-unique s g n w r p q =
     let d = p .on .past-is ∙ ap (past (decode s)) e ∙ sym (q .on .past-is) in
     let f = p .on .place-is ∙ ap (behind (listU s) (decode s)) e ∙ sym (q .on .place-is) in
     rw (← e, ← d, ← f)
-
--- one more is passed where all that are passed lie below b
-pub passing-on : (s : List ℕ) (g : Shape) (to b : ℕ) (w r : Walk) → Passing s g to b w → w .next < to → w .past ≤ b
-    → PassedTo s g (w .next + 1) r → Passing s g to b r
-passing-on s g to b w r p l h d =
-    let e : r .next - 1 ≡ w .next = omega (arith, d .at) in
-    record { on = d .on; inside = omega (arith, d .at); below = rw e (omega (arith, p .on .past-is)) }

@@ -45,7 +45,7 @@ pub fn page_starts(
 {
     if terms.len() == 1 {
         let rank = rows::rank_in(&lists[0..COUNTS], turn.q, 0);
-        let x = phrase::ranks_at(card, &lists[COUNTS..POSITIONS], 0, rank, words);
+        let x = turning::ranks_at(card, &lists[COUNTS..POSITIONS], 0, rank, words);
         return x.to - x.from;
     }
     count_starts(card, terms, lists, turn, words)

@@ -1,3 +1,7 @@
+mod WordLaws
+mod SpanLaws
+mod StartLaws
+mod PositionLaws
 pub mod RankLaws
 pub mod PageLaws
 pub mod TrialLaws

@@ -22,15 +22,15 @@ use Rattle.querylaws.proofs.TurnLaws.{turned-page}
 use Rattle.span.specs.declared.Walk.{Walk}
 use Rattle.span.specs.Walks.{past}
 use Rattle.span.proofs.WalkLaws.{walk-new}
-use Rattle.span.proofs.SpanLaws.{page-in}
-use Rattle.phrase.specs.declared.Ranks.{Ranks}
-use Rattle.phrase.specs.Words.{elementsAt, walkAt, countWalk, positionWalk, ranksOf, Walked}
-use Rattle.phrase.proofs.WordLaws.{counts-rest}
-use Rattle.phrase.proofs.Theorems.{lone-starts}
+use Rattle.turning.specs.declared.Ranks.{Ranks}
+use Rattle.turning.specs.Words.{elementsAt, walkAt, countWalk, positionWalk, ranksOf, Walked}
 use Rattle.openlists.specs.Places.{slotOf}
 use Rattle.querylaws.specs.Ranks.{rankBy}
 use Rattle.querylaws.proofs.RankLaws.{all-on}
 use Rattle.triallaws.specs.Asked.{termAt, newWords, Asked, OnAll, Ahead}
+use Rattle.triallaws.proofs.WordLaws.{counts-rest}
+use Rattle.triallaws.proofs.SpanLaws.{page-in}
+use Rattle.triallaws.proofs.PositionLaws.{lone-starts}
 use Rattle.triallaws.proofs.RankLaws.{is-ranked, page-there, from-is, to-is, positions-small}
 
 -- ---- the cursors after a turn

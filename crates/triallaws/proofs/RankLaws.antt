@@ -18,13 +18,8 @@ use Rattle.querylaws.specs.declared.Query.{Query}
 use Rattle.querylaws.specs.Lists.{numberOf, partAt, shapeIn, pagesAt, ListAt}
 use Rattle.span.specs.declared.Walk.{Walk}
 use Rattle.span.specs.Walks.{past}
-use Rattle.span.specs.Spans.{positionsBefore, PageIn}
-use Rattle.span.proofs.SpanLaws.{page-in}
-use Rattle.phrase.specs.declared.Ranks.{Ranks}
-use Rattle.phrase.specs.Words.{elementsAt, countWalk, positionWalk, ranksOf, baseIn, Readable, Walked, TurnedOn, TermAt}
-use Rattle.phrase.proofs.WordLaws.{SameWord, same-word, same-other, counts-rest, counts-same, term-same}
-use Rattle.phrase.proofs.StandLaws.{ready-same, ready-more, ready-begun}
-use Rattle.phrase.proofs.Theorems.{page-bounds}
+use Rattle.turning.specs.declared.Ranks.{Ranks}
+use Rattle.turning.specs.Words.{elementsAt, countWalk, positionWalk, ranksOf, baseIn, Readable, Walked, TurnedOn}
 use Rattle.openlists.specs.Places.{sourceOf, slotOf}
 use Rattle.openlists.proofs.SourceLaws.{slot-lt, source-slot}
 use Rattle.wordlists.specs.Lying.{listOf}
@@ -32,7 +27,12 @@ use Rattle.wordlists.proofs.OpenLaws.{lead-within, slot-pages}
 use Rattle.querylaws.specs.Ranks.{rankBy}
 use Rattle.querylaws.proofs.RankLaws.{Ranked, ranked}
 use Rattle.trial.specs.declared.Trial.{Trial}
+use Rattle.triallaws.specs.Spans.{positionsBefore, PageIn, TermAt}
 use Rattle.triallaws.specs.Asked.{termAt, Asked, OnAll, AheadOf, TurnedTo, Trying}
+use Rattle.triallaws.proofs.WordLaws.{SameWord, same-word, same-other, counts-rest, counts-same, term-same}
+use Rattle.triallaws.proofs.WordLaws.{ready-same, ready-more, ready-begun}
+use Rattle.triallaws.proofs.SpanLaws.{page-in}
+use Rattle.triallaws.proofs.PositionLaws.{page-bounds}
 
 -- ---- the words' lists
 

@@ -17,22 +17,24 @@ use Rattle.querylaws.specs.declared.Query.{Query}
 use Rattle.querylaws.specs.Lists.{span, partAt, shapeIn}
 use Rattle.querylaws.proofs.SpanLaws.{span-cons}
 use Rattle.span.specs.declared.Walk.{Walk}
-use Rattle.span.proofs.SpanLaws.{before-mono}
-use Rattle.phrase.specs.Starts.{standsIn, startsIn, startsBelow}
-use Rattle.phrase.specs.Words.{countWalk, baseIn, endIn, pageAt, BlockAt, Ready, Sought, TermAt}
-use Rattle.phrase.proofs.WordLaws.{SameWord, same-other, counts-same, span-same, term-same}
-use Rattle.phrase.proofs.StartLaws.{stands-fails, stands-all, starts-in, Rises, rises-more, below-found, below-skip}
-use Rattle.phrase.proofs.StartLaws.{below-le, starts-below}
-use Rattle.phrase.proofs.StandLaws.{ready-same, ready-more}
-use Rattle.phrase.proofs.Theorems.{words-map, page-positions, page-bounds, positions-rise}
+use Rattle.turning.specs.Words.{countWalk, baseIn, endIn, BlockAt}
+use Rattle.phrase.specs.Pages.{pageAt, Ready, Sought}
 use Rattle.openlists.specs.Places.{sourceOf, slotOf}
 use Rattle.openlists.proofs.SourceLaws.{slot-lt, source-lt, source-slot, slot-source}
 use Rattle.wordlists.proofs.OpenLaws.{lead-within}
 use Rattle.querylaws.specs.Ranks.{rankBy}
 use Rattle.trial.specs.declared.Trial.{Trial}
+use Rattle.triallaws.specs.Spans.{TermAt}
+use Rattle.triallaws.specs.Starts.{standsIn, startsIn, startsBelow}
 use Rattle.triallaws.specs.Asked.{termAt, positionsHere, pageHere, Asked, OnAll, AheadOf, Ahead, TurnedTo}
 use Rattle.trial.specs.Tries.{triedAt}
 use Rattle.triallaws.specs.Asked.{Trying}
+use Rattle.triallaws.proofs.WordLaws.{SameWord, same-other, counts-same, span-same, term-same}
+use Rattle.triallaws.proofs.WordLaws.{ready-same, ready-more}
+use Rattle.triallaws.proofs.SpanLaws.{before-mono}
+use Rattle.triallaws.proofs.StartLaws.{stands-fails, stands-all, starts-in, Rises, rises-more}
+use Rattle.triallaws.proofs.StartLaws.{below-found, below-skip, below-le, starts-below}
+use Rattle.triallaws.proofs.PositionLaws.{words-map, page-positions, page-bounds, positions-rise}
 use Rattle.triallaws.proofs.RankLaws.{is-ranked, page-there}
 use Rattle.triallaws.proofs.PageLaws.{rank-later}
 

@@ -41,13 +41,14 @@ use Rattle.querylaws.specs.Lists.{span, partAt, shapeIn, pagesAt, boundIn}
 use Rattle.querylaws.specs.Queries.{cursorIn, readerAt}
 use Rattle.walklaws.specs.Cursors.{Held}
 use Rattle.span.specs.Walks.{WalkOn, PassedTo}
-use Rattle.span.specs.Spans.{positionsBefore}
-use Rattle.phrase.specs.Starts.{startsBelow}
-use Rattle.phrase.specs.Words.{countWalk, positionWalk, baseIn, Ready, TermAt}
+use Rattle.turning.specs.Words.{countWalk, positionWalk, baseIn}
+use Rattle.phrase.specs.Pages.{Ready}
 use Rattle.openlists.specs.Places.{slotOf}
 use Rattle.wordlists.specs.Opened.{OpenedPages}
 use Rattle.openwords.specs.Slots.{Filled}
 use Rattle.trial.specs.declared.Trial.{Trial}
+use Rattle.triallaws.specs.Spans.{positionsBefore, TermAt}
+use Rattle.triallaws.specs.Starts.{startsBelow}
 
 unfoldable pub foundIn : List ℕ → List ℕ → List ℕ
 foundIn s ts = withStarts (wordsIn s ts) (commonPages (listsIn s ts))

@@ -1,1 +1,3 @@
+pub mod Spans
+pub mod Starts
 pub mod Asked

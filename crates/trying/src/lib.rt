@@ -30,8 +30,8 @@ pub fn turn_next(
     }
     let i = openlists::source_of(lists[LEAD] as usize, at.standing);
     let rank = rows::rank_in(&lists[0..COUNTS], turn.q, at.standing);
-    let x = phrase::ranks_at(card, &lists[COUNTS..POSITIONS], i, rank, words);
-    phrase::turn_to(card, &lists[POSITIONS..LEAD], i, x, words);
+    let x = turning::ranks_at(card, &lists[COUNTS..POSITIONS], i, rank, words);
+    turning::turn_to(card, &lists[POSITIONS..LEAD], i, x, words);
     Trial {
         turned: at.turned + 1,
         start: at.start,

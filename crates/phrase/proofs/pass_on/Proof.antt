@@ -2,7 +2,7 @@
 use native.Mathlib.Omega.{arith}
 use borrow.Author.Needs.{needs}
 use Rattle.querylaws.specs.Lists.{shapeIn}
-use Rattle.phrase.proofs.WordLaws.{passed-there, passed-on}
+use Rattle.phrase.proofs.StandLaws.{passed-there, passed-on}
 use Rattle.phrase.proofs.pass_on.Statement.{statement}
 use Rattle.phrase.proofs.pass_on.Tie as tie
 

@@ -5,7 +5,7 @@ use native.Mathlib.Omega.{arith}
 use borrow.Author.Needs.{needs}
 use borrow.Author.Tests.{ltb-true, ltb-false, not-true, not-false}
 use lib.ListN.{getD}
-use Rattle.phrase.specs.Words.{baseIn}
+use Rattle.turning.specs.Words.{baseIn}
 use Rattle.phrase.proofs.StandLaws.{sought-none, sought-there}
 use Rattle.phrase.proofs.seek_start.Statement.{statement}
 use Rattle.phrase.proofs.seek_start.Tie as tie

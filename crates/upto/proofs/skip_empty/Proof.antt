@@ -3,10 +3,10 @@ use Prim.Native.Nat.{_+_, _-_, _<_}
 use native.Mathlib.Omega.{arith}
 use Rattle.rules.specs.Runs.{wordsFor}
 use Rattle.walklaws.proofs.OpenLaws.{words-few, look-fits}
-use Rattle.span.specs.Walks.{OnesLeft}
-use Rattle.span.proofs.OnesLaws.{ones-go-on, ones-next}
-use Rattle.span.proofs.skip_empty.Statement.{statement}
-use Rattle.span.proofs.skip_empty.Tie as tie
+use Rattle.upto.specs.Bounds.{OnesLeft}
+use Rattle.upto.proofs.OnesLaws.{ones-go-on, ones-next}
+use Rattle.upto.proofs.skip_empty.Statement.{statement}
+use Rattle.upto.proofs.skip_empty.Tie as tie
 
 abbrev Inv-loop : tie.InvT-loop
 Inv-loop block g at₀ at = OnesLeft block g (at₀ .rank) at

@@ -1,4 +1,4 @@
--- The words of a phrase on one page: their lists, where reading of them stands, and their spans there.
+-- The words of a phrase: their lists, where reading of them stands, and their spans on one page.
 --
 --   elementsAt s sh i   the elements of list number i, which the numbers sh place in the card s
 --   walkAt ws j         where reading of a list stands: three numbers of ws from number j on
@@ -8,34 +8,21 @@
 --   ranksOf cs r        the numbers of the positions on page number r, where cs are the counts' elements
 --   baseIn ws i         the base of word i on the page, number 6 of its eight; position = element - base
 --   endIn ws i          its end there, number 7: the elements up to the page's last
---   pageAt s sh ws i    the positions of word i on the page
 --   BlockAt s sh i      list i is an accepted block, and its numbers are its own
 --   Kept ws from to after  the numbers of ws before `from` and from `to` on are as they were
 --   Readable s sh ws i j  list i is a block, and reading of it stands where the numbers of ws from j on say
 --   Walked s sh ws i j n after  n elements of list i are passed, and the other numbers are as they were
 --   TurnedOn s sh ws i x after  word i stands before the positions of the ranks x, and has their span
---   Ready s sh ws i b   no element of word i at least b is passed but for the last, and none behind the page
---   PassedOn s sh ws i b r after  what passing word i's elements up to b leaves; r: whether the page has one from b on
---   Sought s sh ws i a r after  what seeking a start for word i leaves: r is the first from a on at which the page has it, or
---                       2 ^ 32 where there is none
---   TermAt s sh ws p i t  list i has the positions of the accepted term t, which has page p, and span i is that page's
-use mathlib.Core.Bool.{Bool, true, false}
 use mathlib.Core.Path.{_≡_}
 use mathlib.Core.List.{List}
-use Prim.Native.Nat.{ℕ, _+_, _*_, _^_, _≤_, _<_}
-use lib.Dec.{ltb}
+use Prim.Native.Nat.{ℕ, _+_, _*_, _≤_, _<_}
 use lib.ListN.{length, getD, set}
-use Rattle.rules.specs.declared.Refusal.the-variants.{Accepted}
-use Rattle.rules.specs.Limits.{limit}
 use Rattle.rules.specs.ReadList.{decode}
-use Rattle.rules.specs.ReadTerm.{pagesOf, positionsOf, termRefusal}
-use Rattle.rules.specs.Questions.{member}
 use Rattle.readlaws.specs.Open.{Open}
 use Rattle.querylaws.specs.Lists.{numberOf, partAt, shapeIn}
 use Rattle.span.specs.declared.Walk.{Walk}
-use Rattle.span.specs.Walks.{past, WalkOn, Passing}
-use Rattle.span.specs.Spans.{positionsBefore, onPage}
-use Rattle.phrase.specs.declared.Ranks.{Ranks}
+use Rattle.span.specs.Walks.{past, WalkOn}
+use Rattle.turning.specs.declared.Ranks.{Ranks}
 
 -- ---- numbers
 
@@ -62,9 +49,6 @@ baseIn ws i = getD ws (8 * i + 6) 0
 
 abbrev pub endIn : List ℕ → ℕ → ℕ
 endIn ws i = getD ws (8 * i + 7) 0
-
-unfoldable pub pageAt : List ℕ → List ℕ → List ℕ → ℕ → List ℕ
-pageAt s sh ws i = onPage (elementsAt s sh i) (baseIn ws i) (endIn ws i)
 
 -- ---- one word
 
@@ -95,30 +79,3 @@ pub record TurnedOn (s sh ws : List ℕ) (i : ℕ) (x : Ranks) (after : List ℕ
   pub base-is : baseIn after i ≡ past (elementsAt s sh i) (x .from)
   pub end-is : endIn after i ≡ x .to
   pub kept : Kept ws (8 * i + 3) (8 * i + 8) after
-
-pub record Ready (s sh ws : List ℕ) (i b : ℕ) : Type 0 where
-  pub room : length ws ≡ 64
-  pub short : endIn ws i ≤ numberOf sh i 7
-  pub passing : Passing (partAt s sh i) (shapeIn sh i) (endIn ws i) b (positionWalk ws i)
-
-pub record PassedOn (s sh ws : List ℕ) (i b : ℕ) (r : Bool) (after : List ℕ) : Type 0 where
-  pub ready : Ready s sh after i b
-  pub found : r ≡ ltb b (positionWalk after i .past)
-  pub all : positionWalk after i .past ≤ b → positionWalk after i .next ≡ endIn after i
-  pub kept : Kept ws (8 * i + 3) (8 * i + 6) after
-
-pub record Sought (s sh ws : List ℕ) (i a r : ℕ) (after : List ℕ) : Type 0 where
-  pub ready : Ready s sh after i (baseIn after i + a + i)
-  pub kept : Kept ws (8 * i + 3) (8 * i + 6) after
-  pub none : r ≡ 2 ^ 32 → (d : ℕ) → a ≤ d → member (d + i) (pageAt s sh after i) ≡ false
-  pub found : (r ≡ 2 ^ 32 → ⊥) → (a ≤ r) × (r < limit) × (member (r + i) (pageAt s sh after i) ≡ true)
-  pub first : (r ≡ 2 ^ 32 → ⊥) → (d : ℕ) → a ≤ d → d < r → member (d + i) (pageAt s sh after i) ≡ false
-
-pub record TermAt (s sh ws : List ℕ) (p i : ℕ) (t : List ℕ) : Type 0 where
-  pub accepts : termRefusal t ≡ Accepted
-  pub rank : ℕ
-  pub ranked : rank < length (decode (pagesOf t))
-  pub page-is : getD (decode (pagesOf t)) rank 0 ≡ p
-  pub part-is : partAt s sh i ≡ positionsOf t
-  pub base-is : baseIn ws i ≡ past (decode (positionsOf t)) (positionsBefore t rank)
-  pub end-is : endIn ws i ≡ positionsBefore t (rank + 1)

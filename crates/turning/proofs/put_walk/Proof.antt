@@ -1,8 +1,8 @@
 use native.Mathlib.Omega.{arith}
 use borrow.Author.Needs.{needs}
 use lib.ListN.{length-set}
-use Rattle.phrase.proofs.put_walk.Statement.{statement}
-use Rattle.phrase.proofs.put_walk.Tie as tie
+use Rattle.turning.proofs.put_walk.Statement.{statement}
+use Rattle.turning.proofs.put_walk.Tie as tie
 
 slice-write-words-2 : tie.Need-slice-write-words-2
 slice-write-words-2 c = rw length-set (omega (arith, c .pre))

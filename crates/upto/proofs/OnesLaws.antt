@@ -1,4 +1,4 @@
--- Laws of going from one to one with the word at hand: where it begins, on to the next word, and past a one.
+-- Laws of going from one to one with the word at hand: where it begins, on to the next word, past a one, to a bound.
 use mathlib.Core.Path.{_≡_, refl, sym, ap, _∙_}
 use mathlib.Core.List.{List}
 use Prim.Native.Nat.{ℕ, _+_, _-_, _*_, _/_, _%_, _^_, _≤_, _<_}
@@ -15,8 +15,9 @@ use Rattle.walklaws.specs.declared.Ones.{Ones}
 use Rattle.walklaws.specs.Walks.{Walking}
 use Rattle.walklaws.proofs.OpenLaws.{words-few}
 use Rattle.walklaws.proofs.WalkLaws.{walking-from, walking-next, walking-more, walking-drop, one-lt, one-bit, one-rank}
 use Rattle.span.specs.declared.Walk.{Walk}
-use Rattle.span.specs.Walks.{WalkOn, OnesLeft}
+use Rattle.span.specs.Walks.{WalkOn, PassedTo}
+use Rattle.upto.specs.Bounds.{Passing, OnesLeft}
 
 module _ (s : List ℕ) (g : Shape) (w : Walk) (o : WalkOn s g w) (more : w .next < g .n) where
   -- the word where reading stands lies in the run
@@ -75,3 +76,10 @@ module _ (s : List ℕ) (g : Shape) (o : Open s g) (n : ℕ) (more : n < g .n) (
       walking = walking-drop s g o _ here some _ refl refl refl;
       passed = ap (λ (m : ℕ). m + 1) (l .passed);
     }
+
+-- one more is passed where all that are passed lie below b
+pub passing-on : (s : List ℕ) (g : Shape) (to b : ℕ) (w r : Walk) → Passing s g to b w → w .next < to → w .past ≤ b
+    → PassedTo s g (w .next + 1) r → Passing s g to b r
+passing-on s g to b w r p l h d =
+    let e : r .next - 1 ≡ w .next = omega (arith, d .at) in
+    record { on = d .on; inside = omega (arith, d .at); below = rw e (omega (arith, p .on .past-is)) }

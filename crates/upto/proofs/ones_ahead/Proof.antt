@@ -1,8 +1,8 @@
 -- `ones_ahead` takes the word where reading stands without what lies below.
 use borrow.Author.Needs.{needs}
-use Rattle.span.proofs.OnesLaws.{ahead-inside, ones-begin}
-use Rattle.span.proofs.ones_ahead.Statement.{statement}
-use Rattle.span.proofs.ones_ahead.Tie as tie
+use Rattle.upto.proofs.OnesLaws.{ahead-inside, ones-begin}
+use Rattle.upto.proofs.ones_ahead.Statement.{statement}
+use Rattle.upto.proofs.ones_ahead.Tie as tie
 
 run-word-requires : tie.Need-run-word-requires
 run-word-requires c κs =

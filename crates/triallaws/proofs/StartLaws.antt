@@ -12,7 +12,7 @@ use Rattle.rules.specs.Term.{Word}
 use Rattle.rules.specs.Questions.{member, positionsOn, stands, startsAmong, starts}
 use Rattle.commonlaws.proofs.SharedLaws.{member-at, member-none}
 use Rattle.querylaws.specs.Lists.{span}
-use Rattle.phrase.specs.Starts.{standsIn, startsOver, startsIn, startsBelow}
+use Rattle.triallaws.specs.Starts.{standsIn, startsOver, startsIn, startsBelow}
 
 -- ---- of words
 

@@ -6,11 +6,11 @@ use borrow.Author.Tests.{leb-true, leb-false}
 use lib.Count.{trailingZeros}
 use Rattle.readlaws.specs.Open.{OneAt}
 use Rattle.readlaws.proofs.ReadLaws.{open-reads}
-use Rattle.span.specs.Walks.{PassedTo, Passing, OnesLeft}
-use Rattle.span.proofs.WalkLaws.{passing-on}
-use Rattle.span.proofs.OnesLaws.{ones-place, ones-drop}
-use Rattle.span.proofs.pass_below.Statement.{statement}
-use Rattle.span.proofs.pass_below.Tie as tie
+use Rattle.span.specs.Walks.{PassedTo}
+use Rattle.upto.specs.Bounds.{Passing, OnesLeft}
+use Rattle.upto.proofs.OnesLaws.{ones-place, ones-drop, passing-on}
+use Rattle.upto.proofs.pass_below.Statement.{statement}
+use Rattle.upto.proofs.pass_below.Tie as tie
 
 abbrev Inv-loop : tie.InvT-loop
 Inv-loop block g to b at₀ ones₀ at ones =

@@ -1,7 +1,7 @@
 use borrow.Author.Needs.{needs}
 use Rattle.querylaws.specs.Lists.{partAt}
-use Rattle.phrase.proofs.part_at.Statement.{statement}
-use Rattle.phrase.proofs.part_at.Tie as tie
+use Rattle.turning.proofs.part_at.Statement.{statement}
+use Rattle.turning.proofs.part_at.Tie as tie
 
 returns : tie.Need-returns
 unfolding partAt

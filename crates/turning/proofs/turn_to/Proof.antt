@@ -4,9 +4,9 @@ use native.Mathlib.Omega.{arith}
 use borrow.Author.Needs.{needs}
 use lib.ListN.{length-set}
 use Rattle.querylaws.specs.Lists.{shapeIn}
-use Rattle.phrase.proofs.WordLaws.{walks-long, turned-on}
-use Rattle.phrase.proofs.turn_to.Statement.{statement}
-use Rattle.phrase.proofs.turn_to.Tie as tie
+use Rattle.turning.proofs.WordLaws.{walks-long, turned-on}
+use Rattle.turning.proofs.turn_to.Statement.{statement}
+use Rattle.turning.proofs.turn_to.Tie as tie
 
 abbrev start : tie.After-slice-known2 → tie.Start
 start c = c .before .before .before .before .before .before .before .before .before .before .before .before

@@ -1,4 +1,5 @@
 -- A question's words on a page: their positions there as a walk finds them, and the starts of a word alone.
+use mathlib.Core.Bool.{true}
 use mathlib.Core.Path.{_≡_, refl, sym, ap, ap₂, _∙_}
 use mathlib.Core.List.{List, [], _∷_, map}
 use Prim.Native.Nat.{ℕ, suc, _+_, _-_, _≤_, _<_}
@@ -6,20 +7,24 @@ use native.Mathlib.Nat.{add-zero}
 use native.Mathlib.Omega.{arith}
 use lib.ListN.{length, getD}
 use Rattle.rules.specs.declared.Refusal.the-variants.{Accepted}
+use Rattle.rules.specs.List.{rising}
 use Rattle.rules.specs.ReadList.{listU, decode}
 use Rattle.rules.specs.Term.{Word}
 use Rattle.rules.specs.ReadTerm.{pagesOf, positionsOf, readWord, termRefusal}
 use Rattle.rules.specs.Index.{termPart, wordOf}
 use Rattle.rules.specs.Questions.{positionsOn, starts, wordsIn}
 use Rattle.termlaws.proofs.ReadLaws.{positions-listed}
+use Rattle.seeklaws.specs.Cursors.{firstAt}
+use Rattle.seeklaws.proofs.FirstLaws.{rising-lt, rising-below}
 use Rattle.querylaws.specs.Lists.{span, partAt}
 use Rattle.span.specs.Walks.{past}
-use Rattle.span.specs.Spans.{positionsBefore, onPage, PageIn}
-use Rattle.span.proofs.WalkLaws.{past-le, first-past}
-use Rattle.span.proofs.SpanLaws.{page-in}
-use Rattle.phrase.specs.Words.{elementsAt, baseIn, endIn, pageAt, TermAt}
-use Rattle.phrase.proofs.StartLaws.{Rises, starts-in, starts-alone}
-use Rattle.phrase.proofs.PageLaws.{page-length, page-rises}
+use Rattle.span.proofs.WalkLaws.{past-le}
+use Rattle.turning.specs.Words.{elementsAt, baseIn, endIn}
+use Rattle.phrase.specs.Pages.{onPage, pageAt}
+use Rattle.phrase.proofs.PageLaws.{page-length, page-at, page-from}
+use Rattle.triallaws.specs.Spans.{positionsBefore, PageIn, TermAt}
+use Rattle.triallaws.proofs.SpanLaws.{first-past, page-in}
+use Rattle.triallaws.proofs.StartLaws.{Rises, starts-in, starts-alone}
 
 -- ---- the words of a question
 
@@ -57,6 +62,32 @@ module _ (s sh ws : List ℕ) (p i : ℕ) (t : List ℕ) (at : TermAt s sh ws p 
   )
 
 -- ---- the positions of a word on a page
+
+page-rises : (U : ℕ) (es : List ℕ) → rising 0 U es ≡ true → (base to : ℕ) → to ≤ length es
+    → Rises 0 U (onPage es base to)
+page-rises U es rises base to within =
+    let f : ℕ = firstAt base es in
+    let size : length (onPage es base to) ≡ to - f = page-length U es rises base to within in
+    record {
+      below = λ j h.
+          let l : f + j < to = omega (arith, size) in (
+            omega arith,
+            omega (
+              arith,
+              page-at U es rises base to within j l,
+              rising-below 0 U es rises (f + j) (omega arith),
+            ),
+          );
+      up = λ i j l h.
+          let m : f + j < to = omega (arith, size) in
+          omega (
+            arith,
+            page-at U es rises base to within i (omega arith),
+            page-at U es rises base to within j m,
+            page-from U es rises base to within (f + i) (omega arith) (omega arith),
+            rising-lt 0 U es rises (f + i) (f + j) (omega arith) (omega arith),
+          );
+    }
 
 module _ (t : List ℕ) (a : termRefusal t ≡ Accepted) (rank : ℕ) (h : rank < length (decode (pagesOf t))) (p : ℕ)
     (e : getD (decode (pagesOf t)) rank 0 ≡ p) where

@@ -5,6 +5,7 @@ use mathlib.Core.List.{List, [], _∷_}
 use Prim.Native.Nat.{ℕ, zero, suc, _+_, _-_, _≤_, _<_}
 use native.Mathlib.Nat.{sub-zero}
 use native.Mathlib.Numerals.{add-one}
+use native.Mathlib.Decide.{ℕ-discrete}
 use native.Mathlib.Omega.{arith}
 use borrow.Author.Tests.{eq-eqb, ne-eqb}
 use lib.ListN.{length, getD, take, drop}
@@ -20,9 +21,27 @@ use Rattle.termlaws.proofs.ReadLaws.{pages-listed, counts-listed, positions-lis
 use Rattle.listlaws.proofs.RisingLaws.{rising-parts, rising-at}
 use Rattle.termlaws.proofs.OrderLaws.{order-parts, next-append, next-le}
 use Rattle.termlaws.proofs.PlaceLaws.{page-length, page-order, lowered-take, lowered-drop}
+use Rattle.seeklaws.specs.Cursors.{firstAt}
+use Rattle.seeklaws.proofs.FirstLaws.{rising-lt, firstAt-unique}
 use Rattle.span.specs.Walks.{past}
-use Rattle.span.specs.Spans.{positionsBefore, onPage, PageIn}
-use Rattle.span.proofs.WalkLaws.{past-le, past-lt, past-mono, first-past}
+use Rattle.span.proofs.WalkLaws.{past-none, past-some, past-le, past-lt, past-mono}
+use Rattle.phrase.specs.Pages.{onPage}
+use Rattle.triallaws.specs.Spans.{positionsBefore, PageIn}
+
+-- number i is that of the first element past those before it
+pub first-past : (U : ℕ) (xs : List ℕ) → rising 0 U xs ≡ true → (i : ℕ) → i ≤ length xs → firstAt (past xs i) xs ≡ i
+first-past U xs r zero h =
+    firstAt-unique (past xs 0) xs 0 h (λ j l. absurd (omega arith)) (λ l. rw (past-none xs) (omega arith))
+first-past U xs r (suc i) h =
+    let e : suc i - 1 ≡ i = omega arith in
+    let p : past xs (suc i) ≡ getD xs i 0 + 1 = rw e at (past-some xs (suc i) (omega arith) h) in
+    firstAt-unique (past xs (suc i)) xs (suc i) h
+    (λ j l. elim (ℕ-discrete j i) [
+      | yes d ↦ rw (p, d) (omega arith)
+      | no d ↦ omega
+          (arith, p, rising-lt 0 U xs r j i (omega arith) (omega arith))
+    ])
+    (λ l. omega (arith, p, rising-lt 0 U xs r i (suc i) (omega arith) l))
 
 -- a part of what is left after c elements
 slice-past : (c m n : ℕ) (es : List ℕ) → length (take c es) ≡ c → slice m n (drop c es) ≡ slice (c + m) (c + n) es

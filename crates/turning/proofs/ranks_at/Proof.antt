@@ -2,9 +2,9 @@
 use native.Mathlib.Omega.{arith}
 use borrow.Author.Needs.{needs}
 use Rattle.querylaws.specs.Lists.{shapeIn}
-use Rattle.phrase.proofs.WordLaws.{walked, ranks-told}
-use Rattle.phrase.proofs.ranks_at.Statement.{statement}
-use Rattle.phrase.proofs.ranks_at.Tie as tie
+use Rattle.turning.proofs.WordLaws.{walked, ranks-told}
+use Rattle.turning.proofs.ranks_at.Statement.{statement}
+use Rattle.turning.proofs.ranks_at.Tie as tie
 
 pass-to-requires : tie.Need-pass-to-requires
 unfolding shapeIn
