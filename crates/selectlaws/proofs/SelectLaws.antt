@@ -297,6 +297,17 @@ ones-none : (x : ℕ) → ones (x % 2 ^ 0) ≡ 0
 unfolding ones
 ones-none x = ap ones (mod-one x)
 
+-- the first mark, in the lowest byte or above it
+mark-here : (m t : ℕ) → placeOfOne (8 * suc m) ((t * 2 + 1) * 2 ^ 7) 0 ≡ 7
+mark-here m t =
+    let e : 8 * suc m ≡ 7 + suc (8 * m) = omega arith in
+    rw e (place-shl 7 (suc (8 * m)) (t * 2 + 1) 0 ∙ rw (place-here (8 * m) (t * 2 + 1) (omega arith)))
+
+mark-past : (m t : ℕ) → placeOfOne (8 * suc m) (t * 2 ^ 8) 0 ≡ 8 + placeOfOne (8 * m) t 0
+mark-past m t =
+    let e : 8 * suc m ≡ 8 + 8 * m = omega arith in
+    rw e (place-shl 8 (8 * m) t 0)
+
 pub record Found (m a x j t : ℕ) : Type 0 where
   pub byte : ℕ
   pub within : byte < m
@@ -310,11 +321,10 @@ Search m a x j t = ((t ≡ 0) × (a + ones (x % 2 ^ (8 * m)) ≤ j)) ⊎ Found m
 
 search-here : (m a x j t : ℕ) → a ≤ j → j < a + ones (x % 256) → Found (suc m) a x j ((t * 2 + 1) * 2 ^ 7)
 search-here m a x j t h p =
-    let e : 8 * suc m ≡ 7 + suc (8 * m) = omega arith in
     record {
       byte = 0;
       within = omega arith;
-      place = rw e (place-shl 7 (suc (8 * m)) (t * 2 + 1) 0 ∙ rw (place-here (8 * m) (t * 2 + 1) (omega arith)));
+      place = mark-here m t;
       below = omega (arith, ones-none x);
       reach = p;
     }
@@ -325,13 +335,12 @@ search-past m a x j t (inl (z, o)) =
     inl (omega (arith, z), rw e (omega (arith, o, ones-parts x 8 (8 * m))))
 search-past m a x j t (inr f) =
     let i : ℕ = f .byte in
-    let e : 8 * suc m ≡ 8 + 8 * m = omega arith in
     let g : 8 * suc i ≡ 8 + 8 * i = omega arith in
     let k : 8 + 8 * i + 8 ≡ 8 + (8 * i + 8) = omega arith in
     inr record {
       byte = suc i;
       within = omega (arith, f .within);
-      place = rw e (place-shl 8 (8 * m) t 0 ∙ omega (arith, f .place));
+      place = mark-past m t ∙ omega (arith, f .place);
       below = rw g (omega (arith, f .below, ones-parts x 8 (8 * i)));
       reach = rw (g, k) (omega (arith, f .reach, ones-parts x 8 (8 * i + 8)));
     }
@@ -359,31 +368,65 @@ spaced b = bitAnd ((bitAnd (b * each 8 1) 9241421688590303745 + each 8 127) / 2 
 pub spaced-fits : (b : ℕ) → bitAnd (b * each 8 1) 9241421688590303745 + each 8 127 < 2 ^ 64
 spaced-fits b = omega (arith, and-le-r (b * each 8 1) 9241421688590303745)
 
--- the sums of these, each byte with its highest bit set, and the first byte above j of such sums u
+-- the sums of these, each byte with its highest bit set
 abbrev raised : ℕ → ℕ
 raised b = bitOr (spaced b * each 8 1 % 2 ^ 64) (each 8 128)
 
-abbrev firstAbove : ℕ → ℕ → ℕ
-firstAbove u j = trailingZeros 64 (bitAnd (u - (j + 1) * each 8 1) (each 8 128)) / 8
+-- the first of the m low bytes of v whose highest bit is set; m where there is none
+firstHigh : ℕ → ℕ → ℕ
+firstHigh zero v = 0
+firstHigh (suc m) v = elim (v / 128 % 2) [ zero ↦ suc (firstHigh m (v / 256)) | suc _ ↦ 0 ]
+
+high-byte : (m v : ℕ)
+    → bitAnd v (each (suc m) 128) ≡ bitAnd (v / 256) (each m 128) * 2 ^ 8 + v / 128 % 2 * 2 ^ 7
+high-byte m v =
+    let q : v % 256 / 128 % 2 ≡ v / 128 % 2 = omega arith in
+    ap (λ (y : ℕ). bitAnd y (each (suc m) 128)) (sym (split v 8))
+    ∙ and-block 8 (v / 256) (each m 128) (v % 256) 128 (mod-lt v (pow-pos 8)) (lit< tt)
+    ∙ ap (λ (y : ℕ). bitAnd (v / 256) (each m 128) * 2 ^ 8 + y)
+    (and-high (v % 256) 1 7 ∙ ap (λ (y : ℕ). y * 2 ^ 7) q)
+
+high-place : (m v : ℕ) → placeOfOne (8 * m) (bitAnd v (each m 128)) 0 / 8 ≡ firstHigh m v
+unfolding firstHigh placeOfOne
+high-place zero v = refl
+high-place (suc m) v =
+    let t : ℕ = bitAnd (v / 256) (each m 128) in
+    let p : ℕ = placeOfOne (8 * m) t 0 in
+    elim (digit (v / 128)) [
+      | inl e ↦
+          let w : bitAnd v (each (suc m) 128) ≡ t * 2 ^ 8 = high-byte m v ∙ omega (arith, e) in
+          let d : (8 + p) / 8 ≡ suc (p / 8) = omega arith in
+          ap (λ (y : ℕ). placeOfOne (8 * suc m) y 0 / 8) w ∙ ap (λ (y : ℕ). y / 8) (mark-past m t) ∙ d
+          ∙ rw (e, firstHigh) (ap suc (high-place m (v / 256)))
+      | inr e ↦
+          let w : bitAnd v (each (suc m) 128) ≡ (t * 2 + 1) * 2 ^ 7 = high-byte m v ∙ omega (arith, e) in
+          ap (λ (y : ℕ). placeOfOne (8 * suc m) y 0 / 8) w ∙ ap (λ (y : ℕ). y / 8) (mark-here m t) ∙ rw (e, firstHigh)
+    ]
+
+high-first : (m v : ℕ) → trailingZeros (8 * m) (bitAnd v (each m 128)) / 8 ≡ firstHigh m v
+high-first m v = ap (λ (n : ℕ). n / 8) (place-trailing (8 * m) (bitAnd v (each m 128))) ∙ high-place m v
 
 -- the test of a byte b; u is met as a number, and so is worked out once for all j
 sameByte : ℕ → ℕ → Bool
 sameByte b zero = false
-sameByte b (suc u) = every 8 (λ j. eqb (firstAbove (suc u) j) (placeOfOne 8 b j))
+sameByte b (suc u) = every 8 (λ j. eqb (firstHigh 8 (suc u - (j + 1) * each 8 1)) (placeOfOne 8 b j))
 
 byte-tests : T (every 256 (λ b. sameByte b (raised b)))
-unfolding every sameByte trailingZeros placeOfOne
+unfolding every sameByte firstHigh placeOfOne
 byte-tests = tt
 
-same-byte : (b u : ℕ) → T (sameByte b u) → (j : ℕ) → j < 8 → firstAbove u j ≡ placeOfOne 8 b j
+same-byte : (b u : ℕ) → T (sameByte b u) → (j : ℕ) → j < 8 → firstHigh 8 (u - (j + 1) * each 8 1) ≡ placeOfOne 8 b j
 unfolding sameByte
 same-byte b zero t j l = absurd t
 same-byte b (suc u) t j l =
-    eqb→eq (firstAbove (suc u) j) (placeOfOne 8 b j)
-    (every-at 8 (λ i. eqb (firstAbove (suc u) i) (placeOfOne 8 b i)) t j l)
+    eqb→eq (firstHigh 8 (suc u - (j + 1) * each 8 1)) (placeOfOne 8 b j)
+    (every-at 8 (λ i. eqb (firstHigh 8 (suc u - (i + 1) * each 8 1)) (placeOfOne 8 b i)) t j l)
 
-byte-first : (b j : ℕ) → b < 256 → j < 8 → firstAbove (raised b) j ≡ placeOfOne 8 b j
-byte-first b j h l = same-byte b (raised b) (every-at 256 (λ i. sameByte i (raised i)) byte-tests b h) j l
+byte-first : (b j : ℕ) → b < 256 → j < 8
+    → trailingZeros 64 (marked 8 (spaced b * each 8 1 % 2 ^ 64) j) / 8 ≡ placeOfOne 8 b j
+byte-first b j h l =
+    high-first 8 (raised b - (j + 1) * each 8 1)
+    ∙ same-byte b (raised b) (every-at 256 (λ i. sameByte i (raised i)) byte-tests b h) j l
 
 -- as `one_of_byte` has it, where s holds the sums and t the marks
 pub byte-place : (b j s t : ℕ) → b < 256 → j < 8 → s ≡ spaced b * each 8 1 % 2 ^ 64 → t ≡ marked 8 s j
