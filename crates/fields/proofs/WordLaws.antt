@@ -1,7 +1,7 @@
 -- Laws of the places of bits in a word: by the lowest bit; by trailing zeros; that a place is there, what is there
 -- and below it, and that no other place is so; by parts of the word; the first one from a place on; zeros as the
 -- complement's ones; the places in a run.
--- Counts byte by byte are in SelectLaws, ones and zeros below a place of a run in CountLaws of `laws`.
+-- Counts byte by byte are in ByteLaws of `selectlaws`, ones and zeros below a place of a run in CountLaws of `laws`.
 use mathlib.Core.Path.{_≡_, refl, sym, ap, _∙_, subst}
 use mathlib.Core.Logic.{inl, inr}
 use mathlib.Core.List.{List}

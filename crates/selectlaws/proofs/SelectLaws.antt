@@ -1,25 +1,23 @@
--- Laws behind `select_by`: counts of ones byte by byte in one register, and the byte that holds a one.
+-- Laws behind `select_by`: the byte that holds a one, by the counts of ByteLaws, and the one within it.
 use mathlib.Core.Path.{_≡_, refl, sym, ap, ap₂, _∙_, subst}
-use mathlib.Core.Bool.{Bool, true, false, _&&_}
+use mathlib.Core.Bool.{Bool, false}
 use mathlib.Core.Logic.{_⊎_, inl, inr}
 use Prim.Native.Nat.{ℕ, zero, suc, _+_, _-_, _*_, _/_, _%_, _^_, _≤_, _<_, min}
-use native.Mathlib.Nat.{mul-le-mul-right, add-assoc, div-one, mul-mod-left, mod-eq-of-lt, add-mod-mod, div-add-mod'}
-use native.Mathlib.Nat.{zero-add, zero-lt-suc, one-le-pow, mod-one, pow-suc, mul-add, mul-right-comm}
-use native.Mathlib.Nat.{mul-add-mod-self-right, add-mul, mul-assoc, mod-lt, lt-of-lt-of-le}
+use native.Mathlib.Nat.{mul-le-mul-right, mod-eq-of-lt, mod-one, mul-add, mul-assoc, mod-lt}
 use native.Mathlib.Decide.{decLt}
 use native.Mathlib.Omega.{arith}
 use lib.Bits.{bitAnd, bitOr, or-block, or-shifted-r, or-add-and, and-le-l, and-high}
 use lib.Bits.{and-mask, and-step, and-self, and-block, and-zero-r, and-le-r}
 use lib.Count.{ones, ones-le, trailingZeros}
 use lib.Dec.{T, eqb, eqb→eq, lit<}
-use lib.Arith.{digits-lt, mod-mul}
-use lib.Pow.{split, pow-pos, pow-add, pow-mono, shr-lt, shr-shr, shl-shr, field, mod-mod-pow}
-use Rattle.laws.proofs.BitLaws.{drop-low, shl-keeps, digit}
+use lib.Pow.{split, pow-pos}
+use Rattle.laws.proofs.BitLaws.{digit}
 use Rattle.laws.proofs.CountLaws.{ones-parts}
 use Rattle.fields.specs.Words.{placeOfOne}
-use Rattle.selectlaws.specs.ByteCounts.{each, byteOnes, runningOnes, highestByte, marked}
+use Rattle.selectlaws.specs.ByteCounts.{each, runningOnes, marked}
 use Rattle.fields.proofs.WordLaws.{place-past, place-here, place-next, place-shl, place-trailing}
 use Rattle.fields.proofs.WordLaws.{place-mod, place-low, place-high}
+use Rattle.selectlaws.proofs.ByteLaws.{every, every-at, count-before}
 
 -- ---- the lowest one taken away
 
@@ -45,221 +43,6 @@ place-drop (suc k) x j h =
           let h : y / 2 ≡ x / 2 = omega (arith, s) in
           place-past k y j (omega (arith, s)) ∙ ap (λ (z : ℕ). suc (placeOfOne k z j)) h ∙ sym (place-next k x j e)
     ]
-
--- ---- the counts of the bytes
-
--- `(x >> s) & m` by parts of k bits, where m has no bit that a higher part could bring
-shift-part : (k s t x l m M : ℕ) → s + t ≡ k → l < 2 ^ k → m < 2 ^ t
-    → bitAnd ((x * 2 ^ k + l) / 2 ^ s) (M * 2 ^ k + m) ≡ bitAnd (x / 2 ^ s) M * 2 ^ k + bitAnd (l / 2 ^ s) m
-shift-part k s t x l m M e hl hm =
-    let w : 2 ^ s * 2 ^ t ≡ 2 ^ k = sym (pow-add 2 s t) ∙ ap (λ (n : ℕ). 2 ^ n) e in
-    let n : t + s ≡ k = omega arith in
-    let u : ℕ = x % 2 ^ s in
-    let v : ℕ = l / 2 ^ s in
-    let hv : v < 2 ^ t = shr-lt t s (rw n hl) in
-    let low : u * 2 ^ t + v < 2 ^ k = subst (λ (c : ℕ). u * 2 ^ t + v < c) w (digits-lt (mod-lt x (pow-pos s)) hv) in
-    let top : x * 2 ^ t ≡ x / 2 ^ s * 2 ^ k + u * 2 ^ t =
-    ap (λ (y : ℕ). y * 2 ^ t) (sym (split x s)) ∙ add-mul (x / 2 ^ s * 2 ^ s) u (2 ^ t) ∙ rw (mul-assoc, w) in
-    let q : (x * 2 ^ k + l) / 2 ^ s ≡ x / 2 ^ s * 2 ^ k + (u * 2 ^ t + v) =
-    rw n at (drop-low x l t s) ∙ omega (arith, top) in
-    let a : bitAnd (u * 2 ^ t + v) (0 * 2 ^ t + m) ≡ bitAnd v m =
-    and-block t u 0 v m hv hm ∙ rw and-zero-r (omega arith) in
-    let z : 0 * 2 ^ t + m ≡ m = omega arith in
-    let a' : bitAnd (u * 2 ^ t + v) m ≡ bitAnd v m = subst (λ (y : ℕ). bitAnd (u * 2 ^ t + v) y ≡ bitAnd v m) z a in
-    ap (λ (y : ℕ). bitAnd y (M * 2 ^ k + m)) q
-    ∙ and-block k (x / 2 ^ s) M (u * 2 ^ t + v) m low (lt-of-lt-of-le hm (pow-mono {j = k} (omega arith)))
-    ∙ ap (λ (y : ℕ). bitAnd (x / 2 ^ s) M * 2 ^ k + y) a'
-
--- `(x & m) + ((x >> s) & m)`
-abbrev pub folded : ℕ → ℕ → ℕ → ℕ
-folded s m x = bitAnd x m + bitAnd (x / 2 ^ s) m
-
-folded-part : (k s t x l m M : ℕ) → s + t ≡ k → l < 2 ^ k → m < 2 ^ t
-    → folded s (M * 2 ^ k + m) (x * 2 ^ k + l) ≡ folded s M x * 2 ^ k + folded s m l
-folded-part k s t x l m M e hl hm =
-    let lo : m < 2 ^ k = lt-of-lt-of-le hm (pow-mono {j = k} (omega arith)) in
-    let a = and-block k x M l m hl lo in
-    let b = shift-part k s t x l m M e hl hm in
-    ap₂ (λ (y z : ℕ). y + z) a b ∙ omega (arith, add-mul (bitAnd x M) (bitAnd (x / 2 ^ s) M) (2 ^ k))
-
-pub folded-le : (s m x : ℕ) → folded s m x ≤ m + m
-folded-le s m x = omega (arith, and-le-r x m, and-le-r (x / 2 ^ s) m)
-
-folded-lt : (s m x : ℕ) → m < 128 → folded s m x < 256
-folded-lt s m x h = omega (arith, folded-le s m x)
-
--- the ones of each byte, by adding bits, pairs and halves
-abbrev pub counted : ℕ → ℕ → ℕ
-counted m x = folded 4 (each m 15) (folded 2 (each m 51) (folded 1 (each m 85) x))
-
--- a test of every number below n
-every : ℕ → (ℕ → Bool) → Bool
-every zero f = true
-every (suc n) f = f n && every n f
-
-both : (a b : Bool) → T (a && b) → T a × T b
-both true b t = (tt, t)
-both false b t = absurd t
-
-every-at : (n : ℕ) (f : ℕ → Bool) → T (every n f) → (i : ℕ) → i < n → T (f i)
-unfolding every
-every-at zero f t i h = absurd (omega arith)
-every-at (suc n) f t i h =
-    elim (decLt i n) [
-      | yes l ↦ every-at n f (both (f n) (every n f) t .1) i l
-      | no g ↦
-          let e : n ≡ i = omega arith in
-          subst (λ (m : ℕ). T (f m)) e (both (f n) (every n f) t .0)
-    ]
-
--- half a byte, by a computed test
-half-count : (l : ℕ) → l < 16 → folded 2 3 (folded 1 5 l) ≡ ones l
-unfolding every ones
-half-count l h = eqb→eq (folded 2 3 (folded 1 5 l)) (ones l)
-    (every-at 16 (λ i. eqb (folded 2 3 (folded 1 5 i)) (ones i)) tt l h)
-
-byte-count : (l : ℕ) → l < 256 → folded 4 15 (folded 2 51 (folded 1 85 l)) ≡ ones l
-byte-count l b =
-    let h : ℕ = l / 16 in
-    let n : ℕ = l % 16 in
-    let hn : n < 16 = mod-lt l (pow-pos 4) in
-    let hh : h < 16 = omega arith in
-    let A : ℕ = folded 2 3 (folded 1 5 h) in
-    let B : ℕ = folded 2 3 (folded 1 5 n) in
-    let p : folded 1 85 l ≡ folded 1 5 h * 16 + folded 1 5 n =
-    ap (folded 1 85) (sym (split l 4)) ∙ folded-part 4 1 3 h n 5 5 refl hn (lit< tt) in
-    let q : folded 2 51 (folded 1 5 h * 16 + folded 1 5 n) ≡ A * 16 + B =
-    folded-part 4 2 2 (folded 1 5 h) (folded 1 5 n) 3 3 refl (omega (arith, folded-le 1 5 n)) (lit< tt) in
-    let a : A < 16 = omega (arith, folded-le 2 3 (folded 1 5 h)) in
-    let c : B < 16 = omega (arith, folded-le 2 3 (folded 1 5 n)) in
-    let low : bitAnd (A * 16 + B) 15 ≡ B = and-mask (A * 16 + B) 4 ∙ omega arith in
-    let up : (A * 16 + B) / 16 ≡ A = omega arith in
-    let o : ones l ≡ ones n + ones h = sym (ap ones (mod-eq-of-lt b)) ∙ ones-parts l 4 4
-    ∙ ap (λ (y : ℕ). ones n + ones y) (mod-eq-of-lt hh) in
-    let high : bitAnd A 15 ≡ A = and-mask A 4 ∙ mod-eq-of-lt a in
-    ap (λ (y : ℕ). folded 4 15 (folded 2 51 y)) p ∙ ap (folded 4 15) q
-    ∙ ap₂ (λ (y z : ℕ). y + z) low (ap (λ (y : ℕ). bitAnd y 15) up ∙ high)
-    ∙ omega (arith, half-count h hh, half-count n hn, o)
-
-pub counted-is : (m x : ℕ) → counted m x ≡ byteOnes m x
-unfolding byteOnes
-counted-is zero x = simp and-zero-r
-counted-is (suc m) x =
-    let h : ℕ = x / 256 in
-    let l : ℕ = x % 256 in
-    let hl : l < 256 = mod-lt x (pow-pos 8) in
-    let a : folded 1 (each (suc m) 85) x ≡ folded 1 (each m 85) h * 256 + folded 1 85 l =
-    ap (folded 1 (each (suc m) 85)) (sym (split x 8)) ∙ folded-part 8 1 7 h l 85 (each m 85) refl hl (lit< tt) in
-    let b = folded-part 8 2 6 (folded 1 (each m 85) h) (folded 1 85 l) 51 (each m 51) refl
-    (folded-lt 1 85 l (lit< tt)) (lit< tt) in
-    let c = folded-part 8 4 4 (folded 2 (each m 51) (folded 1 (each m 85) h))
-    (folded 2 51 (folded 1 85 l)) 15 (each m 15) refl (folded-lt 2 51 (folded 1 85 l) (lit< tt)) (lit< tt) in
-    ap (λ (y : ℕ). folded 4 (each (suc m) 15) (folded 2 (each (suc m) 51) y)) a ∙ ap (folded 4 (each (suc m) 15)) b ∙ c
-    ∙ ap₂ (λ (y z : ℕ). y * 256 + z) (counted-is m h) (byte-count l hl)
-
--- ---- the counts added up
-
-mod-mul-left : (n y k : ℕ) → y % n * k % n ≡ y * k % n
-mod-mul-left n y k =
-    let e : y * k ≡ y / n * k * n + y % n * k = ap (λ (z : ℕ). z * k) (sym (div-add-mod' y n))
-    ∙ add-mul (y / n * n) (y % n) k ∙ ap (λ (z : ℕ). z + y % n * k) (mul-right-comm (y / n) n k) in
-    sym (ap (λ (z : ℕ). z % n) e ∙ mul-add-mod-self-right (y / n * k) n (y % n * k))
-
--- `x + (x << ..)`, where the shift multiplies by k
-twice : (n x y z k : ℕ) → x ≡ y % n → z ≡ (x + (x * k) % n) % n → z ≡ y * (1 + k) % n
-twice n x y z k p q =
-    let e : x + x * k ≡ x * (1 + k) = omega (arith, mul-add x 1 k) in
-    q ∙ add-mod-mod x (x * k) n ∙ ap (λ (i : ℕ). i % n) e ∙ ap (λ (i : ℕ). i * (1 + k) % n) p ∙ mod-mul-left n y (1 + k)
-
--- each byte added to all above it, by doubling how far it goes
-pub doubled : (c d f s : ℕ) → c < 2 ^ 64 → d ≡ (c + (c * 2 ^ 8) % 2 ^ 64) % 2 ^ 64
-    → f ≡ (d + (d * 2 ^ 16) % 2 ^ 64) % 2 ^ 64 → s ≡ (f + (f * 2 ^ 32) % 2 ^ 64) % 2 ^ 64 → s ≡ c * each 8 1 % 2 ^ 64
-doubled c d f s l p q r =
-    let d' = twice (2 ^ 64) c c d (2 ^ 8) (sym (mod-eq-of-lt l)) p in
-    let f' = twice (2 ^ 64) d (c * (1 + 2 ^ 8)) f (2 ^ 16) d' q in
-    let s' = twice (2 ^ 64) f (c * (1 + 2 ^ 8) * (1 + 2 ^ 16)) s (2 ^ 32) f' r in
-    s' ∙ rw (mul-assoc, mul-assoc)
-
-each-top : (m : ℕ) → each (suc m) 1 ≡ 256 ^ m + each m 1
-each-top zero = refl
-each-top (suc m) = rw pow-suc (omega (arith, each-top m))
-
-spread : (C v R P : ℕ) → R * 256 + 1 ≡ P + R → (C * 256 + v) * (R * 256 + 1) ≡ (C * P + (C + v) * R) * 256 + v
-spread C v R P t =
-    let a : C * 256 * (R * 256 + 1) ≡ C * P * 256 + C * R * 256 =
-    rw (t, mul-add) (omega (arith, mul-right-comm C 256 P, mul-right-comm C 256 R)) in
-    omega (arith, add-mul (C * 256) v (R * 256 + 1), mul-add v (R * 256) 1, mul-assoc v R 256, add-mul C v R)
-
-pub running-is : (m a x : ℕ) → a + 8 * m < 256 → (byteOnes m x + a) * each m 1 % 256 ^ m ≡ runningOnes m a x
-unfolding byteOnes runningOnes
-running-is zero a x h = mod-one ((0 + a) * 0)
-running-is (suc m) a x h =
-    let P : ℕ = 256 ^ m in
-    let R : ℕ = each m 1 in
-    let C : ℕ = byteOnes m (x / 256) in
-    let v : ℕ = a + ones (x % 256) in
-    let N : ℕ = C * P + (C + v) * R in
-    let o : ones (x % 256) ≤ 8 = ones-le 8 (x % 256) (mod-lt x (pow-pos 8)) in
-    let n : C * 256 + ones (x % 256) + a ≡ C * 256 + v = omega arith in
-    let d : (N * 256 + v) / 256 ≡ N = omega arith in
-    let r : (N * 256 + v) % 256 ≡ v = omega arith in
-    rw (
-      n,
-      spread C v R P (each-top m),
-      pow-suc,
-      mod-mul (N * 256 + v) (one-le-pow m 256 (zero-lt-suc 255)) (zero-lt-suc 255),
-      d,
-      r,
-      mul-add-mod-self-right C P ((C + v) * R),
-      running-is m v (x / 256) (omega arith),
-    )
-
--- byte i of the counts added up
-running-at : (m a x i : ℕ) → i < m → a + 8 * m < 256
-    → runningOnes m a x / 2 ^ (8 * i) % 256 ≡ a + ones (x % 2 ^ (8 * i + 8))
-unfolding runningOnes
-running-at zero a x i h l = absurd (omega arith)
-running-at (suc m) a x zero h l = omega (arith, ones-le 8 (x % 256) (mod-lt x (pow-pos 8)))
-running-at (suc m) a x (suc i) h l =
-    let v : ℕ = a + ones (x % 256) in
-    let o : ones (x % 256) ≤ 8 = ones-le 8 (x % 256) (mod-lt x (pow-pos 8)) in
-    let R : ℕ = runningOnes m v (x / 256) in
-    let e : 8 * suc i ≡ 8 + 8 * i = omega arith in
-    let f : 8 + 8 * i + 8 ≡ 8 + (8 * i + 8) = omega arith in
-    let q : (R * 256 + v) / 256 ≡ R = omega arith in
-    rw (e, f, ← shr-shr (R * 256 + v) 8 (8 * i), q, ones-parts x 8 (8 * i + 8))
-    (running-at m v (x / 256) i (omega arith) (omega arith)
-    ∙ add-assoc a (ones (x % 256)) (ones (x / 256 % 2 ^ (8 * i + 8))))
-
--- the last of them counts all
-pub running-total : (x s : ℕ) → s ≡ runningOnes 8 0 x → x < 2 ^ 64 → highestByte s ≡ ones x
-running-total x s e h =
-    let l : runningOnes 8 0 x < 2 ^ 64 =
-    subst (λ (n : ℕ). n < 2 ^ 64) (running-is 8 0 x (lit< tt)) (mod-lt ((byteOnes 8 x + 0) * each 8 1) (pow-pos 64)) in
-    let a : s / 2 ^ 56 % 256 ≡ 0 + ones (x % 2 ^ 64) = rw e (running-at 8 0 x 7 (lit< tt) (lit< tt)) in
-    omega (arith, rw (mod-eq-of-lt h) at a)
-
--- a byte below the a low bits
-byte-kept : (n a b k : ℕ) → a + 8 + k ≡ b → n % 2 ^ b / 2 ^ k % 2 ^ 8 ≡ n / 2 ^ k % 2 ^ 8
-byte-kept n a b k e = subst (λ (i : ℕ). n % 2 ^ i / 2 ^ k % 2 ^ 8 ≡ n / 2 ^ k % 2 ^ 8) e (rw (field, mod-mod-pow))
-
-shifted-at : (x i : ℕ) → i < 8 → runningOnes 8 0 x % 2 ^ 56 * 2 ^ 8 / 2 ^ (8 * i) % 2 ^ 8 ≡ ones (x % 2 ^ (8 * i))
-unfolding ones
-shifted-at x zero h = rw (div-one, mul-mod-left, mod-one)
-shifted-at x (suc i) h =
-    let S : ℕ = runningOnes 8 0 x in
-    let e : 8 * suc i ≡ 8 + 8 * i = omega arith in
-    let f : 8 * i + 8 ≡ 8 + 8 * i = omega arith in
-    rw (e, ← shr-shr (S % 2 ^ 56 * 2 ^ 8) 8 (8 * i), shl-shr (S % 2 ^ 56) 8)
-    (byte-kept S (48 - 8 * i) 56 (8 * i) (omega arith) ∙ running-at 8 0 x i (omega arith) (lit< tt) ∙ rw (zero-add, f))
-
--- `((s << 8) >> (8 * i)) & 255`: the ones below byte i
-count-before : (x i : ℕ) → i < 8
-    → bitAnd ((runningOnes 8 0 x * 2 ^ 8) % 2 ^ 64 / 2 ^ (8 * i)) 255 ≡ ones (x % 2 ^ (8 * i))
-count-before x i h =
-    let S : ℕ = runningOnes 8 0 x in
-    and-mask ((S * 2 ^ 8) % 2 ^ 64 / 2 ^ (8 * i)) 8 ∙ ap (λ (y : ℕ). y / 2 ^ (8 * i) % 2 ^ 8) (shl-keeps S 56 8)
-    ∙ shifted-at x i h
 
 -- ---- the byte that holds a one
 

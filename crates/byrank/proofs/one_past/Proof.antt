@@ -7,7 +7,7 @@ use lib.Count.{ones, ones-le}
 use lib.ListN.{length}
 use Rattle.rules.specs.Counts.{onesBelow}
 use Rattle.selectlaws.specs.ByteCounts.{runningOnes}
-use Rattle.selectlaws.proofs.SelectLaws.{running-total}
+use Rattle.selectlaws.proofs.ByteLaws.{running-total}
 use Rattle.readlaws.proofs.OneLaws.{Onward, onward-word, onward-start, onward-next, start-word}
 use Rattle.byrank.proofs.one_past.Statement.{statement}
 use Rattle.byrank.proofs.one_past.Tie as tie

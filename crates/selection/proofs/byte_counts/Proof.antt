@@ -1,6 +1,6 @@
 use native.Mathlib.Omega.{arith}
 use Rattle.selectlaws.specs.ByteCounts.{each}
-use Rattle.selectlaws.proofs.SelectLaws.{folded, folded-le, counted-is}
+use Rattle.selectlaws.proofs.ByteLaws.{folded, folded-le, counted-is}
 use Rattle.selection.proofs.byte_counts.Statement.{statement}
 use Rattle.selection.proofs.byte_counts.Tie as tie
 

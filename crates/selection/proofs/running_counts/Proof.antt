@@ -3,7 +3,7 @@ use mathlib.Core.Path.{_≡_, ap, _∙_}
 use Prim.Native.Nat.{ℕ, _+_, _*_, _%_, _^_}
 use lib.Dec.{lit<}
 use Rattle.selectlaws.specs.ByteCounts.{each, byteOnes}
-use Rattle.selectlaws.proofs.SelectLaws.{running-is}
+use Rattle.selectlaws.proofs.ByteLaws.{running-is}
 use borrow.Author.Needs.{needs}
 use Rattle.selection.proofs.running_counts.Statement.{statement}
 use Rattle.selection.proofs.running_counts.Tie as tie

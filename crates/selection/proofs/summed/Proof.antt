@@ -1,6 +1,6 @@
 use native.Mathlib.Omega.{arith}
 use borrow.Author.Needs.{needs}
-use Rattle.selectlaws.proofs.SelectLaws.{doubled}
+use Rattle.selectlaws.proofs.ByteLaws.{doubled}
 use Rattle.selection.proofs.summed.Statement.{statement}
 use Rattle.selection.proofs.summed.Tie as tie
 
