@@ -1,9 +1,11 @@
 -- `turn_next` turns the word of the next slot, which has the page ahead.
 use mathlib.Core.Path.{_≡_, refl, sym, ap, _∙_}
-use Prim.Native.Nat.{_<_}
+use Prim.Native.Nat.{ℕ, _+_, _≤_, _<_}
 use native.Mathlib.Omega.{arith}
-use borrow.Author.Needs.{needs}
+use lib.Dec.{lit≤}
 use lib.ListN.{length}
+use mir.Syntax.{w64}
+use mir.Val.{Fits}
 use Rattle.querylaws.specs.Ranks.{rankBy}
 use Rattle.openlists.specs.Places.{slotOf}
 use Rattle.triallaws.specs.Asked.{pagesIn, leadIn}
@@ -11,6 +13,14 @@ use Rattle.triallaws.proofs.RankLaws.{lead-few, asked-list, asked-rank, rank-re
 use Rattle.triallaws.proofs.TrialLaws.{next-within, next-slot}
 use Rattle.trying.proofs.turn_next.Statement.{statement}
 use Rattle.trying.proofs.turn_next.Tie as tie
+
+-- a place up to the row's end
+in-row : {k n : ℕ} → n ≡ 193 → k ≤ 193 → k ≤ n
+in-row e l = omega arith
+
+-- one more than a number of words
+few-fits : {k n : ℕ} → k ≤ n → n ≤ 8 → Fits w64 (k + 1)
+few-fits l h = omega arith
 
 abbrev start : tie.After-source-of → tie.Start
 start c = c .before .before .before .before .before .before .before .before
@@ -71,6 +81,11 @@ turn-to-requires c κs =
     turn-ready _ _ _ _ _ _ (b .pre .0 .asked) _ _ (b .pre .1) _ (n .0) (t .ranks-at .result) (e .0) _ _ (e .1)
     (b .pre .2 .others _ (n .0) (omega (arith, n .1, n .2)))
 
+same-length : tie.Need-same-length
+same-length c =
+    let t = c .before .before .before .before .before .before .before .before in
+    c .before .before .before .turn-to .ensures .readable .room ∙ sym (start (source t) .pre .2 .room)
+
 returns-2 : tie.Need-returns-2
 returns-2 c =
     let t = c .before .before .before .before .before .before .before .before in
@@ -89,22 +104,22 @@ pub turn-next-spec : {M : Type 1} → statement M
 turn-next-spec =
     tie.close
     (tie.spec
-    (λ c. search needs)
-    (λ c. search needs)
+    (λ c. (c .before .before .before .before .before .before .pre .2, c .if1 .taken, refl, refl))
+    (λ c. in-row (c .before .before .before .before .before .before .before .pre .0 .row) (lit≤ tt))
     (λ c. omega (arith, lead-few _ _ _ _ _ _ (c .before .before .before .before .before .before .before .pre .0 .asked)))
-    (λ c κs. search needs)
-    (λ c. search needs)
-    (λ c. search needs)
-    (λ c. search needs)
+    (λ c κs. tt)
+    (λ c. lit≤ tt)
+    (λ c. lit≤ tt)
+    (λ c. in-row (start c .pre .0 .row) (lit≤ tt))
     rank-in-requires
-    (λ c. search needs)
-    (λ c. search needs)
-    (λ c. search needs)
+    (λ c. lit≤ tt)
+    (λ c. lit≤ tt)
+    (λ c. in-row (start (c .before .before) .pre .0 .row) (lit≤ tt))
     ranks-at-requires
-    (λ c. search needs)
-    (λ c. search needs)
-    (λ c. search needs)
+    (λ c. lit≤ tt)
+    (λ c. lit≤ tt)
+    (λ c. in-row (start (source (c .before .before)) .pre .0 .row) (lit≤ tt))
     turn-to-requires
-    (λ c. let b = start (source (c .before .before .before .before .before .before .before .before)) in omega (arith, b .pre .2 .within, b .pre .0 .asked .pages .lists .few))
-    (λ c. search needs)
+    (λ c. let b = start (source (c .before .before .before .before .before .before .before .before)) in few-fits (b .pre .2 .within) (b .pre .0 .asked .pages .lists .few))
+    same-length
     returns-2)
