@@ -1,7 +1,10 @@
 pub mod SpareLaws
 pub mod LowLaws
+pub mod PairLaws
 pub mod PointerLaws
 pub mod ClimbLaws
 pub mod StateLaws
 pub mod TurnLaws
 pub mod HoldLaws
+pub mod NearLaws
+pub mod SpacedLaws

@@ -31,17 +31,19 @@ module _ (s : List ℕ) (f : Framed s) (some : 0 < listN s) (g : Shape) (is : g 
   abbrev w : ℕ
   w = width U n
 
-  pub framed-laid : Laid s g
-  unfolding lowerAt upperAt
-  framed-laid =
+  pub framed-laid : Bytes s → Laid s g
+  unfolding zeros lowerAt upperAt
+  framed-laid bs =
       let b = bounded U n some (f .below) (f .within) in
       let z : n + zeros U w - n ≡ zeros U w = omega arith in
       rw (is ∙ shape-some U n some) (record {
+        bytes = bs;
         some = some;
         most = omega arith;
         few = omega (arith, b .few, f .below, f .within);
         narrow = b .narrow;
         short = omega (arith, b .short, f .within);
+        zeros-are = refl;
         lower-at = rw z;
         upper-at = refl;
         length-is = f .length-is ∙ size-is U n some;

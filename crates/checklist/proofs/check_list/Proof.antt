@@ -135,7 +135,7 @@ runs-ok-requires : tie.Need-runs-ok-requires
 runs-ok-requires c κs =
     let e = c .before in
     let g = e .before .before in
-    framed-laid (by-size e) (framed-at e) (some-at c) (g .shape-of .result) (shape-at g)
+    framed-laid (by-size e) (framed-at e) (some-at c) (g .shape-of .result) (shape-at g) (bytes-at e)
 
 returns-6 : tie.Need-returns-6
 returns-6 c =
