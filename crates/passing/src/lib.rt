@@ -17,12 +17,12 @@ fn behind(x: u64, place: usize, own: u32) -> u64
     x & ((18446744073709551615 - own as u64) << place)
 }
 
-// The ones of the run up to the end of the word.
-fn rank_through(at: Ones) -> usize
-    requires { ⌜ at .rank < 2 ^ 32 ⌝ }
-    ensures { λ r. ⌜ r ≡ at .rank + ones (at .left) ⌝ }
+// A number with the ones that are left in a word added.
+fn with_ones(x: usize, left: u64) -> usize
+    requires { ⌜ x < 2 ^ 40 ⌝ }
+    ensures { λ r. ⌜ r ≡ x + ones left ⌝ }
 {
-    at.rank + u64::count_ones(at.left) as usize
+    x + u64::count_ones(left) as usize
 }
 
 // Goes on to zero number h of the run, counted from 1, which is in what is left of the word.
@@ -40,15 +40,26 @@ fn to_zero(at: Ones, h: usize) -> Ones
     }
 }
 
-// Passes words by their counts of ones to the one with zero number h, and stands there.
+// Passes words by their counts of ones to the one with zero number h, and stands there. Among the zeros of what is left
+// of a word, with all bits before that, this zero has the number `wanted`.
 fn skip(s: &[u8], g: Shape, h: usize, from: Ones, looks: &mut u32) -> Ones
     requires { ⌜ Open (now s) g × (h + g .n ≤ g .bits) × Skipping (now s) g h from × (now looks ≤ 2 ^ 31 + from .k) ⌝ }
     ensures { λ r. ⌜ Skipped (now (s .entry)) g h r × Paid (from .k) (now (looks .entry)) (r .k) (now (looks .exit)) ⌝ }
 {
-    let mut at = from;
-    while 64 * at.k + 64 < h + rank_through(at) {
-        at = looks::next_word(s, g, at.k, rank_through(at), looks);
+    let mut left = from.left;
+    let mut k = from.k;
+    let mut wanted = h + from.rank - 64 * from.k;
+    while 64 < with_ones(wanted, left) {
+        let at = looks::next_word(s, g, k, with_ones(wanted, left) - 64, looks);
+        left = at.left;
+        k = at.k;
+        wanted = at.rank;
     }
+    let at = Ones {
+        left,
+        k,
+        rank: wanted + 64 * k - h,
+    };
     to_zero(at, h)
 }
 
