@@ -17,7 +17,10 @@ inline std::vector<Family> list_families() {
         return [one_in](Random &random, uint32_t u) { return scattered(random, u, 1.0 / one_in); };
     };
     const auto runs = [](Random &random, uint32_t u) { return clustered(random, u, 1.0 / 16, 200); };
-    return {{"1 in 2", density(2)},
+    // so dense that the format gives it no low parts
+    const auto most = [](Random &random, uint32_t u) { return scattered(random, u, 3.0 / 4); };
+    return {{"3 in 4", most},
+            {"1 in 2", density(2)},
             {"1 in 16", density(16)},
             {"1 in 256", density(256)},
             {"1 in 4096", density(4096)},

@@ -1,4 +1,4 @@
-// Pages common to 2, 4 and 8 words (kind 3): a question in all, and one seek inside it.
+// Pages common to 2, 4 and 8 words (kind 3), a question in all and one seek inside it, and the pages of one word.
 #include <algorithm>
 #include <cmath>
 
@@ -150,7 +150,15 @@ std::vector<CommonFamily> common_families(bool quick) {
 
 } // namespace
 
-void one_common(Bench &bench, const std::string &family, uint32_t u, uint32_t k, const MakeGroup &make) {
+namespace {
+
+struct TimedQuestion {
+    Times times;
+    double seeks;
+};
+
+// questions for the common pages of k words: the time and the seeks of one
+TimedQuestion time_common(Bench &bench, uint32_t u, uint32_t k, const MakeGroup &make) {
     const Groups groups = make_groups(u, k, make);
     const Bytes card = card_of_lists(u, groups.lists);
     for (const auto &contender : bench.contenders) contender->take(u, groups.lists);
@@ -158,13 +166,30 @@ void one_common(Bench &bench, const std::string &family, uint32_t u, uint32_t k,
     const size_t rounds = enough_rounds(card, seeks);
     const Times times = time_questions(bench, card, repeated(groups, rounds),
                                        others_for(bench, groups.words, rounds), common_pages);
+    return {times, seeks / static_cast<double>(groups.words.size())};
+}
 
-    const double seeks_each = seeks / static_cast<double>(groups.words.size());
-    const std::string text = parameters({{"U", u}, {"k", k}, {"seeks", static_cast<size_t>(seeks_each)}});
-    bench.record.add({"common pages", family, text, "question", 0, times});
+std::string common_parameters(uint32_t u, uint32_t k, double seeks) {
+    return parameters({{"U", u}, {"k", k}, {"seeks", static_cast<size_t>(seeks)}});
+}
+
+// all pages of one word: each is the next one of the upper run
+void one_word(Bench &bench, const Family &family, uint32_t u) {
+    const TimedQuestion timed = time_common(
+        bench, u, 1, [&](Random &random, uint32_t u, uint32_t) { return std::vector<List>{family.make(random, u)}; });
+    bench.record.add(
+        {"pages of one word", family.name, common_parameters(u, 1, timed.seeks), "question", 0, timed.times});
+}
+
+} // namespace
+
+void one_common(Bench &bench, const std::string &family, uint32_t u, uint32_t k, const MakeGroup &make) {
+    const TimedQuestion timed = time_common(bench, u, k, make);
+    const std::string text = common_parameters(u, k, timed.seeks);
+    bench.record.add({"common pages", family, text, "question", 0, timed.times});
     Times each;
     for (const Engine *engine : engines) each.push_back({engine->name, 0});
-    for (size_t e = 0; e < each.size(); e++) each[e].second = times[e].second / seeks_each;
+    for (size_t e = 0; e < each.size(); e++) each[e].second = timed.times[e].second / timed.seeks;
     bench.record.add({"seek in common pages", family, text, "seek", 0, each});
 }
 
@@ -172,4 +197,5 @@ void measure_common(Bench &bench) {
     for (const CommonFamily &family : common_families(bench.quick)) {
         for (uint32_t k : {2u, 4u, 8u}) one_common(bench, family.name, family.u, k, family.make);
     }
+    for (const Family &family : list_families()) one_word(bench, family, small_u);
 }

@@ -15,9 +15,14 @@ def first_line(command):
 
 
 def processor():
+    """Its name with family and model, since one name covers several kinds."""
     with open("/proc/cpuinfo") as file:
-        names = [line.split(":", 1)[1].strip() for line in file if line.startswith("model name")]
-    return f"{names[0]}, {len(names)} cores" if names else platform.machine()
+        lines = [line.split(":", 1) for line in file if ":" in line]
+    facts = {name.strip(): value.strip() for name, value in lines}
+    if "model name" not in facts:
+        return platform.machine()
+    cores = sum(name.strip() == "model name" for name, _ in lines)
+    return f"{facts['model name']} (family {facts['cpu family']}, model {facts['model']}), {cores} cores"
 
 
 def main():

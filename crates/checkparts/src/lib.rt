@@ -97,10 +97,10 @@ pub fn next_pointer(s: &[u8], g: Shape, i: usize, next: usize, x: u64, k: usize)
     if g.n < through {
         return 0;
     }
-    if g.lower <= POINTER_ZERO_AT + POINTER_SIZE * next {
+    if 64 * k + 64 < 256 * next + through {
         return next;
     }
-    if 64 * k + 64 < 256 * next + through {
+    if g.lower <= POINTER_ZERO_AT + POINTER_SIZE * next {
         return next;
     }
     if pointer_ok(s, next, x, 64 * k, i) {

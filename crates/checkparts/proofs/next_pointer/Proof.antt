@@ -22,8 +22,8 @@ small-at c =
 abbrev by-ones : tie.Else1 → tie.Start
 by-ones c = c .before .before .before
 
-abbrev by-pointers : tie.Else2 → tie.Start
-by-pointers c = by-ones (c .before .before)
+abbrev by-pointers : tie.Else3 → tie.Start
+by-pointers c = by-ones (c .before .before .before)
 
 returns : tie.Need-returns
 returns c =
@@ -35,14 +35,13 @@ returns c =
 
 returns-2 : tie.Need-returns-2
 returns-2 c =
-    let e = c .before .before in
+    let e = c .before in
     let b = by-ones e in
     let a = b .args in
     let p = b .pre .pointed in (
       λ _. (
         omega (arith, e .if1 .left),
-        pointed-same (a .s .now) (a .g) (a .k) (a .i) (a .next) (ones (a .x)) p
-            (λ l. absurd (omega (arith, c .if2 .taken))),
+        pointed-same (a .s .now) (a .g) (a .k) (a .i) (a .next) (ones (a .x)) p (λ _. omega (arith, c .if2 .taken)),
       ),
       λ z. absurd (omega (arith, p .first)),
     )
@@ -55,16 +54,17 @@ returns-3 c =
     let p = b .pre .pointed in (
       λ _. (
         omega (arith, e .if1 .left),
-        pointed-same (a .s .now) (a .g) (a .k) (a .i) (a .next) (ones (a .x)) p (λ _. omega (arith, c .if3 .taken)),
+        pointed-same (a .s .now) (a .g) (a .k) (a .i) (a .next) (ones (a .x)) p
+            (λ l. absurd (omega (arith, c .if3 .taken))),
       ),
       λ z. absurd (omega (arith, p .first)),
     )
 
 pointer-ok-requires : tie.Need-pointer-ok-requires
 pointer-ok-requires c κs =
-    let b = by-pointers (c .before) in
+    let b = by-pointers c in
     let m = small-at b in (
-      pointer-room (b .args .s .now) (b .args .g) (b .args .next) (b .pre .laid) (c .before .if2 .left),
+      pointer-room (b .args .s .now) (b .args .g) (b .args .next) (b .pre .laid) (c .if3 .left),
       m .next,
       omega (arith, m .place),
       omega (arith, m .elements),
@@ -73,15 +73,15 @@ pointer-ok-requires c κs =
 returns-4 : tie.Need-returns-4
 returns-4 c =
     let t = c .before in
-    let o = t .before .before in
+    let o = t .before in
     let b = by-pointers o in
     let a = b .args in
     let p = b .pre in
     let st = t .pointer-ok .ensures .0 (c .if4 .taken) in (
       λ _. (
-        omega (arith, o .before .before .if1 .left),
+        omega (arith, o .before .before .before .if1 .left),
         pointed-next (a .s .now) (a .g) (a .k) (a .i) (a .next) (ones (a .x)) (p .pointed) (p .laid)
-            (o .if2 .left) (stands-after (a .s .now) (a .g .upper) (a .k) (a .x) (a .i) (p .word-is)
+            (o .if3 .left) (stands-after (a .s .now) (a .g .upper) (a .k) (a .x) (a .i) (p .word-is)
             (p .counted) (256 * a .next) _ st),
       ),
       λ z. absurd (omega arith),
@@ -90,7 +90,7 @@ returns-4 c =
 returns-5 : tie.Need-returns-5
 returns-5 c =
     let t = c .before in
-    let o = t .before .before in
+    let o = t .before in
     let b = by-pointers o in
     let a = b .args in
     let p = b .pre in (
@@ -99,8 +99,8 @@ returns-5 c =
           t .pointer-ok .ensures .1 (c .if4 .left)
           (after-stands (a .s .now) (a .g .upper) (a .k) (a .x) (a .i) (p .word-is)
           (p .counted) (256 * a .next) _ (omega arith)
-          (h .pointers-are (a .next) (p .pointed .first) (o .if2 .left))
-          (p .pointed .ahead (o .if2 .left)) (omega (arith, t .before .if3 .left))),
+          (h .pointers-are (a .next) (p .pointed .first) (o .if3 .left))
+          (p .pointed .ahead (o .if3 .left)) (omega (arith, o .before .before .if2 .left))),
     )
 
 pub next-pointer-spec : {M : Type 1} → statement M
@@ -110,16 +110,16 @@ next-pointer-spec =
     (λ c. omega (arith, small-at (c .before) .ones-few))
     (λ c. omega (arith, small-at (c .before) .ones-few, small-at (c .before) .elements))
     returns
-    (λ c. search needs)
-    (λ c. search needs)
+    (λ c. omega (arith, small-at (by-ones c) .place))
+    (λ c. omega (arith, small-at (by-ones c) .place))
+    (λ c. omega (arith, small-at (by-ones c) .next))
+    (λ c. let m = small-at (by-ones c) in omega (arith, m .next, m .elements, m .ones-few))
     returns-2
-    (λ c. omega (arith, small-at (by-pointers c) .place))
-    (λ c. omega (arith, small-at (by-pointers c) .place))
-    (λ c. search needs)
-    (λ c. search needs)
+    (λ c. omega (arith, small-at (by-ones (c .before)) .next))
+    (λ c. omega (arith, small-at (by-ones (c .before)) .next))
     returns-3
-    (λ c. omega (arith, small-at (by-pointers (c .before)) .place))
+    (λ c. omega (arith, small-at (by-pointers c) .place))
     pointer-ok-requires
-    (λ c. search needs)
+    (λ c. omega (arith, small-at (by-pointers (c .before .before)) .next))
     returns-4
     returns-5)
