@@ -2,10 +2,13 @@
 // are lent beside it.
 
 ghost use mathlib.Core.Path.{_≡_};
-ghost use lib.ListN.{set};
+ghost use Prim.Native.Nat.{_<_};
+ghost use lib.ListN.{length};
 ghost use Rattle.querylaws.specs.Lists.{Lists};
 ghost use Rattle.querylaws.specs.Queries.{movedIn, Seekable, Running, Turned};
+ghost use Rattle.querylaws.specs.Batches.{Batched};
 ghost use Rattle.querylaws.specs.Listings.{wholeIn, laidWithin, Tells};
+use querylaws::Batch;
 use querylaws::FROM;
 use querylaws::Listed;
 use querylaws::Query;
@@ -13,15 +16,6 @@ use querylaws::TO;
 use querylaws::Turn;
 use walklaws::Cursor;
 use walklaws::SPENT;
-
-// Stores a page at the place at, if the room goes as far.
-fn put(room: &mut [u32], at: usize, page: u32)
-    ensures { λ r. ⌜ now (room .exit) ≡ set (now (room .entry)) at page ⌝ }
-{
-    if at < room.len() {
-        room[at] = page;
-    }
-}
 
 // The query, and the cursor of it that is in hand.
 struct InHand {
@@ -41,15 +35,17 @@ fn seek_in(card: &[u8], shapes: &[u32], mut s: InHand, i: usize, b: usize) -> In
     s
 }
 
-// The next page at or above the bound that the first k lists share; with one list, a plain seek. It is the one loop of
+// Lists the pages from b0 on that the first k lists share, until the room is full or none is left. It is the one loop of
 // seeks, and the query goes by value through each of them.
-pub fn next_common(card: &[u8], shapes: &[u32], query: Query, k: usize, bound: usize) -> Turn
-    requires { ⌜ Running (now card) (now shapes) k query bound ⌝ }
-    ensures { λ r. ⌜ Turned (now (card .entry)) (now (shapes .entry)) k query bound r ⌝ }
+fn list_from(card: &[u8], shapes: &[u32], q0: Query, k: usize, b0: usize, room: &mut [u32]) -> Batch
+    requires { ⌜ Running (now card) (now shapes) k q0 b0 × (0 < length (now room)) ⌝ }
+    ensures { λ r. ⌜ Batched (now (card .entry)) (now (shapes .entry)) k q0 b0 (now (room .entry)) r
+        (now (room .exit)) ⌝ }
 {
-    let mut q = query;
-    let mut b = bound;
+    let mut q = q0;
+    let mut b = b0;
     let mut i = 0;
+    let mut found = 0;
     loop {
         let hand = q.cursors[i];
         let s = seek_in(card, shapes, InHand { q, hand }, i, b);
@@ -59,7 +55,7 @@ pub fn next_common(card: &[u8], shapes: &[u32], query: Query, k: usize, bound: u
         q.cursors[i] = c;
         let mark = c.mark;
         if mark == SPENT {
-            return Turn { q, mark };
+            return Batch { q, mark, found };
         }
         let page = mark as usize - 1;
         if 0 < i && b < page {
@@ -70,9 +66,26 @@ pub fn next_common(card: &[u8], shapes: &[u32], query: Query, k: usize, bound: u
         i += 1;
         b = page;
         if k <= i {
-            return Turn { q, mark };
+            room[found] = mark - 1;
+            found += 1;
+            if room.len() <= found {
+                return Batch { q, mark, found };
+            }
+            i = 0;
+            b = mark as usize;
         }
     }
+}
+
+// The next page at or above the bound that the first k lists share; with one list, a plain seek.
+pub fn next_common(card: &[u8], shapes: &[u32], query: Query, k: usize, bound: usize) -> Turn
+    requires { ⌜ Running (now card) (now shapes) k query bound ⌝ }
+    ensures { λ r. ⌜ Turned (now (card .entry)) (now (shapes .entry)) k query bound r ⌝ }
+{
+    let mut page = [0u32; 1];
+    let s = list_from(card, shapes, query, k, bound, &mut page);
+    let q = s.q;
+    Turn { q, mark: s.mark }
 }
 
 // Counts the pages that the first k lists share, and lists them at the room's front, as far as it goes.
@@ -83,14 +96,19 @@ pub fn list_common(card: &[u8], shapes: &[u32], k: usize, room: &mut [u32]) -> L
         (now (room .entry))) ⌝ }
 {
     let q = Query::new();
-    let mut turn = Turn { q, mark: 0 };
-    let mut found = 0;
-    loop {
-        turn = next_common(card, shapes, turn.q, k, turn.mark as usize);
-        if turn.mark == SPENT {
-            return rows::totals(turn.q, found);
-        }
-        put(room, found, turn.mark - 1);
-        found += 1;
+    let mut s = Batch {
+        q,
+        mark: 0,
+        found: 0,
+    };
+    if 0 < room.len() {
+        s = list_from(card, shapes, q, k, 0, room);
     }
+    let mut found = s.found;
+    let mut rest = [0u32; 16];
+    while s.mark != SPENT {
+        s = list_from(card, shapes, s.q, k, s.mark as usize, &mut rest);
+        found += s.found;
+    }
+    rows::totals(s.q, found)
 }

@@ -5,5 +5,6 @@ pub mod QueryLaws
 pub mod RunLaws
 pub mod TurnLaws
 pub mod NewLaws
+pub mod BatchLaws
 pub mod ListingLaws
 pub mod RankLaws

@@ -1,13 +1,13 @@
--- Laws of listing common pages one by one:
+-- Laws of listing common pages, one by one or a batch at a time:
 -- the pages so far, with the counts so far, and the rule from here on are the whole.
+use mathlib.Core.Logic.{_⊎_, inl, inr}
 use mathlib.Core.Path.{_≡_, refl, sym, ap, _∙_}
 use mathlib.Core.List.{List, [], _∷_, _++_, append-assoc, append-nil}
-use Prim.Native.Nat.{ℕ, suc, _+_, _-_, _≤_, _<_}
+use Prim.Native.Nat.{ℕ, zero, suc, _+_, _-_, _^_, _≤_, _<_}
 use native.Mathlib.Nat.{zero-add, add-assoc}
-use native.Mathlib.Decide.{decLt}
 use native.Mathlib.Omega.{arith}
-use lib.ListN.{length, getD, set, take, drop, length-append, length-drop, length-set}
-use lib.Seq.{length-take-le, take-all, take-nil, drop-cons, append-snoc, take-append-le, set-out, set-at}
+use lib.ListN.{length, take, length-append}
+use lib.Seq.{take-all, take-nil, append-snoc, take-append-le}
 use Rattle.rules.specs.Limits.{limit}
 use Rattle.rules.specs.Seek.{none, page}
 use Rattle.rules.specs.Common.{Tally, counted, nothing}
@@ -19,51 +19,26 @@ use Rattle.commonlaws.proofs.NextLaws.{rounds-next}
 use Rattle.walklaws.specs.Cursors.{spentMark}
 use Rattle.querylaws.specs.declared.Query.{Query}
 use Rattle.querylaws.specs.declared.Turn.{Turn}
+use Rattle.querylaws.specs.declared.Batch.{Batch}
 use Rattle.querylaws.specs.declared.Listed.{Listed}
 use Rattle.querylaws.specs.Lists.{pagesAt, boundIn, Lists}
 use Rattle.querylaws.specs.Queries.{newQuery, readerAt, leadIn, othersIn, seeksOf, looksOf, nextFor, Running, Turned}
+use Rattle.querylaws.specs.Batches.{Turns, Batched}
 use Rattle.querylaws.specs.Listings.{wholeIn, laidWithin, Tells}
 use Rattle.querylaws.proofs.ListLaws.{list-length}
 use Rattle.querylaws.proofs.RunLaws.{lead-ready, others-ready}
-use Rattle.querylaws.proofs.TurnLaws.{turned-none, turned-page, turned-fewer}
+use Rattle.querylaws.proofs.TurnLaws.{turned-none, turned-page, turned-fewer, turned-later}
+use Rattle.querylaws.proofs.BatchLaws.{turns-size, batched-long}
 use Rattle.querylaws.proofs.NewLaws.{new-seeks, new-looks, new-running, new-whole}
 
--- ---- one number more in the room
-
-laid-more : (ps room : List ℕ) (p : ℕ) → length ps < length room → set (laid ps room) (length ps) p
-    ≡ laid (ps ++ p ∷ []) room
-unfolding laid
-laid-more ps room p h =
-    let e : length (ps ++ p ∷ []) ≡ suc (length ps) = length-append ps (p ∷ []) ∙ omega arith in
-    rw (e, drop-cons room (length ps) 0 h)
-    (set-at ps (getD room (length ps) 0) (drop (suc (length ps)) room) p (length ps) refl
-    ∙ sym (append-snoc ps p (drop (suc (length ps)) room)))
-
-laid-within-none : (room : List ℕ) → laidWithin [] room ≡ room
-unfolding laid
-laid-within-none room = rw (take-nil {A = ℕ} (length room))
+-- ---- pages in the room
 
 pub laid-within-all : (ps room : List ℕ) → length ps ≤ length room → laidWithin ps room ≡ laid ps room
 laid-within-all ps room h = rw (take-all (length room) ps h)
 
--- a store behind the room's end changes nothing
-full : (ps room : List ℕ) (p : ℕ) → length room ≤ length ps → set (laidWithin ps room) (length ps) p ≡ laidWithin ps room
-unfolding laid
-full ps room p h =
-    let front = take (length room) ps in
-    let n : length front ≡ length room = length-take-le (length room) ps h in
-    let l : length (laidWithin ps room) ≤ length ps =
-    omega (arith, length-append front (drop (length front) room), length-drop (length front) room) in
-    set-out (laidWithin ps room) (length ps) p l
-
-laid-within-more : (ps room : List ℕ) (p : ℕ) → set (laidWithin ps room) (length ps) p ≡ laidWithin (ps ++ p ∷ []) room
-laid-within-more ps room p = elim (decLt (length ps) (length room)) [
-  | yes h ↦
-      rw (laid-within-all ps room (omega arith), laid-within-all (ps ++ p ∷ []) room (omega (arith, length-append ps (p ∷ []))))
-      (laid-more ps room p h)
-  | no h ↦ full ps room p (omega arith)
-      ∙ ap (λ (xs : List ℕ). laid xs room) (sym (take-append-le (length room) ps (p ∷ []) (omega arith)))
-]
+-- pages behind those that fill the room change nothing
+laid-within-full : (ps qs room : List ℕ) → length room ≤ length ps → laidWithin (ps ++ qs) room ≡ laidWithin ps room
+laid-within-full ps qs room h = ap (λ (xs : List ℕ). laid xs room) (take-append-le (length room) ps qs h)
 
 -- ---- tallies
 
@@ -160,33 +135,138 @@ module _ (s sh : List ℕ) (k : ℕ) where
           },
         )
 
+  -- the pages ps are all
+  pub record Ended (q : Query) (found : ℕ) (ps : List ℕ) : Type 0 where
+    pub eight : length (q .cursors) ≡ 8
+    pub narrow : (seeksOf q ≤ 2 ^ 28) × (looksOf q ≤ 2 ^ 29)
+    pub few : found ≤ limit
+    pub tells : (r : Listed) → (r .found ≡ found) × (r .seeks ≡ seeksOf q) × (r .looks ≡ looksOf q)
+        → (wholeIn s sh k .listed ≡ ps) × Tells (wholeIn s sh k) r
+
+  -- ---- batches of pages
+
+  abbrev pub Reached : Query → ℕ → ℕ → List ℕ → Type 0
+  Reached q b found ps = ((b ≡ spentMark) × Ended q found ps) ⊎ ((b < spentMark) × Partway q b found ps)
+
+  pub reached-more : (n : ℕ) (q : Query) (b found : ℕ) (ps qs : List ℕ) (t : Turn) → b < spentMark
+      → Partway q b found ps → Turns s sh k n q b qs t → Reached (t .q) (t .mark) (found + length qs) (ps ++ qs)
+  unfolding Turns
+  reached-more zero q b found ps qs t h p x =
+      let none : found + 0 ≡ found = omega arith in
+      rw (x .0, x .1, x .2, append-nil ps, none) (inr (h, p))
+  reached-more (suc n) q b found ps [] t h p x =
+      let none : found + 0 ≡ found = omega arith in
+      rw (append-nil ps, none)
+      (inl (
+        x .1,
+        record {
+          eight = x .0 .eight;
+          narrow = x .0 .narrow;
+          few = partway-few q b found ps p;
+          tells = partway-end q b found ps p t (x .0) (x .1);
+        },
+      ))
+  reached-more (suc n) q b found ps (c ∷ qs) t h p x =
+      let u = x .0 in
+      let e : u .mark - 1 ≡ c = omega (arith, x .2) in
+      let one : found + 1 + length qs ≡ found + suc (length qs) = omega arith in
+      let next = rw e at (partway-step q b found ps p u (x .1) (x .3)) in
+      let later = turned-later s sh k q b (p .running .apt) u (x .1) (x .3) in
+      let rest = reached-more n (u .q) (u .mark) (found + 1) (ps ++ c ∷ []) qs t (later .1) next (x .4) in
+      rw (append-snoc ps c qs, one) at rest
+
+  -- the bound grows
+  pub reached-later : (n : ℕ) (q : Query) (b found : ℕ) (ps qs : List ℕ) (t : Turn) → b < spentMark
+      → Partway q b found ps → Turns s sh k n q b qs t → (b ≤ t .mark) × (0 < n → b < t .mark)
+  unfolding Turns
+  reached-later zero q b found ps qs t h p x = (omega (arith, x .2), λ z. absurd (omega arith))
+  reached-later (suc n) q b found ps [] t h p x = (omega (arith, x .1), λ z. omega (arith, x .1))
+  reached-later (suc n) q b found ps (c ∷ qs) t h p x =
+      let u = x .0 in
+      let next = partway-step q b found ps p u (x .1) (x .3) in
+      let later = turned-later s sh k q b (p .running .apt) u (x .1) (x .3) in
+      let rest = reached-later n (u .q) (u .mark) (found + 1) (ps ++ (u .mark - 1) ∷ []) qs t (later .1) next (x .4) in
+      (omega (arith, later .0, rest .0), λ z. omega (arith, later .0, rest .0))
+
 -- ---- the pages so far in the room
 
 module _ (s sh : List ℕ) (k : ℕ) (room₀ : List ℕ) where
-  -- the pages up to the bound b are counted, and listed as far as the room goes
+  -- the pages up to the bound b are counted, and listed as far as the room goes; where more may come, it is full
   pub record Listing (q : Query) (b found : ℕ) (room : List ℕ) : Type 0 where
     pub ps : List ℕ
-    pub partway : Partway s sh k q b found ps
+    pub reached : Reached s sh k q b found ps
+    pub full : b < spentMark → length room₀ ≤ length ps
     pub room-is : room ≡ laidWithin ps room₀
     pub long : length room ≡ length room₀
 
-  pub listing-start : Lists s sh k → Listing newQuery 0 0 room₀
-  listing-start l =
-      record { ps = []; partway = partway-start s sh k l; room-is = sym (laid-within-none room₀); long = refl }
+  -- with no room
+  pub listing-none : Lists s sh k → length room₀ ≡ 0 → Listing newQuery 0 0 room₀
+  unfolding laid
+  listing-none l h = record {
+    ps = [];
+    reached = inr (omega arith, partway-start s sh k l);
+    full = λ z. omega arith;
+    room-is = rw (take-nil {A = ℕ} (length room₀));
+    long = refl;
+  }
 
-  module _ (q : Query) (b found : ℕ) (room : List ℕ) (g : Listing q b found room) (t : Turn) (u : Turned s sh k q b t)
-    where
-      pub listing-step : (t .mark ≡ spentMark → ⊥)
-          → Listing (t .q) (t .mark) (found + 1) (set room found (t .mark - 1))
-      listing-step h = record {
-        ps = g .ps ++ (t .mark - 1) ∷ [];
-        partway = partway-step s sh k q b found (g .ps) (g .partway) t u h;
-        room-is = rw (g .room-is, ← g .partway .sized) (laid-within-more (g .ps) room₀ (t .mark - 1));
-        long = length-set room found (t .mark - 1) ∙ g .long;
+  pub listing-first : Lists s sh k → (r : Batch) (room : List ℕ) → Batched s sh k newQuery 0 room₀ r room
+      → Listing (r .q) (r .mark) (r .found) room
+  listing-first l r room x =
+      let t : Turn = record { q = r .q; mark = r .mark } in
+      let size = turns-size s sh k (length room₀) newQuery 0 (x .pages) t (x .turns) in
+      record {
+        ps = x .pages;
+        reached =
+            rw (x .found)
+            (rw (zero-add (length (x .pages)))
+            at (reached-more s sh k (length room₀) newQuery 0 0 [] (x .pages) t (omega arith) (partway-start s sh k l)
+            (x .turns)));
+        full = size .1;
+        room-is = x .laid-out ∙ sym (laid-within-all (x .pages) room₀ (size .0));
+        long = batched-long s sh k newQuery 0 room₀ r room x;
       }
 
-      pub listing-end : t .mark ≡ spentMark → (r : Listed) → (r .found ≡ found) × (r .seeks ≡ seeksOf (t .q))
-          × (r .looks ≡ looksOf (t .q)) → Tells (wholeIn s sh k) r × (room ≡ laidWithin (wholeIn s sh k .listed) room₀)
-      listing-end h r e =
-          let end = partway-end s sh k q b found (g .ps) (g .partway) t u h r e in
+  module _ (q : Query) (b found : ℕ) (room : List ℕ) (g : Listing q b found room) where
+    pub listing-few : found ≤ limit
+    listing-few = elim (g .reached) [ inl e ↦ e .1 .few | inr e ↦ partway-few s sh k q b found (g .ps) (e .1) ]
+
+    module _ (h : b ≡ spentMark → ⊥) where
+      pub listing-on : (b < spentMark) × Partway s sh k q b found (g .ps)
+      listing-on = elim (g .reached) [ inl e ↦ absurd (h (e .0)) | inr e ↦ e ]
+
+      module _ (rest : List ℕ) (r : Batch) (rest′ : List ℕ) (x : Batched s sh k q b rest r rest′) where
+        pub listing-more : Listing (r .q) (r .mark) (found + r .found) room
+        listing-more =
+            let t : Turn = record { q = r .q; mark = r .mark } in
+            let full = g .full (listing-on .0) in record {
+              ps = g .ps ++ x .pages;
+              reached =
+                  rw (x .found)
+                  (reached-more s sh k (length rest) q b found (g .ps) (x .pages) t (listing-on .0) (listing-on .1)
+                  (x .turns));
+              full = λ z. omega (arith, full, length-append (g .ps) (x .pages));
+              room-is = g .room-is ∙ sym (laid-within-full (g .ps) (x .pages) room₀ full);
+              long = g .long;
+            }
+
+        pub listing-less : 0 < length rest → spentMark - r .mark < spentMark - b
+        listing-less z =
+            let t : Turn = record { q = r .q; mark = r .mark } in
+            let later =
+            reached-later s sh k (length rest) q b found (g .ps) (x .pages) t (listing-on .0) (listing-on .1)
+            (x .turns) in
+            omega (arith, later .1 z, listing-on .0)
+
+    module _ (h : b ≡ spentMark) where
+      ended : Ended s sh k q found (g .ps)
+      ended = elim (g .reached) [ inl e ↦ e .1 | inr e ↦ absurd (omega (arith, e .0)) ]
+
+      pub listing-narrow : (length (q .cursors) ≡ 8) × (seeksOf q < 2 ^ 32) × (looksOf q < 2 ^ 32)
+      listing-narrow = (ended .eight, omega (arith, ended .narrow), omega (arith, ended .narrow))
+
+      pub listing-end : (r : Listed) → (r .found ≡ found) × (r .seeks ≡ seeksOf q) × (r .looks ≡ looksOf q)
+          → Tells (wholeIn s sh k) r × (room ≡ laidWithin (wholeIn s sh k .listed) room₀)
+      listing-end r e =
+          let end = ended .tells r e in
           (end .1, g .room-is ∙ ap (λ (xs : List ℕ). laidWithin xs room₀) (sym (end .0)))

@@ -53,6 +53,20 @@ module _ (s sh : List ℕ) (k : ℕ) (q : Query) (b : ℕ) (a : Apt s sh k q b) 
         let hit = rw (p .3) at (came s sh k q b a .ends) in
         rw (u .lead, came s sh k q b a .carried .lead-pages, p .2) (hit .fewer)
 
+    -- and above the bound
+    pub turned-later : (t .mark ≡ spentMark → ⊥) → (b < t .mark) × (t .mark < spentMark)
+    turned-later h =
+        let p = turned-page h in
+        let hit = rw (p .3) at (came s sh k q b a .ends) in (
+          omega (arith, p .2, hit .later),
+          omega (
+            arith,
+            p .2,
+            found-below (p .0) (p .1) (p .3),
+            list-within s sh 0 (a .lists .each 0 (a .lists .some)),
+          ),
+        )
+
 pub turned-unique : (s sh : List ℕ) (k : ℕ) (q : Query) (b : ℕ) (t t′ : Turn) → Turned s sh k q b t
     → Turned s sh k q b t′ → t ≡ t′
 turned-unique s sh k q b t t′ u u′ = ap₂ (λ (r : Query) (m : ℕ). record { q = r; mark = m })

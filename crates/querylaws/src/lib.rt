@@ -44,6 +44,13 @@ pub struct Turn {
     pub mark: u32,
 }
 
+// A query behind pages that were found, how many they are, and the mark of the last, or SPENT where none is left.
+pub struct Batch {
+    pub q: Query,
+    pub mark: u32,
+    pub found: usize,
+}
+
 // How many pages were found, and the seeks and looks that they took.
 pub struct Listed {
     pub found: usize,

@@ -1,69 +1,104 @@
--- `list_common` goes from common page to common page; fewer of the lead's are left each time.
+-- `list_common` lists one batch of pages in the room, if there is any, and counts the others batch by batch: the bound
+-- grows with each.
+use mathlib.Core.Logic.{inl, inr}
+use mathlib.Core.Path.{_≡_, refl, sym, _∙_}
+use mathlib.Core.List.{List}
+use Prim.Native.Nat.{ℕ, _+_, _-_}
 use native.Mathlib.Omega.{arith}
+use denote.Ref.{now}
 use borrow.Author.Needs.{needs}
-use Rattle.commonlaws.specs.Readers.{leftIn}
-use Rattle.querylaws.specs.Queries.{leadIn}
-use Rattle.querylaws.proofs.TurnLaws.{turned-page, turned-fewer}
-use Rattle.querylaws.proofs.ListingLaws.{partway-few, Listing, listing-start, listing-step, listing-end}
+use lib.ListN.{length}
+use Rattle.walklaws.specs.Cursors.{spentMark}
+use Rattle.querylaws.proofs.NewLaws.{new-running}
+use Rattle.querylaws.proofs.BatchLaws.{batched-long}
+use Rattle.querylaws.proofs.ListingLaws.{Listing, listing-none, listing-first, listing-few, listing-on, listing-more}
+use Rattle.querylaws.proofs.ListingLaws.{listing-less, listing-narrow, listing-end}
 use Rattle.query.proofs.list_common.Statement.{statement}
 use Rattle.query.proofs.list_common.Tie as tie
 
+-- whatever the first batch listed is listed still
 abbrev Inv-loop : tie.InvT-loop
-Inv-loop card shapes k room₀ turn₀ found₀ room turn found = Listing card shapes k room₀ (turn .q) (turn .mark) found room
+Inv-loop card shapes k room s₀ found₀ rest₀ s found rest = (length rest ≡ 16) × ((room₀ : List ℕ)
+    → Listing card shapes k room₀ (s₀ .q) (s₀ .mark) found₀ room → Listing card shapes k room₀ (s .q) (s .mark) found room)
 
 abbrev μ-loop : tie.MeasureT-loop
-μ-loop card shapes k room₀ turn₀ found₀ room turn found = leftIn (turn .mark) (leadIn card shapes (turn .q))
+μ-loop card shapes k room s₀ found₀ rest₀ s found rest = spentMark - s .mark
+
+list-from-requires : tie.Need-list-from-requires Inv-loop μ-loop
+list-from-requires c κs = (
+  rw (c .before .before .new .ensures) (new-running _ _ _ (c .before .before .before .before .before .before .pre) 0),
+  omega (arith, c .before .if1 .taken),
+)
+
+-- what the first batch listed; with no room there is none
+first : (c : tie.Joined1 Inv-loop μ-loop) → Listing (now (c .before .before .before .before .before .args .card))
+    (now (c .before .before .before .before .before .args .shapes)) (c .before .before .before .before .before .args .k)
+    (now (c .before .before .before .before .before .args .room)) (c .if1 .s .q) (c .if1 .s .mark) (c .if1 .s .found)
+    (c .if1 .room)
+first c = elim (c .if1 .came) [
+  | inl e ↦
+      rw (e .5, e .6)
+      (listing-first _ _ _ _ (c .before .before .before .before .before .pre) (e .2 .result) _
+      (rw (c .before .new .ensures) at (e .2 .ensures)))
+  | inr e ↦
+      rw (e .1, e .2, c .before .new .ensures)
+      (listing-none _ _ _ _ (c .before .before .before .before .before .pre) (omega (arith, e .0 .left)))
+]
 
 loop-holds : tie.Need-loop-holds Inv-loop μ-loop
-loop-holds c = rw (c .new .ensures) (listing-start _ _ _ _ (c .before .before .before .before .pre))
+loop-holds c = (refl, λ room₀ g. g)
 
-next-common-requires : tie.Need-next-common-requires Inv-loop μ-loop
-next-common-requires c κs = c .before .loop .inv .partway .running
+slice-aggregate-list-from : tie.Need-slice-aggregate-list-from Inv-loop μ-loop
+slice-aggregate-list-from c = sym (c .before .before .before .before .loop .inv .0)
 
-totals-requires : tie.Need-totals-requires Inv-loop μ-loop
-totals-requires c κs =
-    let u = c .before .before .next-common .ensures in
-    (u .eight, omega (arith, u .narrow), omega (arith, u .narrow))
-
-same-length : tie.Need-same-length Inv-loop μ-loop
-same-length c = c .before .before .before .before .before .loop .inv .long
-
-returns : tie.Need-returns Inv-loop μ-loop
-returns c =
-    let k = c .before .before .before in
-    let l = k .before .before .loop in
-    listing-end _ _ _ _ (l .turn .q) (l .turn .mark) (l .found) (l .room) (l .inv) (k .next-common .result) (k .next-common .ensures)
-    (c .before .if1 .taken) _ (c .totals .ensures)
-
-sub-put : tie.Need-sub-put Inv-loop μ-loop
-sub-put c =
-    let k = c .before .before .before .before in
-    let l = k .before .before .loop in
-    omega (
-      arith,
-      turned-page _ _ _ (l .turn .q) (l .turn .mark) (l .inv .partway .running .apt) (k .next-common .result) (k .next-common .ensures)
-          (c .before .before .if1 .left) .2,
+list-from-requires-2 : tie.Need-list-from-requires-2 Inv-loop μ-loop
+list-from-requires-2 c κs =
+    let l = c .before .before .before .before .loop in
+    let g = l .inv .1 _ (first (c .before .before .before .before .before)) in (
+      listing-on _ _ _ _ (l .s .q) (l .s .mark) (l .found) _ g (c .before .before .if2 .taken) .1 .running,
+      omega (arith, l .inv .0),
     )
 
 add-found : tie.Need-add-found Inv-loop μ-loop
 add-found c =
-    let l = c .before .before .before .before .before .before .before .before .before .loop in
-    omega (arith, partway-few _ _ _ (l .turn .q) (l .turn .mark) (l .found) (l .inv .ps) (l .inv .partway))
+    let l = c .before .before .before .before .before .before .before .loop in
+    let n = c .before .before .list-from2 in
+    let g = l .inv .1 _ (first (c .before .before .before .before .before .before .before .before)) in
+    let on = c .before .before .before .before .before .if2 .taken in
+    let next = listing-more _ _ _ _ (l .s .q) (l .s .mark) (l .found) _ g on (l .rest) (n .result) _ (n .ensures) in
+    omega (arith, listing-few _ _ _ _ (n .result .q) (n .result .mark) (l .found + n .result .found) _ next)
 
 loop-less : tie.Need-loop-less Inv-loop μ-loop
 loop-less c =
-    let k = c .before .before .before .before .before .before .before in
-    let l = k .before .before .loop in
-    turned-fewer _ _ _ (l .turn .q) (l .turn .mark) (l .inv .partway .running .apt) (k .next-common .result) (k .next-common .ensures)
-    (c .before .before .before .before .before .if1 .left)
+    let l = c .before .before .before .before .before .before .before .loop in
+    let n = c .before .before .list-from2 in
+    let g = l .inv .1 _ (first (c .before .before .before .before .before .before .before .before)) in
+    listing-less _ _ _ _ (l .s .q) (l .s .mark) (l .found) _ g (c .before .before .before .before .before .if2 .taken) (l .rest) (n .result) _ (n .ensures)
+    (omega (arith, l .inv .0))
 
 loop-again : tie.Need-loop-again Inv-loop μ-loop
 loop-again c =
-    let k = c .before .before .before .before .before .before .before in
-    let l = k .before .before .loop in
-    rw (c .before .before .put .ensures)
-    (listing-step _ _ _ _ (l .turn .q) (l .turn .mark) (l .found) (l .room) (l .inv) (k .next-common .result) (k .next-common .ensures)
-    (c .before .before .before .before .before .if1 .left))
+    let l = c .before .before .before .before .before .before .before .loop in
+    let n = c .before .before .list-from2 in (
+      batched-long _ _ _ (l .s .q) (l .s .mark) (l .rest) (n .result) _ (n .ensures) ∙ l .inv .0,
+      λ room₀ g.
+          listing-more _ _ _ room₀ (l .s .q) (l .s .mark) (l .found) _ (l .inv .1 room₀ g) (c .before .before .before .before .before .if2 .taken) (l .rest)
+          (n .result) _ (n .ensures),
+    )
+
+totals-requires : tie.Need-totals-requires Inv-loop μ-loop
+totals-requires c κs =
+    let l = c .before .before .loop in
+    listing-narrow _ _ _ _ (l .s .q) (l .s .mark) (l .found) _ (l .inv .1 _ (first (c .before .before .before))) (c .if2 .left)
+
+same-length : tie.Need-same-length Inv-loop μ-loop
+same-length c = first (c .before .before .before .before) .long
+
+returns : tie.Need-returns Inv-loop μ-loop
+returns c =
+    let l = c .before .before .before .loop in
+    listing-end _ _ _ _ (l .s .q) (l .s .mark) (l .found) _ (l .inv .1 _ (first (c .before .before .before .before))) (c .before .if2 .left) _
+    (c .totals .ensures)
 
 pub list-common-spec : {M : Type 1} → statement M
 list-common-spec =
@@ -72,14 +107,14 @@ list-common-spec =
     Inv-loop
     μ-loop
     (λ c κs. search needs)
+    list-from-requires
     loop-holds
     (λ c. search needs)
-    next-common-requires
-    totals-requires
-    same-length
-    returns
-    sub-put
-    (λ c κs. search needs)
+    slice-aggregate-list-from
+    list-from-requires-2
     add-found
     loop-less
-    loop-again)
+    loop-again
+    totals-requires
+    same-length
+    returns)

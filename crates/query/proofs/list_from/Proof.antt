@@ -1,0 +1,218 @@
+-- `list_from` seeks list by list: what is left to be sought comes to the rule's next page, and what is left to be listed
+-- to the pages from the start on. The measure: the seeks that may follow.
+use mathlib.Core.Bool.{false≢true}
+use mathlib.Core.Logic.{inl, inr}
+use mathlib.Core.Path.{sym, _∙_}
+use Prim.Native.Nat.{_-_, _^_, _<_}
+use native.Mathlib.Omega.{arith}
+use borrow.Author.Needs.{needs}
+use borrow.Author.Tests.{ltb-true, lt-ltb}
+use lib.ListN.{length-set}
+use Rattle.walklaws.specs.Cursors.{unused}
+use Rattle.querylaws.specs.Queries.{seeksOf}
+use Rattle.querylaws.proofs.RunLaws.{midst-seekable, midst-some, midst-less}
+use Rattle.querylaws.proofs.BatchLaws.{Amid, amid-start, amid-none, amid-larger, amid-same, amid-page, amid-full}
+use Rattle.query.proofs.list_from.Statement.{statement}
+use Rattle.query.proofs.list_from.Tie as tie
+
+abbrev Inv-loop : tie.InvT-loop
+Inv-loop card shapes k b0 room₀ q₀ b₀ i₀ found₀ room q b i found = Amid card shapes k q₀ b₀ room₀ q b i found room
+
+abbrev μ-loop : tie.MeasureT-loop
+μ-loop card shapes k b0 room₀ q₀ b₀ i₀ found₀ room q b i found = 2 ^ 28 - seeksOf q
+
+loop-holds : tie.Need-loop-holds Inv-loop μ-loop
+loop-holds c =
+    let p = c .before .before .before .pre in
+    amid-start _ _ _ _ _ _ (p .0) (p .1)
+
+mul-hand : tie.Need-mul-hand Inv-loop μ-loop
+mul-hand c =
+    let g = c .loop .inv in
+    omega (arith, g .within, g .midst .apt .lists .few)
+
+element-copy-out-hand : tie.Need-element-copy-out-hand Inv-loop μ-loop
+element-copy-out-hand c =
+    let g = c .loop .inv in
+    omega (arith, g .within, g .midst .apt .lists .few)
+
+seek-in-requires : tie.Need-seek-in-requires Inv-loop μ-loop
+unfolding unused
+seek-in-requires c κs =
+    let l = c .before .loop in
+    let a = l .inv in
+    midst-seekable _ _ _ (a .from) (a .bound) (l .q) (l .b) (l .i) (a .midst) (a .within)
+
+mul-c : tie.Need-mul-c Inv-loop μ-loop
+mul-c c =
+    let g = c .before .before .before .before .loop .inv in
+    omega (arith, g .within, g .midst .apt .lists .few)
+
+element-set-from-c : tie.Need-element-set-from-c Inv-loop μ-loop
+element-set-from-c c =
+    let g = c .before .before .before .before .loop .inv in
+    omega (arith, g .within, g .midst .apt .lists .few)
+
+same-length : tie.Need-same-length Inv-loop μ-loop
+same-length c = c .before .before .before .before .before .loop .inv .long
+
+returns : tie.Need-returns Inv-loop μ-loop
+unfolding unused
+returns c =
+    let k = c .before .before .before in
+    let l = k .before .before .loop in
+    let s = k .seek-in in
+    rw (s .ensures .0)
+    (amid-none _ _ _ _ _ _ (l .q) (l .b) (l .i) (l .found) (l .room) (l .inv) (s .result .hand) (s .ensures .1)
+    (c .if1 .taken))
+
+sub-page : tie.Need-sub-page Inv-loop μ-loop
+unfolding unused
+sub-page c =
+    let k = c .before .before .before in
+    let l = k .before .before .loop in
+    let a = l .inv in
+    let s = k .seek-in in
+    midst-some _ _ _ (a .from) (a .bound) (l .q) (l .b) (l .i) (a .midst) (a .within) (s .result .hand) (s .ensures .1)
+
+loop-less : tie.Need-loop-less Inv-loop μ-loop
+unfolding unused
+loop-less c =
+    let k = c .before .before .before .before .before in
+    let l = k .before .before .loop in
+    let a = l .inv in
+    let s = k .seek-in in
+    rw (s .ensures .0)
+    (midst-less _ _ _ (a .from) (a .bound) (l .q) (l .b) (l .i) (a .midst) (a .within) (s .result .hand) (s .ensures .1)
+    (c .before .before .if1 .left))
+
+loop-again : tie.Need-loop-again Inv-loop μ-loop
+unfolding unused
+loop-again c =
+    let k = c .before .before .before .before .before in
+    let l = k .before .before .loop in
+    let s = k .seek-in in
+    rw (s .ensures .0)
+    (amid-larger _ _ _ _ _ _ (l .q) (l .b) (l .i) (l .found) (l .room) (l .inv) (s .result .hand) (s .ensures .1)
+    (c .before .before .if1 .left) (omega (arith, c .before .if2 .taken))
+    (ltb-true (l .b) (s .result .hand .mark - 1) (c .if3 .taken)))
+
+-- past that test the page is no larger one
+no-larger : (c : tie.Joined2 Inv-loop μ-loop) → 0 < c .before .before .before .before .before .before .loop .i
+    → c .before .before .before .before .before .before .loop .b
+    < c .before .before .before .before .seek-in .result .hand .mark - 1 → ⊥
+no-larger c h g = elim (c .if2 .came) [
+  | inl e ↦
+      let k = c .before .before .before .before in
+      false≢true (sym (e .1 .left) ∙ lt-ltb (k .before .before .loop .b) (k .seek-in .result .hand .mark - 1) g)
+  | inr e ↦ omega (arith, e .left)
+]
+
+add-i : tie.Need-add-i Inv-loop μ-loop
+add-i c =
+    let g = c .before .before .before .before .before .before .loop .inv in
+    omega (arith, g .within, g .midst .apt .lists .few)
+
+sub-room : tie.Need-sub-room Inv-loop μ-loop
+unfolding unused
+sub-room c =
+    let k = c .before .before .before .before .before in
+    let l = k .before .before .loop in
+    let a = l .inv in
+    let s = k .seek-in in
+    midst-some _ _ _ (a .from) (a .bound) (l .q) (l .b) (l .i) (a .midst) (a .within) (s .result .hand) (s .ensures .1)
+
+slice-write-room : tie.Need-slice-write-room Inv-loop μ-loop
+slice-write-room c =
+    let g = c .before .before .before .before .before .before .before .loop .inv in
+    omega (arith, g .space, g .long)
+
+same-length-2 : tie.Need-same-length-2 Inv-loop μ-loop
+same-length-2 c =
+    let l = c .before .before .before .before .before .before .before .before .loop in
+    length-set (l .room) (l .found) _ ∙ l .inv .long
+
+returns-2 : tie.Need-returns-2 Inv-loop μ-loop
+unfolding unused
+returns-2 c =
+    let k = c .before .before .before .before .before .before in
+    let l = k .before .before .loop in
+    let s = k .seek-in in
+    rw (s .ensures .0)
+    (amid-full _ _ _ _ _ _ (l .q) (l .b) (l .i) (l .found) (l .room) (l .inv) (s .result .hand) (s .ensures .1)
+    (c .before .before .before .if1 .left) (no-larger (c .before .before)) (c .before .if4 .taken)
+    (omega (arith, c .if5 .taken, length-set (l .room) (l .found) (s .result .hand .mark - 1), l .inv .long)))
+
+loop-less-2 : tie.Need-loop-less-2 Inv-loop μ-loop
+unfolding unused
+loop-less-2 c =
+    let k = c .before .before .before .before .before .before in
+    let l = k .before .before .loop in
+    let a = l .inv in
+    let s = k .seek-in in
+    rw (s .ensures .0)
+    (midst-less _ _ _ (a .from) (a .bound) (l .q) (l .b) (l .i) (a .midst) (a .within) (s .result .hand) (s .ensures .1)
+    (c .before .before .before .if1 .left))
+
+loop-again-2 : tie.Need-loop-again-2 Inv-loop μ-loop
+unfolding unused
+loop-again-2 c =
+    let k = c .before .before .before .before .before .before in
+    let l = k .before .before .loop in
+    let s = k .seek-in in
+    rw (s .ensures .0)
+    (amid-page _ _ _ _ _ _ (l .q) (l .b) (l .i) (l .found) (l .room) (l .inv) (s .result .hand) (s .ensures .1)
+    (c .before .before .before .if1 .left) (no-larger (c .before .before)) (c .before .if4 .taken)
+    (omega (arith, c .if5 .left, length-set (l .room) (l .found) (s .result .hand .mark - 1), l .inv .long)))
+
+loop-less-3 : tie.Need-loop-less-3 Inv-loop μ-loop
+unfolding unused
+loop-less-3 c =
+    let k = c .before .before .before .before .before in
+    let l = k .before .before .loop in
+    let a = l .inv in
+    let s = k .seek-in in
+    rw (s .ensures .0)
+    (midst-less _ _ _ (a .from) (a .bound) (l .q) (l .b) (l .i) (a .midst) (a .within) (s .result .hand) (s .ensures .1)
+    (c .before .before .if1 .left))
+
+loop-again-3 : tie.Need-loop-again-3 Inv-loop μ-loop
+unfolding unused
+loop-again-3 c =
+    let k = c .before .before .before .before .before in
+    let l = k .before .before .loop in
+    let s = k .seek-in in
+    rw (s .ensures .0)
+    (amid-same _ _ _ _ _ _ (l .q) (l .b) (l .i) (l .found) (l .room) (l .inv) (s .result .hand) (s .ensures .1)
+    (c .before .before .if1 .left) (no-larger (c .before)) (c .if4 .left))
+
+pub list-from-spec : {M : Type 1} → statement M
+list-from-spec =
+    tie.close
+    (tie.spec
+    Inv-loop
+    μ-loop
+    loop-holds
+    mul-hand
+    element-copy-out-hand
+    seek-in-requires
+    mul-c
+    element-set-from-c
+    same-length
+    returns
+    (λ c. search needs)
+    sub-page
+    loop-less
+    loop-again
+    add-i
+    sub-room
+    (λ c. search needs)
+    slice-write-room
+    (λ c. search needs)
+    same-length-2
+    returns-2
+    (λ c. search needs)
+    loop-less-2
+    loop-again-2
+    loop-less-3
+    loop-again-3)

@@ -1,0 +1,28 @@
+-- Common pages that are found one after another, as many as a room has places.
+--
+--   Turns s sh k n q b ps t  ps are the next pages from b on that the k lists share, n of them, or fewer where none is
+--                            left; t is the query behind them, with the mark of the last, or spentMark where none is left
+--   Batched s sh k q b room r room′  r is that for a room with n places: it counts the pages, and they lie at the front
+use mathlib.Core.Path.{_≡_}
+use mathlib.Core.List.{List, [], _∷_}
+use Prim.Native.Nat.{ℕ, zero, suc, _+_}
+use lib.ListN.{length}
+use Rattle.rules.specs.Write.{laid}
+use Rattle.walklaws.specs.Cursors.{spentMark}
+use Rattle.querylaws.specs.declared.Query.{Query}
+use Rattle.querylaws.specs.declared.Turn.{Turn}
+use Rattle.querylaws.specs.declared.Batch.{Batch}
+use Rattle.querylaws.specs.Queries.{Turned}
+
+unfoldable pub Turns : List ℕ → List ℕ → ℕ → ℕ → Query → ℕ → List ℕ → Turn → Type 0
+Turns s sh k zero q b ps t = (ps ≡ []) × (t .q ≡ q) × (t .mark ≡ b)
+Turns s sh k (suc n) q b [] t = Turned s sh k q b t × (t .mark ≡ spentMark)
+Turns s sh k (suc n) q b (p ∷ ps) t = (u : Turn) × Turned s sh k q b u × (u .mark ≡ p + 1) × (u .mark ≡ spentMark → ⊥)
+    × Turns s sh k n (u .q) (u .mark) ps t
+
+pub record Batched (s sh : List ℕ) (k : ℕ) (q : Query) (b : ℕ) (room : List ℕ) (r : Batch) (room′ : List ℕ)
+    : Type 0 where
+  pub pages : List ℕ
+  pub turns : Turns s sh k (length room) q b pages (record { q = r .q; mark = r .mark })
+  pub found : r .found ≡ length pages
+  pub laid-out : room′ ≡ laid pages room
