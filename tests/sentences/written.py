@@ -23,20 +23,27 @@ pub fn totals(q: Query, found: usize) -> Listed {
     Listed { found, seeks, looks }
 }
 """
-# the walk from page to page that they are summed up of
+# the batches of pages that they are summed up of, and the one of a page alone
 PAGES = """
+pub fn next_common(card: &[u8], shapes: &[u32], query: Query, k: usize, bound: usize) -> Turn {
+    let mut page = [0u32; 1];
+    let s = list_from(card, shapes, query, k, bound, &mut page);
+    let q = s.q;
+    Turn { q, mark: s.mark }
+}
 pub fn list_common(card: &[u8], shapes: &[u32], k: usize, room: &mut [u32]) -> Listed {
     let q = Query::new();
-    let mut turn = Turn { q, mark: 0 };
-    let mut found = 0;
-    loop {
-        turn = next_common(card, shapes, turn.q, k, turn.mark as usize);
-        if turn.mark == SPENT {
-            return rows::totals(turn.q, found);
-        }
-        put(room, found, turn.mark - 1);
-        found += 1;
+    let mut s = Batch { q, mark: 0, found: 0 };
+    if 0 < room.len() {
+        s = list_from(card, shapes, q, k, 0, room);
     }
+    let mut found = s.found;
+    let mut rest = [0u32; 16];
+    while s.mark != SPENT {
+        s = list_from(card, shapes, s.q, k, s.mark as usize, &mut rest);
+        found += s.found;
+    }
+    rows::totals(s.q, found)
 }
 """
 # how kind 3 tells them; pages are counted first where the room may be too small for them

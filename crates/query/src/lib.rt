@@ -35,8 +35,8 @@ fn seek_in(card: &[u8], shapes: &[u32], mut s: InHand, i: usize, b: usize) -> In
     s
 }
 
-// Lists the pages from b0 on that the first k lists share, until the room is full or none is left. It is the one loop of
-// seeks, and the query goes by value through each of them.
+// Lists the pages from b0 on that the first k lists share, until the room is full or none is left. It is the one loop
+// of seeks, and the query goes by value through each of them.
 fn list_from(card: &[u8], shapes: &[u32], q0: Query, k: usize, b0: usize, room: &mut [u32]) -> Batch
     requires { ⌜ Running (now card) (now shapes) k q0 b0 × (0 < length (now room)) ⌝ }
     ensures { λ r. ⌜ Batched (now (card .entry)) (now (shapes .entry)) k q0 b0 (now (room .entry)) r

@@ -1,4 +1,5 @@
--- Laws of a batch of common pages: the loop that lists them, and that one batch and one room come of it.
+-- Laws of a batch of common pages: that one batch and one room come of it, how many pages it has, a batch of one, and
+-- the loop that lists one.
 use mathlib.Core.Path.{_≡_, refl, sym, ap, ap₂, _∙_}
 use mathlib.Core.List.{List, [], _∷_, _++_, append-nil}
 use Prim.Native.Nat.{ℕ, zero, suc, _+_, _-_, _≤_, _<_}
@@ -13,21 +14,9 @@ use Rattle.querylaws.specs.declared.Turn.{Turn}
 use Rattle.querylaws.specs.declared.Batch.{Batch}
 use Rattle.querylaws.specs.Queries.{cursorIn, withCursor, movedIn, Running, Turned}
 use Rattle.querylaws.specs.Batches.{Turns, Batched}
-use Rattle.querylaws.proofs.RunLaws.{Midst, midst-start, midst-none, midst-some, midst-larger, midst-same, midst-page}
+use Rattle.querylaws.proofs.RunLaws.{Midst, midst-start, midst-none, midst-some, midst-larger, midst-same}
+use Rattle.querylaws.proofs.RunLaws.{midst-page}
 use Rattle.querylaws.proofs.TurnLaws.{turned-unique}
-
-laid-more : (ps room : List ℕ) (p : ℕ) → length ps < length room → set (laid ps room) (length ps) p
-    ≡ laid (ps ++ p ∷ []) room
-unfolding laid
-laid-more ps room p h =
-    let e : length (ps ++ p ∷ []) ≡ suc (length ps) = length-append ps (p ∷ []) ∙ omega arith in
-    rw (e, drop-cons room (length ps) 0 h)
-    (set-at ps (getD room (length ps) 0) (drop (suc (length ps)) room) p (length ps) refl
-    ∙ sym (append-snoc ps p (drop (suc (length ps)) room)))
-
-length-laid : (ps room : List ℕ) → length ps ≤ length room → length (laid ps room) ≡ length room
-unfolding laid
-length-laid ps room h = omega (arith, length-append ps (drop (length ps) room), length-drop (length ps) room)
 
 -- ---- one batch and one room
 
@@ -63,6 +52,10 @@ module _ (s sh : List ℕ) (k : ℕ) where
 
 -- ---- how many pages a batch has
 
+length-laid : (ps room : List ℕ) → length ps ≤ length room → length (laid ps room) ≡ length room
+unfolding laid
+length-laid ps room h = omega (arith, length-append ps (drop (length ps) room), length-drop (length ps) room)
+
 module _ (s sh : List ℕ) (k : ℕ) where
   pub turns-size : (n : ℕ) (q : Query) (b : ℕ) (ps : List ℕ) (t : Turn) → Turns s sh k n q b ps t
       → (length ps ≤ n) × (t .mark < spentMark → n ≤ length ps)
@@ -97,42 +90,51 @@ module _ (s sh : List ℕ) (k : ℕ) (q : Query) (b : ℕ) where
 
 -- ---- the loop
 
+laid-more : (ps room : List ℕ) (p : ℕ) → length ps < length room → set (laid ps room) (length ps) p
+    ≡ laid (ps ++ p ∷ []) room
+unfolding laid
+laid-more ps room p h =
+    let e : length (ps ++ p ∷ []) ≡ suc (length ps) = length-append ps (p ∷ []) ∙ omega arith in
+    rw (e, drop-cons room (length ps) 0 h)
+    (set-at ps (getD room (length ps) 0) (drop (suc (length ps)) room) p (length ps) refl
+    ∙ sym (append-snoc ps p (drop (suc (length ps)) room)))
+
 module _ (s sh : List ℕ) (k : ℕ) (q₀ : Query) (b₀ : ℕ) (room₀ : List ℕ) where
-  -- pages were found from q₀ on, and list i of q is to be sought for b, to find the page behind them
-  pub record Amid (q : Query) (b i found : ℕ) (room : List ℕ) : Type 0 where
-    pub from : Query
-    pub bound : ℕ
-    pub pages : List ℕ
-    pub midst : Midst s sh k from bound q b i
-    pub within : i < k
-    pub sized : length pages ≡ found
+  -- the pages ps were found from q₀ on and lie in the room, and the page behind them is to be found from q on
+  pub record Behind (ps : List ℕ) (q : Query) (b found : ℕ) (room : List ℕ) : Type 0 where
+    pub sized : length ps ≡ found
     pub space : found < length room₀
     pub long : length room ≡ length room₀
-    pub laid-out : room ≡ laid pages room₀
-    pub goes-on : (ps : List ℕ) (t : Turn) → Turns s sh k (length room₀ - found) from bound ps t
-        → Turns s sh k (length room₀) q₀ b₀ (pages ++ ps) t
+    pub laid-out : room ≡ laid ps room₀
+    pub goes-on : (qs : List ℕ) (t : Turn) → Turns s sh k (length room₀ - found) q b qs t
+        → Turns s sh k (length room₀) q₀ b₀ (ps ++ qs) t
+
+  -- so, and list i of q is to be sought for b
+  pub record Amid (q : Query) (b i found : ℕ) (room : List ℕ) : Type 0 where
+    pub pages : List ℕ
+    pub from : Query
+    pub bound : ℕ
+    pub behind : Behind pages from bound found room
+    pub midst : Midst s sh k from bound q b i
+    pub within : i < k
 
   pub amid-start : Running s sh k q₀ b₀ → 0 < length room₀ → Amid q₀ b₀ 0 0 room₀
   unfolding laid
   amid-start r h =
       let all : length room₀ - 0 ≡ length room₀ = omega arith in record {
+        pages = [];
         from = q₀;
         bound = b₀;
-        pages = [];
+        behind = record { sized = refl; space = h; long = refl; laid-out = refl; goes-on = λ qs t x. rw all at x };
         midst = midst-start s sh k q₀ b₀ r;
         within = r .apt .lists .some;
-        sized = refl;
-        space = h;
-        long = refl;
-        laid-out = refl;
-        goes-on = λ ps t x. rw all at x;
       }
 
   module _ (q : Query) (b i found : ℕ) (room : List ℕ) (a : Amid q b i found room) (c : Cursor)
       (w : c ≡ movedIn s sh i (cursorIn q i) b)
     where
       more-left : length room₀ - found ≡ suc (length room₀ - (found + 1))
-      more-left = omega (arith, a .space)
+      more-left = omega (arith, a .behind .space)
 
       -- no page is left
       pub amid-none : c .mark ≡ spentMark
@@ -140,44 +142,35 @@ module _ (s sh : List ℕ) (k : ℕ) (q₀ : Query) (b₀ : ℕ) (room₀ : List
       unfolding Turns
       amid-none e =
           let t : Turn = record { q = withCursor q i c; mark = c .mark } in
-          let u = midst-none s sh k (a .from) (a .bound) q b i (a .midst) (a .within) c w e in
-          record {
-            pages = a .pages ++ [];
-            turns = a .goes-on [] t (rw more-left (u, e));
-            found = rw append-nil (sym (a .sized));
-            laid-out = rw append-nil (a .laid-out);
+          let u = midst-none s sh k (a .from) (a .bound) q b i (a .midst) (a .within) c w e in record {
+            pages = a .pages;
+            turns = rw append-nil at (a .behind .goes-on [] t (rw more-left (u, e)));
+            found = sym (a .behind .sized);
+            laid-out = a .behind .laid-out;
           }
 
       module _ (e : c .mark ≡ spentMark → ⊥) where
         -- behind a larger page the lead is next
         pub amid-larger : 0 < i → b < c .mark - 1 → Amid (withCursor q i c) (c .mark - 1) 0 found room
         amid-larger g l = record {
+          pages = a .pages;
           from = a .from;
           bound = a .bound;
-          pages = a .pages;
+          behind = a .behind;
           midst = midst-larger s sh k (a .from) (a .bound) q b i (a .midst) (a .within) c w e g l;
           within = a .midst .apt .lists .some;
-          sized = a .sized;
-          space = a .space;
-          long = a .long;
-          laid-out = a .laid-out;
-          goes-on = a .goes-on;
         }
 
         module _ (g : 0 < i → b < c .mark - 1 → ⊥) where
           -- else the list behind this one
           pub amid-same : i + 1 < k → Amid (withCursor q i c) (c .mark - 1) (i + 1) found room
           amid-same l = record {
+            pages = a .pages;
             from = a .from;
             bound = a .bound;
-            pages = a .pages;
+            behind = a .behind;
             midst = midst-same s sh k (a .from) (a .bound) q b i (a .midst) (a .within) c w e g;
             within = l;
-            sized = a .sized;
-            space = a .space;
-            long = a .long;
-            laid-out = a .laid-out;
-            goes-on = a .goes-on;
           }
 
           -- where there is none, all share the page
@@ -185,38 +178,47 @@ module _ (s sh : List ℕ) (k : ℕ) (q₀ : Query) (b₀ : ℕ) (room₀ : List
             abbrev turn : Turn
             turn = record { q = withCursor q i c; mark = c .mark }
 
+            abbrev more : List ℕ
+            more = a .pages ++ (c .mark - 1) ∷ []
+
             turned : Turned s sh k (a .from) (a .bound) turn
             turned = midst-page s sh k (a .from) (a .bound) q b i (a .midst) (a .within) c w e g l
 
-            room-more : set room found (c .mark - 1) ≡ laid (a .pages ++ (c .mark - 1) ∷ []) room₀
-            room-more = rw (a .laid-out, ← a .sized) (laid-more (a .pages) room₀ (c .mark - 1) (omega (arith, a .sized, a .space)))
+            room-more : set room found (c .mark - 1) ≡ laid more room₀
+            room-more =
+                let h = a .behind in
+                rw (h .laid-out, ← h .sized)
+                (laid-more (a .pages) room₀ (c .mark - 1) (omega (arith, h .sized, h .space)))
 
-            sized-more : length (a .pages ++ (c .mark - 1) ∷ []) ≡ found + 1
-            sized-more = length-append (a .pages) ((c .mark - 1) ∷ []) ∙ omega (arith, a .sized)
+            sized-more : length more ≡ found + 1
+            sized-more = length-append (a .pages) ((c .mark - 1) ∷ []) ∙ omega (arith, a .behind .sized)
 
-            turns-more : (ps : List ℕ) (t : Turn) → Turns s sh k (length room₀ - (found + 1)) (withCursor q i c) (c .mark) ps t
-                → Turns s sh k (length room₀) q₀ b₀ ((a .pages ++ (c .mark - 1) ∷ []) ++ ps) t
+            turns-more : (qs : List ℕ) (t : Turn)
+                → Turns s sh k (length room₀ - (found + 1)) (turn .q) (turn .mark) qs t
+                → Turns s sh k (length room₀) q₀ b₀ (more ++ qs) t
             unfolding Turns
-            turns-more ps t x =
+            turns-more qs t x =
                 let some : c .mark ≡ c .mark - 1 + 1 =
                 omega (arith, midst-some s sh k (a .from) (a .bound) q b i (a .midst) (a .within) c w) in
-                rw (append-snoc (a .pages) (c .mark - 1) ps)
-                (a .goes-on ((c .mark - 1) ∷ ps) t (rw more-left (turn, turned, some, e, x)))
+                rw (append-snoc (a .pages) (c .mark - 1) qs)
+                (a .behind .goes-on ((c .mark - 1) ∷ qs) t (rw more-left (turn, turned, some, e, x)))
 
             -- it is listed, and the lead is next, for a page behind it
             pub amid-page : found + 1 < length room₀
                 → Amid (withCursor q i c) (c .mark) 0 (found + 1) (set room found (c .mark - 1))
             amid-page m = record {
-              from = withCursor q i c;
-              bound = c .mark;
-              pages = a .pages ++ (c .mark - 1) ∷ [];
-              midst = midst-start s sh k (withCursor q i c) (c .mark) (turned .running (c .mark) e (omega arith));
+              pages = more;
+              from = turn .q;
+              bound = turn .mark;
+              behind = record {
+                sized = sized-more;
+                space = m;
+                long = length-set room found (c .mark - 1) ∙ a .behind .long;
+                laid-out = room-more;
+                goes-on = turns-more;
+              };
+              midst = midst-start s sh k (turn .q) (turn .mark) (turned .running (turn .mark) e (omega arith));
               within = a .midst .apt .lists .some;
-              sized = sized-more;
-              space = m;
-              long = length-set room found (c .mark - 1) ∙ a .long;
-              laid-out = room-more;
-              goes-on = turns-more;
             }
 
             -- or the room is full
@@ -227,7 +229,7 @@ module _ (s sh : List ℕ) (k : ℕ) (q₀ : Query) (b₀ : ℕ) (room₀ : List
             amid-full m =
                 let none-left : length room₀ - (found + 1) ≡ 0 = omega arith in
                 let whole = turns-more [] turn (rw none-left (refl, refl, refl)) in record {
-                  pages = a .pages ++ (c .mark - 1) ∷ [];
+                  pages = more;
                   turns = rw append-nil at whole;
                   found = sym sized-more;
                   laid-out = room-more;

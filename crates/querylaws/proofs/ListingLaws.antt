@@ -22,7 +22,8 @@ use Rattle.querylaws.specs.declared.Turn.{Turn}
 use Rattle.querylaws.specs.declared.Batch.{Batch}
 use Rattle.querylaws.specs.declared.Listed.{Listed}
 use Rattle.querylaws.specs.Lists.{pagesAt, boundIn, Lists}
-use Rattle.querylaws.specs.Queries.{newQuery, readerAt, leadIn, othersIn, seeksOf, looksOf, nextFor, Running, Turned}
+use Rattle.querylaws.specs.Queries.{newQuery, readerAt, leadIn, othersIn, seeksOf, looksOf, nextFor, Running}
+use Rattle.querylaws.specs.Queries.{Turned}
 use Rattle.querylaws.specs.Batches.{Turns, Batched}
 use Rattle.querylaws.specs.Listings.{wholeIn, laidWithin, Tells}
 use Rattle.querylaws.proofs.ListLaws.{list-length}

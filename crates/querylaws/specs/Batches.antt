@@ -1,8 +1,10 @@
 -- Common pages that are found one after another, as many as a room has places.
 --
---   Turns s sh k n q b ps t  ps are the next pages from b on that the k lists share, n of them, or fewer where none is
---                            left; t is the query behind them, with the mark of the last, or spentMark where none is left
---   Batched s sh k q b room r room′  r is that for a room with n places: it counts the pages, and they lie at the front
+--   Turns s sh k n q b ps t           ps are the next pages from b on that the k lists share, n of them, or fewer where
+--                                     none is left; t is the query behind them, with the mark of the last (b where n is
+--                                     0), or spentMark where none is left
+--   Batched s sh k q b room r room′   r is that query and mark for as many pages as the room has places, with how many
+--                                     were found; room′ is the room with them at its front
 use mathlib.Core.Path.{_≡_}
 use mathlib.Core.List.{List, [], _∷_}
 use Prim.Native.Nat.{ℕ, zero, suc, _+_}

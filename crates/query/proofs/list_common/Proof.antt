@@ -18,8 +18,9 @@ use Rattle.query.proofs.list_common.Tie as tie
 
 -- whatever the first batch listed is listed still
 abbrev Inv-loop : tie.InvT-loop
-Inv-loop card shapes k room s₀ found₀ rest₀ s found rest = (length rest ≡ 16) × ((room₀ : List ℕ)
-    → Listing card shapes k room₀ (s₀ .q) (s₀ .mark) found₀ room → Listing card shapes k room₀ (s .q) (s .mark) found room)
+Inv-loop card shapes k room s₀ found₀ rest₀ s found rest = (length rest ≡ 16)
+    × ((room₀ : List ℕ) → Listing card shapes k room₀ (s₀ .q) (s₀ .mark) found₀ room
+    → Listing card shapes k room₀ (s .q) (s .mark) found room)
 
 abbrev μ-loop : tie.MeasureT-loop
 μ-loop card shapes k room s₀ found₀ rest₀ s found rest = spentMark - s .mark
@@ -73,23 +74,26 @@ loop-less c =
     let l = c .before .before .before .before .before .before .before .loop in
     let n = c .before .before .list-from2 in
     let g = l .inv .1 _ (first (c .before .before .before .before .before .before .before .before)) in
-    listing-less _ _ _ _ (l .s .q) (l .s .mark) (l .found) _ g (c .before .before .before .before .before .if2 .taken) (l .rest) (n .result) _ (n .ensures)
+    let on = c .before .before .before .before .before .if2 .taken in
+    listing-less _ _ _ _ (l .s .q) (l .s .mark) (l .found) _ g on (l .rest) (n .result) _ (n .ensures)
     (omega (arith, l .inv .0))
 
 loop-again : tie.Need-loop-again Inv-loop μ-loop
 loop-again c =
     let l = c .before .before .before .before .before .before .before .loop in
-    let n = c .before .before .list-from2 in (
+    let n = c .before .before .list-from2 in
+    let on = c .before .before .before .before .before .if2 .taken in (
       batched-long _ _ _ (l .s .q) (l .s .mark) (l .rest) (n .result) _ (n .ensures) ∙ l .inv .0,
       λ room₀ g.
-          listing-more _ _ _ room₀ (l .s .q) (l .s .mark) (l .found) _ (l .inv .1 room₀ g) (c .before .before .before .before .before .if2 .taken) (l .rest)
-          (n .result) _ (n .ensures),
+          listing-more _ _ _ room₀ (l .s .q) (l .s .mark) (l .found) _ (l .inv .1 room₀ g) on (l .rest) (n .result) _
+          (n .ensures),
     )
 
 totals-requires : tie.Need-totals-requires Inv-loop μ-loop
 totals-requires c κs =
     let l = c .before .before .loop in
-    listing-narrow _ _ _ _ (l .s .q) (l .s .mark) (l .found) _ (l .inv .1 _ (first (c .before .before .before))) (c .if2 .left)
+    let g = l .inv .1 _ (first (c .before .before .before)) in
+    listing-narrow _ _ _ _ (l .s .q) (l .s .mark) (l .found) _ g (c .if2 .left)
 
 same-length : tie.Need-same-length Inv-loop μ-loop
 same-length c = first (c .before .before .before .before) .long
@@ -97,8 +101,8 @@ same-length c = first (c .before .before .before .before) .long
 returns : tie.Need-returns Inv-loop μ-loop
 returns c =
     let l = c .before .before .before .loop in
-    listing-end _ _ _ _ (l .s .q) (l .s .mark) (l .found) _ (l .inv .1 _ (first (c .before .before .before .before))) (c .before .if2 .left) _
-    (c .totals .ensures)
+    let g = l .inv .1 _ (first (c .before .before .before .before)) in
+    listing-end _ _ _ _ (l .s .q) (l .s .mark) (l .found) _ g (c .before .if2 .left) _ (c .totals .ensures)
 
 pub list-common-spec : {M : Type 1} → statement M
 list-common-spec =

@@ -1,5 +1,5 @@
--- `list_from` seeks list by list: what is left to be sought comes to the rule's next page, and what is left to be listed
--- to the pages from the start on. The measure: the seeks that may follow.
+-- `list_from` seeks list by list: what is left to be sought comes to the rule's next page, and what is left to be
+-- listed, behind what was, to the batch. The measure: the seeks that may follow.
 use mathlib.Core.Bool.{false≢true}
 use mathlib.Core.Logic.{inl, inr}
 use mathlib.Core.Path.{sym, _∙_}
@@ -54,7 +54,7 @@ element-set-from-c c =
     omega (arith, g .within, g .midst .apt .lists .few)
 
 same-length : tie.Need-same-length Inv-loop μ-loop
-same-length c = c .before .before .before .before .before .loop .inv .long
+same-length c = c .before .before .before .before .before .loop .inv .behind .long
 
 returns : tie.Need-returns Inv-loop μ-loop
 unfolding unused
@@ -125,12 +125,12 @@ sub-room c =
 slice-write-room : tie.Need-slice-write-room Inv-loop μ-loop
 slice-write-room c =
     let g = c .before .before .before .before .before .before .before .loop .inv in
-    omega (arith, g .space, g .long)
+    omega (arith, g .behind .space, g .behind .long)
 
 same-length-2 : tie.Need-same-length-2 Inv-loop μ-loop
 same-length-2 c =
     let l = c .before .before .before .before .before .before .before .before .loop in
-    length-set (l .room) (l .found) _ ∙ l .inv .long
+    length-set (l .room) (l .found) _ ∙ l .inv .behind .long
 
 returns-2 : tie.Need-returns-2 Inv-loop μ-loop
 unfolding unused
@@ -141,7 +141,7 @@ returns-2 c =
     rw (s .ensures .0)
     (amid-full _ _ _ _ _ _ (l .q) (l .b) (l .i) (l .found) (l .room) (l .inv) (s .result .hand) (s .ensures .1)
     (c .before .before .before .if1 .left) (no-larger (c .before .before)) (c .before .if4 .taken)
-    (omega (arith, c .if5 .taken, length-set (l .room) (l .found) (s .result .hand .mark - 1), l .inv .long)))
+    (omega (arith, c .if5 .taken, length-set (l .room) (l .found) (s .result .hand .mark - 1), l .inv .behind .long)))
 
 loop-less-2 : tie.Need-loop-less-2 Inv-loop μ-loop
 unfolding unused
@@ -163,7 +163,7 @@ loop-again-2 c =
     rw (s .ensures .0)
     (amid-page _ _ _ _ _ _ (l .q) (l .b) (l .i) (l .found) (l .room) (l .inv) (s .result .hand) (s .ensures .1)
     (c .before .before .before .if1 .left) (no-larger (c .before .before)) (c .before .if4 .taken)
-    (omega (arith, c .if5 .left, length-set (l .room) (l .found) (s .result .hand .mark - 1), l .inv .long)))
+    (omega (arith, c .if5 .left, length-set (l .room) (l .found) (s .result .hand .mark - 1), l .inv .behind .long)))
 
 loop-less-3 : tie.Need-loop-less-3 Inv-loop μ-loop
 unfolding unused
