@@ -1,18 +1,17 @@
--- One list opened by itself: its numbers in the first slot.
-use mathlib.Core.Path.{_≡_, refl, ap, _∙_}
-use mathlib.Core.List.{List, [], _∷_}
+-- One list opened by itself: its numbers are the one row of a query over its own bytes.
+use mathlib.Core.Path.{_≡_, refl, sym, ap}
+use mathlib.Core.List.{List}
 use Prim.Native.Nat.{ℕ, zero, suc, _-_, _<_}
 use native.Mathlib.Omega.{arith}
 use lib.ListN.{length}
-use lib.Seq.{paste, take-length}
+use lib.Seq.{take-length}
 use Rattle.rules.specs.declared.Refusal.the-variants.{Accepted}
 use Rattle.rules.specs.ReadList.{listU, listN, decode, listRefusal}
-use Rattle.rules.specs.Common.{leadFrom, leadOf}
+use Rattle.listlaws.proofs.RefusalLaws.{accepted-framed}
 use Rattle.shape.specs.Shape.{shapeOf}
-use Rattle.querylaws.specs.Lists.{span, pagesAt}
-use Rattle.openlists.specs.Places.{bytesOf, placePart, placedIn, numbersOf, shapeAt, sourceOf}
-use Rattle.openlists.specs.Places.{PlaceOk, Places, Alike, Slots}
-use Rattle.openlists.proofs.SlotLaws.{slots-none, slots-more, slot-part, slots-opened}
+use Rattle.shape.proofs.ShapeLaws.{shape-u, shape-end}
+use Rattle.querylaws.specs.Lists.{partAt, shapeIn, pagesAt, boundIn, ListAt}
+use Rattle.openlists.specs.Places.{bytesOf, numbersOf}
 use Rattle.kinds.specs.Alone.{OpenedAlone}
 
 -- all of the bytes
@@ -22,49 +21,33 @@ all-bytes b =
     rw e (take-length b)
 
 module _ (b : List ℕ) (a : listRefusal b ≡ Accepted) where
-  -- its place, from its first byte to its last
-  abbrev places : List ℕ
-  places = 0 ∷ (length b ∷ [])
-
-  there : Places b places 1
-  unfolding placePart
-  there = record {
-    some = omega arith;
-    few = omega arith;
-    each = each;
-  }
-    where
-      each : (i : ℕ) → i < 1 → PlaceOk b places i
-      each zero h = record {
-        room = omega arith;
-        starts = omega arith;
-        ends = omega arith;
-        accepted = rw (all-bytes b) a;
-      }
-      each (suc i) h = absurd (omega arith)
-
-  alike : Alike b places 1
-  alike zero h = refl
-  alike (suc i) h = absurd (omega arith)
-
   abbrev numbers : List ℕ
-  numbers = numbersOf 0 (length b) (shapeOf (listU (bytesOf b 0 (length b))) (listN (bytesOf b 0 (length b))))
+  numbers = numbersOf 0 (length b) (shapeOf (listU b) (listN b))
 
-  -- a list alone leads
-  leads : 0 ≡ leadOf (placedIn b places 1)
-  unfolding placedIn span leadOf leadFrom
-  leads = refl
+  part-all : partAt b numbers 0 ≡ b
+  unfolding partAt
+  part-all = all-bytes b
 
-  module _ (sh : List ℕ) (e : length sh ≡ 64) where
-    first-slot : Slots b places 0 1 (paste sh 0 numbers 8)
-    unfolding sourceOf shapeAt placePart
-    first-slot = slots-more b places 0 sh 0 (omega arith) (slots-none b places 0 sh e)
+  -- the block ends where its shape says
+  shape-own : shapeIn numbers 0 ≡ shapeOf (listU b) (listN b)
+  unfolding shapeIn
+  shape-own =
+      let e : length b - 0 ≡ length b = omega arith in
+      rw (e, accepted-framed b a .0 .length-is, ← shape-end (listU b) (listN b))
 
-    pub alone-opened : OpenedAlone b (paste sh 0 numbers 8)
-    unfolding pagesAt placePart sourceOf
-    alone-opened = record {
-      lists = slots-opened b places 0 1 there (omega arith) (paste sh 0 numbers 8) first-slot alike leads .lists;
-      pages =
-          ap decode (slot-part b places 0 1 there (omega arith) (paste sh 0 numbers 8) first-slot 0 (omega arith)
-          ∙ all-bytes b);
-    }
+  alone-list : (i : ℕ) → i < 1 → ListAt b numbers i
+  alone-list zero h = record {
+    room = omega arith;
+    few = omega arith;
+    starts = omega arith;
+    ends = omega arith;
+    opened = rw (part-all, shape-own) (record { accepted = a; shape = refl });
+    bound = rw part-all (unfold boundIn in sym (shape-u (listU b) (listN b)));
+  }
+  alone-list (suc i) h = absurd (omega arith)
+
+  pub alone-opened : OpenedAlone b numbers
+  alone-opened = record {
+    lists = record { some = omega arith; few = omega arith; each = alone-list };
+    pages = unfold pagesAt in ap decode part-all;
+  }

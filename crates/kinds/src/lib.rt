@@ -2,7 +2,6 @@
 
 ghost use mathlib.Core.Path.{_≡_};
 ghost use Prim.Native.Nat.{_<_};
-ghost use lib.ListN.{length};
 ghost use Rattle.rules.specs.declared.Refusal.the-variants.{Accepted};
 ghost use Rattle.rules.specs.ReadList.{decode, listRefusal};
 ghost use Rattle.rules.specs.ReadTerm.{pagesOf};
@@ -42,13 +41,12 @@ pub fn by_rank(card: &[u8], t: usize, rank: usize, room: &mut [u32]) -> usize
     put_ranked(pages_in(card, t), rank, room)
 }
 
-// Opens a list of pages as the one list of a query over its own bytes.
-fn open_alone(pages: &[u8], shapes: &mut [u32])
-    requires { ⌜ (listRefusal (now pages) ≡ Accepted) × (length (now shapes) ≡ 64) ⌝ }
-    ensures { λ _. ⌜ OpenedAlone (now (pages .entry)) (now (shapes .exit)) ⌝ }
+// The numbers of a list of pages, as the one list of a query over its own bytes.
+fn open_alone(pages: &[u8]) -> [u32; 8]
+    requires { ⌜ listRefusal (now pages) ≡ Accepted ⌝ }
+    ensures { λ r. ⌜ OpenedAlone (now (pages .entry)) r ⌝ }
 {
-    let numbers = openlists::numbers_at(pages, 0, pages.len());
-    openlists::put_list(shapes, 0, numbers);
+    openlists::numbers_at(pages, 0, pages.len())
 }
 
 // Kind 2: the first page at or above the bound, and its rank.
@@ -57,8 +55,7 @@ pub fn by_bound(card: &[u8], t: u32, bound: usize, room: &mut [u32]) -> usize
     ensures { λ r. ⌜ Wrote (byBound (pagesIn (now (card .entry)) t) bound) (now (room .entry)) r (now (room .exit)) ⌝ }
 {
     let pages = pages_in(card, t as usize);
-    let mut shapes = [0u32; 64];
-    open_alone(pages, &mut shapes);
+    let shapes = open_alone(pages);
     let turn = query::next_common(pages, &shapes, Query::new(), 1, bound);
     if turn.mark == SPENT {
         return replies::put(&[0], room);

@@ -143,7 +143,7 @@ module _ (s ps : List ℕ) (lead : ℕ) where
     slot-list : Alike s ps k → (i : ℕ) → i < k → ListAt s r i
     slot-list a i l =
         let o = slot-open i l in record {
-          room = f .room;
+          room = omega (arith, f .room, p .few);
           few = omega (arith, p .few);
           starts = o .0;
           ends = o .1;
@@ -157,6 +157,7 @@ module _ (s ps : List ℕ) (lead : ℕ) where
         let same =
         span-same (pagesAt s r) (λ t. placePages s ps (sourceOf lead t)) k 0
         (λ j m l. unfold pagesAt placePages in ap decode (slot-part j (omega arith))) in record {
+          room = f .room;
           lists = record { some = p .some; few = p .few; each = slot-list a };
           pages = unfold pagesIn in same ∙ source-order (placePages s ps) k lead h e;
           bound = opened-bound a;

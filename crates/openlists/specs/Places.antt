@@ -14,7 +14,7 @@
 --   Places s ps k       so for each of the first k places; k from 1 to 8
 --   Alike s ps k        the lists there are of one U
 --   Slots s ps lead t r the first t slots of the numbers r are those of their places
---   Opened s ps k r     the numbers r place the k lists, the lead first and the others in their order
+--   Opened s ps k r     the 64 numbers r place the k lists, the lead first and the others in their order
 use mathlib.Core.Bool.{cond}
 use mathlib.Core.Path.{_≡_}
 use mathlib.Core.List.{List, [], _∷_}
@@ -86,6 +86,7 @@ pub record Slots (s ps : List ℕ) (lead t : ℕ) (r : List ℕ) : Type 0 where
   pub slot : (i j : ℕ) → i < t → j < 8 → numberOf r i j ≡ getD (numbersAt s ps (sourceOf lead i)) j 0
 
 pub record Opened (s ps : List ℕ) (k : ℕ) (r : List ℕ) : Type 0 where
+  pub room : length r ≡ 64
   pub lists : Lists s r k
   pub pages : pagesIn s r k ≡ leadPages (placedIn s ps k) ∷ otherPages (placedIn s ps k)
   pub bound : boundIn r ≡ listU (placePart s ps 0)

@@ -49,7 +49,7 @@ unfoldable pub boundIn : List ℕ → ℕ
 boundIn sh = numberOf sh 0 2
 
 pub record ListAt (s sh : List ℕ) (i : ℕ) : Type 0 where
-  pub room : length sh ≡ 64
+  pub room : 8 * i + 8 ≤ length sh
   pub few : i < 8
   pub starts : numberOf sh i 0 ≤ numberOf sh i 1
   pub ends : numberOf sh i 1 ≤ length s

@@ -1,7 +1,7 @@
 // A question's lists by their numbers, eight in a row for each, and what their cursors tell: ranks, seeks and looks.
 
 ghost use mathlib.Core.Path.{_≡_};
-ghost use Prim.Native.Nat.{_^_, _≤_, _<_};
+ghost use Prim.Native.Nat.{_+_, _*_, _^_, _≤_, _<_};
 ghost use lib.ListN.{length};
 ghost use Rattle.querylaws.specs.Lists.{numberOf, shapeIn};
 ghost use Rattle.querylaws.specs.Queries.{seeksOf, looksOf};
@@ -20,7 +20,7 @@ use shape::Shape;
 
 // The number of list i at place j of its row.
 pub fn number(shapes: &[u32], i: usize, j: usize) -> usize
-    requires { ⌜ (length (now shapes) ≡ 64) × (i < 8) × (j < 8) ⌝ }
+    requires { ⌜ (8 * i + 8 ≤ length (now shapes)) × (i < 8) × (j < 8) ⌝ }
     ensures { λ r. ⌜ r ≡ numberOf (now (shapes .entry)) i j ⌝ }
 {
     shapes[8 * i + j] as usize
@@ -28,7 +28,7 @@ pub fn number(shapes: &[u32], i: usize, j: usize) -> usize
 
 // The shape of list i, by its numbers.
 pub fn shape_in(shapes: &[u32], i: usize) -> Shape
-    requires { ⌜ (length (now shapes) ≡ 64) × (i < 8) × (numberOf (now shapes) i 0 ≤ numberOf (now shapes) i 1) ⌝ }
+    requires { ⌜ (8 * i + 8 ≤ length (now shapes)) × (i < 8) × (numberOf (now shapes) i 0 ≤ numberOf (now shapes) i 1) ⌝ }
     ensures { λ r. ⌜ r ≡ shapeIn (now (shapes .entry)) i ⌝ }
 {
     Shape {
@@ -44,7 +44,7 @@ pub fn shape_in(shapes: &[u32], i: usize) -> Shape
 
 // The rank of the page that cursor i of a query is on, in its list.
 pub fn rank_in(shapes: &[u32], q: Query, i: usize) -> usize
-    requires { ⌜ (length (now shapes) ≡ 64) × (i < 8) × (length (q .cursors) ≡ 8) × OnElement (now shapes) q i ⌝ }
+    requires { ⌜ (8 * i + 8 ≤ length (now shapes)) × (i < 8) × (length (q .cursors) ≡ 8) × OnElement (now shapes) q i ⌝ }
     ensures { λ r. ⌜ r ≡ rankBy (now (shapes .entry)) q i ⌝ }
 {
     let c = q.cursors[i];

@@ -60,7 +60,7 @@ pub row-asked : (s ts : List ℕ) → indexRefusal s ≡ Accepted → wordsGood 
     → AskedIn s ts (set (putMid 128 64 (putMid 64 64 (putMid 0 64 l pg) ct) ps) 192 lead)
 row-asked s ts a g l pg ct ps lead n e x y z =
     let some = x .lists .some in
-    let full₁ : length pg ≡ 64 = x .lists .each 0 some .room in
+    let full₁ : length pg ≡ 64 = x .room in
     let full₂ : length ct ≡ 64 = y .slot 0 some .block .room in
     let full₃ : length ps ≡ 64 = z .slot 0 some .block .room in
     let l₁ : List ℕ = putMid 0 64 l pg in

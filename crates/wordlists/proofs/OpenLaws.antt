@@ -75,6 +75,7 @@ module _ (s ts ps : List ℕ) (a : indexRefusal s ≡ Accepted) (g : wordsGood (
 
   pub pages-opened : (r : List ℕ) → Opened s ps (length ts) r → OpenedPages s ts r
   pages-opened r o = record {
+    room = o .room;
     lists = o .lists;
     pages = rw placed-lists at (o .pages);
     bound = o .bound ∙ part-bound 0 (words-parts (indexT s) ts g .0);

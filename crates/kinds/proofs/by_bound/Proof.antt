@@ -1,5 +1,5 @@
 -- `by_bound` finds the next page of the word's list alone.
-use mathlib.Core.Path.{_≡_, refl}
+use mathlib.Core.Path.{_≡_}
 use Prim.Native.Nat.{_-_}
 use native.Mathlib.Omega.{arith}
 use borrow.Author.Needs.{needs}
@@ -16,56 +16,53 @@ use Rattle.kinds.proofs.by_bound.Tie as tie
 
 open-alone-requires : tie.Need-open-alone-requires
 open-alone-requires c κs =
-    let p = c .before in
-    let b = p .before .before .before in (
-      rw (p .pages-in .ensures) (pages-accepted (b .args .card .now) (b .args .t) (b .pre .0) (b .pre .1)),
-      refl,
-    )
+    let b = c .before .before .before in
+    rw (c .pages-in .ensures) (pages-accepted (b .args .card .now) (b .args .t) (b .pre .0) (b .pre .1))
 
 next-common-requires : tie.Need-next-common-requires
 next-common-requires c κs =
-    let o = c .before .before .before in
-    rw (c .new .ensures) (new-running (o .before .before .pages-in .result .now) (o .open-alone .last .1 .0) 1
+    let o = c .before .before in
+    rw (c .new .ensures) (new-running (o .before .pages-in .result .now) (o .open-alone .result) 1
     (o .open-alone .ensures .lists) _)
 
 -- the next page of the one list
 next : (c : tie.After-next-common) →
-    let o = c .before .before .before .before in
-    Turned (o .before .before .pages-in .result .now) (o .open-alone .last .1 .0) 1 newQuery
-    (o .before .before .before .before .before .args .bound) (c .next-common .result)
+    let o = c .before .before .before in
+    Turned (o .before .pages-in .result .now) (o .open-alone .result) 1 newQuery
+    (o .before .before .before .before .args .bound) (c .next-common .result)
 next c = rw (c .before .new .ensures) at (c .next-common .ensures)
 
 -- it is the word's
 word-pages : (c : tie.After-next-common) →
-    let p = c .before .before .before .before .before .before in
+    let p = c .before .before .before .before in
     let a = p .before .before .before .args in
     pagesIn (a .card .now) (a .t) ≡ decode (p .pages-in .result .now)
 word-pages c =
-    let p = c .before .before .before .before .before .before in
+    let p = c .before .before .before .before in
     let a = p .before .before .before .args in
     rw (p .pages-in .ensures) (pages-are (a .card .now) (a .t))
 
 -- where there is one, the cursor tells its rank
 on-page : (c : tie.After-next-common) → (c .next-common .result .mark ≡ spentMark → ⊥) →
-    let o = c .before .before .before .before in
-    Ranked (o .before .before .pages-in .result .now) (o .open-alone .last .1 .0) (c .next-common .result .q) 0
+    let o = c .before .before .before in
+    Ranked (o .before .pages-in .result .now) (o .open-alone .result) (c .next-common .result .q) 0
     (c .next-common .result .mark - 1)
 on-page c m =
-    let o = c .before .before .before .before in
-    let s = o .before .before .pages-in .result .now in
-    let a = o .before .before .before .before .before .args in
-    let r = o .open-alone .last .1 .0 in
+    let o = c .before .before .before in
+    let s = o .before .pages-in .result .now in
+    let a = o .before .before .before .before .args in
+    let r = o .open-alone .result in
     turned-ranked s r 1 newQuery (a .bound) (new-running s r 1 (o .open-alone .ensures .lists) (a .bound) .apt)
     (c .next-common .result) (next c) m 0 (omega arith)
 
 returns : tie.Need-returns
 returns c =
     let n = c .before .before .before .before .before .before .before in
-    let o = n .before .before .before .before in
-    let a = o .before .before .before .before .before .args in
+    let o = n .before .before .before in
+    let a = o .before .before .before .before .args in
     rw (
       word-pages n,
-      bound-none (o .before .before .pages-in .result .now) (o .open-alone .last .1 .0)
+      bound-none (o .before .pages-in .result .now) (o .open-alone .result)
           (o .open-alone .ensures) (a .bound) (n .next-common .result) (next n)
           (c .before .before .before .before .before .if1 .taken),
     )
@@ -74,23 +71,23 @@ returns c =
 rank-in-requires : tie.Need-rank-in-requires
 rank-in-requires c κs =
     let n = c .before .before .before in
-    let o = n .before .before .before .before in (
+    let o = n .before .before .before in (
       o .open-alone .ensures .lists .each 0 (omega arith) .room,
       omega arith,
       next n .eight,
       on-page n (c .before .if1 .left) .on-element,
     )
 
-sub-t25 : tie.Need-sub-t25
-sub-t25 c =
+sub-t23 : tie.Need-sub-t23
+sub-t23 c =
     let n = c .before .before .before .before .before in
-    let o = n .before .before .before .before in
-    let a = o .before .before .before .before .before .args in
-    bound-marked (o .before .before .pages-in .result .now) (o .open-alone .last .1 .0) (o .open-alone .ensures)
+    let o = n .before .before .before in
+    let a = o .before .before .before .before .args in
+    bound-marked (o .before .pages-in .result .now) (o .open-alone .result) (o .open-alone .ensures)
     (a .bound) (n .next-common .result) (next n) (c .before .before .before .if1 .left)
 
-cast-t26 : tie.Need-cast-t26
-cast-t26 c =
+cast-t24 : tie.Need-cast-t24
+cast-t24 c =
     omega (
       arith,
       c .before .rank-in .ensures,
@@ -100,11 +97,11 @@ cast-t26 c =
 returns-2 : tie.Need-returns-2
 returns-2 c =
     let n = c .before .before .before .before .before .before .before .before .before .before in
-    let o = n .before .before .before .before in
-    let a = o .before .before .before .before .before .args in
+    let o = n .before .before .before in
+    let a = o .before .before .before .before .args in
     rw (
       word-pages n,
-      bound-some (o .before .before .pages-in .result .now) (o .open-alone .last .1 .0) (o .open-alone .ensures)
+      bound-some (o .before .pages-in .result .now) (o .open-alone .result) (o .open-alone .ensures)
           (a .bound) (n .next-common .result) (next n)
           (c .before .before .before .before .before .before .before .before .if1 .left),
       ← (c .before .before .before .before .before .before .rank-in .ensures),
@@ -115,7 +112,6 @@ by-bound-spec =
     tie.close
     (tie.spec
     (λ c κs. search needs)
-    (λ c. search needs)
     open-alone-requires
     (λ c. search needs)
     (λ c κs. search needs)
@@ -126,8 +122,8 @@ by-bound-spec =
     returns
     (λ c. search needs)
     rank-in-requires
-    sub-t25
-    cast-t26
+    sub-t23
+    cast-t24
     (λ c. search needs)
     (λ c κs. search needs)
     (λ c. search needs)

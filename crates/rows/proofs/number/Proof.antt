@@ -1,4 +1,4 @@
--- `number` reads one number of the 64.
+-- `number` reads one number of a list's row.
 use Prim.Native.Nat.{_+_, _*_}
 use native.Mathlib.Omega.{arith}
 use borrow.Author.Needs.{needs}

@@ -26,7 +26,7 @@ rank-in-requires c κs =
     let h = a .pages .lists .some in
     let r = asked-rank _ _ _ _ _ _ a 0 h _ _ (b .pre .1) in
     let l = asked-list _ _ _ _ _ _ a 0 h in
-    (l .room, omega arith, b .pre .1 .eight, rw (leads (c .before)) at (r .on-element))
+    (omega (arith, l .room), omega arith, b .pre .1 .eight, rw (leads (c .before)) at (r .on-element))
 
 -- the rank that was read
 ranked : (c : tie.After-rank-in)

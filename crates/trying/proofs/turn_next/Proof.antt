@@ -52,7 +52,7 @@ rank-in-requires c κs =
     let n = next (c .before) in
     let r = asked-rank _ _ _ _ _ _ (b .pre .0 .asked) _ (n .0) _ _ (b .pre .1) in
     let l = asked-list _ _ _ _ _ _ (b .pre .0 .asked) _ (n .0) in
-    (l .room, omega (arith, l .few, n .1), b .pre .1 .eight, rw (n .1) at (r .on-element))
+    (omega (arith, l .room, n .1), omega (arith, l .few, n .1), b .pre .1 .eight, rw (n .1) at (r .on-element))
 
 -- the rank that was read
 ranked : (c : tie.After-rank-in)
