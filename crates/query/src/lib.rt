@@ -105,7 +105,7 @@ pub fn list_common(card: &[u8], shapes: &[u32], k: usize, room: &mut [u32]) -> L
         s = list_from(card, shapes, q, k, 0, room);
     }
     let mut found = s.found;
-    let mut rest = [0u32; 16];
+    let mut rest = [0u32; 64];
     while s.mark != SPENT {
         s = list_from(card, shapes, s.q, k, s.mark as usize, &mut rest);
         found += s.found;

@@ -18,7 +18,7 @@ use Rattle.query.proofs.list_common.Tie as tie
 
 -- whatever the first batch listed is listed still
 abbrev Inv-loop : tie.InvT-loop
-Inv-loop card shapes k room s₀ found₀ rest₀ s found rest = (length rest ≡ 16)
+Inv-loop card shapes k room s₀ found₀ rest₀ s found rest = (length rest ≡ 64)
     × ((room₀ : List ℕ) → Listing card shapes k room₀ (s₀ .q) (s₀ .mark) found₀ room
     → Listing card shapes k room₀ (s .q) (s .mark) found room)
 
