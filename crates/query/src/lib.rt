@@ -88,7 +88,8 @@ pub fn next_common(card: &[u8], shapes: &[u32], query: Query, k: usize, bound: u
     Turn { q, mark: s.mark }
 }
 
-// Counts the pages that the first k lists share, and lists them at the room's front, as far as it goes.
+// Counts the pages that the first k lists share, and lists them at the room's front, as far as it goes; those behind its
+// end go to a room that is dropped.
 pub fn list_common(card: &[u8], shapes: &[u32], k: usize, room: &mut [u32]) -> Listed
     requires { ⌜ Lists (now card) (now shapes) k ⌝ }
     ensures { λ r. ⌜ Tells (wholeIn (now (card .entry)) (now (shapes .entry)) k) r
