@@ -17,8 +17,7 @@ MADE = {
     "walklaws::Cursor": [FRESH, SEEK],
     "querylaws::Query": ["querylaws::Query::new"],
     "query::InHand": [LOOP],
-    "querylaws::Batch": [LOOP, LOOP, "query::list_common"],
-    "querylaws::Turn": ["query::next_common"],
+    "querylaws::Turn": [LOOP, LOOP, "query::list_common"],
     "querylaws::Listed": ["rows::totals"],
 }
 # every place from which a function is called that looks, that makes, moves or sums up cursors, or that answers by them
@@ -28,8 +27,7 @@ CALLS = {
     FRESH: ["querylaws::Query::new"],
     "querylaws::Query::new": ["query::list_common", "kinds::by_bound", "pairs::list_starts"],
     SEEK_IN: [LOOP],
-    LOOP: ["query::list_common", "query::list_common", "query::next_common"],
-    "query::next_common": ["kinds::by_bound", "pairs::list_starts"],  # kinds 2 and 4
+    LOOP: ["query::list_common", "query::list_common", "kinds::by_bound", "pairs::list_starts"],  # kinds 3, 2 and 4
     "rows::totals": ["query::list_common"],
     # pages are counted first where the room may be too small for them
     "query::list_common": ["bycommon::by_common", "bycommon::put_common"],

@@ -20,7 +20,7 @@ RUN_WORD = "runs::run_word"
 
 # one seek by the cursor in hand, and the one loop that makes seeks
 SEEK_IN = "query::seek_in"
-LOOP = "query::list_from"
+LOOP = "query::batch"
 
 # the way from the card's check to the kinds of questions, and those
 ANSWERS = ["ask::answer_all", "answer::answer_one"]

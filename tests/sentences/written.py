@@ -23,24 +23,18 @@ pub fn totals(q: Query, found: usize) -> Listed {
     Listed { found, seeks, looks }
 }
 """
-# the batches of pages that they are summed up of, and the one of a page alone
+# the batches of pages that they are summed up of
 PAGES = """
-pub fn next_common(card: &[u8], shapes: &[u32], query: Query, k: usize, bound: usize) -> Turn {
-    let mut page = [0u32; 1];
-    let s = list_from(card, shapes, query, k, bound, &mut page);
-    let q = s.q;
-    Turn { q, mark: s.mark }
-}
 pub fn list_common(card: &[u8], shapes: &[u32], k: usize, room: &mut [u32]) -> Listed {
     let q = Query::new();
-    let mut s = Batch { q, mark: 0, found: 0 };
+    let mut s = Turn { q, mark: 0, found: 0 };
     if 0 < room.len() {
-        s = list_from(card, shapes, q, k, 0, room);
+        s = batch(card, shapes, q, k, 0, room);
     }
     let mut found = s.found;
     let mut rest = [0u32; 64];
     while s.mark != SPENT {
-        s = list_from(card, shapes, s.q, k, s.mark as usize, &mut rest);
+        s = batch(card, shapes, s.q, k, s.mark as usize, &mut rest);
         found += s.found;
     }
     rows::totals(s.q, found)

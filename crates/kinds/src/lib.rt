@@ -56,7 +56,8 @@ pub fn by_bound(card: &[u8], t: u32, bound: usize, room: &mut [u32]) -> usize
 {
     let pages = pages_in(card, t as usize);
     let shapes = open_alone(pages);
-    let turn = query::next_common(pages, &shapes, Query::new(), 1, bound);
+    let mut page = [0u32; 1];
+    let turn = query::batch(pages, &shapes, Query::new(), 1, bound, &mut page);
     if turn.mark == SPENT {
         return replies::put(&[0], room);
     }

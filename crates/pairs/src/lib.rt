@@ -22,10 +22,11 @@ pub fn list_starts(card: &[u8], terms: &[u32], lists: &[u32], room: &mut [u32]) 
     room[0] = 0;
     let mut q = Query::new();
     let mut words = [0usize; 64];
+    let mut page = [0u32; 1];
     let mut b = 0;
     let mut found = 0;
     loop {
-        let turn = query::next_common(card, &lists[0..COUNTS], q, terms.len(), b);
+        let turn = query::batch(card, &lists[0..COUNTS], q, terms.len(), b, &mut page);
         if turn.mark == SPENT {
             return found;
         }

@@ -5,10 +5,9 @@ ghost use mathlib.Core.Path.{_≡_};
 ghost use Prim.Native.Nat.{_<_};
 ghost use lib.ListN.{length};
 ghost use Rattle.querylaws.specs.Lists.{Lists};
-ghost use Rattle.querylaws.specs.Queries.{movedIn, Seekable, Running, Turned};
+ghost use Rattle.querylaws.specs.Queries.{movedIn, Seekable, Running};
 ghost use Rattle.querylaws.specs.Batches.{Batched};
 ghost use Rattle.querylaws.specs.Listings.{wholeIn, laidWithin, Tells};
-use querylaws::Batch;
 use querylaws::FROM;
 use querylaws::Listed;
 use querylaws::Query;
@@ -37,7 +36,7 @@ fn seek_in(card: &[u8], shapes: &[u32], mut s: InHand, i: usize, b: usize) -> In
 
 // Lists the pages from b0 on that the first k lists share, until the room is full or none is left. It is the one loop
 // of seeks, and the query goes by value through each of them.
-fn list_from(card: &[u8], shapes: &[u32], q0: Query, k: usize, b0: usize, room: &mut [u32]) -> Batch
+pub fn batch(card: &[u8], shapes: &[u32], q0: Query, k: usize, b0: usize, room: &mut [u32]) -> Turn
     requires { ⌜ Running (now card) (now shapes) k q0 b0 × (0 < length (now room)) ⌝ }
     ensures { λ r. ⌜ Batched (now (card .entry)) (now (shapes .entry)) k q0 b0 (now (room .entry)) r
         (now (room .exit)) ⌝ }
@@ -55,7 +54,7 @@ fn list_from(card: &[u8], shapes: &[u32], q0: Query, k: usize, b0: usize, room: 
         q.cursors[i] = c;
         let mark = c.mark;
         if mark == SPENT {
-            return Batch { q, mark, found };
+            return Turn { q, mark, found };
         }
         let page = mark as usize - 1;
         if 0 < i && b < page {
@@ -69,23 +68,12 @@ fn list_from(card: &[u8], shapes: &[u32], q0: Query, k: usize, b0: usize, room: 
             room[found] = mark - 1;
             found += 1;
             if room.len() <= found {
-                return Batch { q, mark, found };
+                return Turn { q, mark, found };
             }
             i = 0;
             b = mark as usize;
         }
     }
-}
-
-// The next page at or above the bound that the first k lists share; with one list, a plain seek.
-pub fn next_common(card: &[u8], shapes: &[u32], query: Query, k: usize, bound: usize) -> Turn
-    requires { ⌜ Running (now card) (now shapes) k query bound ⌝ }
-    ensures { λ r. ⌜ Turned (now (card .entry)) (now (shapes .entry)) k query bound r ⌝ }
-{
-    let mut page = [0u32; 1];
-    let s = list_from(card, shapes, query, k, bound, &mut page);
-    let q = s.q;
-    Turn { q, mark: s.mark }
 }
 
 // Counts the pages that the first k lists share, and lists them at the room's front, as far as it goes; those behind its
@@ -97,18 +85,18 @@ pub fn list_common(card: &[u8], shapes: &[u32], k: usize, room: &mut [u32]) -> L
         (now (room .entry))) ⌝ }
 {
     let q = Query::new();
-    let mut s = Batch {
+    let mut s = Turn {
         q,
         mark: 0,
         found: 0,
     };
     if 0 < room.len() {
-        s = list_from(card, shapes, q, k, 0, room);
+        s = batch(card, shapes, q, k, 0, room);
     }
     let mut found = s.found;
     let mut rest = [0u32; 64];
     while s.mark != SPENT {
-        s = list_from(card, shapes, s.q, k, s.mark as usize, &mut rest);
+        s = batch(card, shapes, s.q, k, s.mark as usize, &mut rest);
         found += s.found;
     }
     rows::totals(s.q, found)

@@ -11,42 +11,39 @@ use Rattle.walklaws.specs.declared.Cursor.{Cursor}
 use Rattle.walklaws.specs.Cursors.{spentMark}
 use Rattle.querylaws.specs.declared.Query.{Query}
 use Rattle.querylaws.specs.declared.Turn.{Turn}
-use Rattle.querylaws.specs.declared.Batch.{Batch}
 use Rattle.querylaws.specs.Queries.{cursorIn, withCursor, movedIn, Running, Turned}
 use Rattle.querylaws.specs.Batches.{Turns, Batched}
 use Rattle.querylaws.proofs.RunLaws.{Midst, midst-start, midst-none, midst-some, midst-larger, midst-same}
 use Rattle.querylaws.proofs.RunLaws.{midst-page}
-use Rattle.querylaws.proofs.TurnLaws.{turned-unique}
+use Rattle.querylaws.proofs.TurnLaws.{turned-unique, turned-like}
 
 -- ---- one batch and one room
 
 module _ (s sh : List ℕ) (k : ℕ) where
   pub turns-unique : (n : ℕ) (q : Query) (b : ℕ) (ps ps′ : List ℕ) (t t′ : Turn) → Turns s sh k n q b ps t
-      → Turns s sh k n q b ps′ t′ → (ps ≡ ps′) × (t ≡ t′)
+      → Turns s sh k n q b ps′ t′ → (ps ≡ ps′) × (t .q ≡ t′ .q) × (t .mark ≡ t′ .mark)
   unfolding Turns
-  turns-unique zero q b ps ps′ t t′ h h′ = (
-    h .0 ∙ sym (h′ .0),
-    ap₂ (λ (r : Query) (m : ℕ). record { q = r; mark = m }) (h .1 ∙ sym (h′ .1)) (h .2 ∙ sym (h′ .2)),
-  )
-  turns-unique (suc n) q b [] [] t t′ h h′ = (refl, turned-unique s sh k q b t t′ (h .0) (h′ .0))
+  turns-unique zero q b ps ps′ t t′ h h′ = (h .0 ∙ sym (h′ .0), h .1 ∙ sym (h′ .1), h .2 ∙ sym (h′ .2))
+  turns-unique (suc n) q b [] [] t t′ h h′ =
+      let e = turned-unique s sh k q b t t′ (h .0) (h′ .0) in
+      (refl, e .0, e .1)
   turns-unique (suc n) q b [] (p ∷ ps) t t′ h h′ =
-      absurd (h′ .3 (rw (turned-unique s sh k q b (h′ .0) t (h′ .1) (h .0)) (h .1)))
+      absurd (h′ .3 (turned-unique s sh k q b (h′ .0) t (h′ .1) (h .0) .1 ∙ h .1))
   turns-unique (suc n) q b (p ∷ ps) [] t t′ h h′ =
-      absurd (h .3 (rw (turned-unique s sh k q b (h .0) t′ (h .1) (h′ .0)) (h′ .1)))
+      absurd (h .3 (turned-unique s sh k q b (h .0) t′ (h .1) (h′ .0) .1 ∙ h′ .1))
   turns-unique (suc n) q b (p ∷ ps) (p′ ∷ ps′) t t′ h h′ =
       let e = turned-unique s sh k q b (h′ .0) (h .0) (h′ .1) (h .1) in
-      let same : p ≡ p′ = omega (arith, h .2, h′ .2, ap (λ (u : Turn). u .mark) e) in
-      let rest = turns-unique n (h .0 .q) (h .0 .mark) ps ps′ t t′ (h .4) (rw e at (h′ .4)) in
-      (ap₂ (λ (x : ℕ) (xs : List ℕ). x ∷ xs) same (rest .0), rest .1)
+      let same : p ≡ p′ = omega (arith, h .2, h′ .2, e .1) in
+      let rest = turns-unique n (h .0 .q) (h .0 .mark) ps ps′ t t′ (h .4) (rw (e .0, e .1) at (h′ .4)) in
+      (ap₂ (λ (x : ℕ) (xs : List ℕ). x ∷ xs) same (rest .0), rest .1, rest .2)
 
-  pub batched-unique : (q : Query) (b : ℕ) (room : List ℕ) (r r′ : Batch) (room₁ room₂ : List ℕ)
+  pub batched-unique : (q : Query) (b : ℕ) (room : List ℕ) (r r′ : Turn) (room₁ room₂ : List ℕ)
       → Batched s sh k q b room r room₁ → Batched s sh k q b room r′ room₂ → (r ≡ r′) × (room₁ ≡ room₂)
   batched-unique q b room r r′ room₁ room₂ h h′ =
-      let e =
-      turns-unique (length room) q b (h .pages) (h′ .pages) (record { q = r .q; mark = r .mark })
-      (record { q = r′ .q; mark = r′ .mark }) (h .turns) (h′ .turns) in
+      let e = turns-unique (length room) q b (h .pages) (h′ .pages) r r′ (h .turns) (h′ .turns) in
       let found : r .found ≡ r′ .found = h .found ∙ ap length (e .0) ∙ sym (h′ .found) in (
-        ap₂ (λ (t : Turn) (n : ℕ). record { q = t .q; mark = t .mark; found = n }) (e .1) found,
+        ap₂ (λ (x : Query) (m : ℕ). record { q = x; mark = m; found = r .found }) (e .1) (e .2)
+            ∙ ap (λ (n : ℕ). record { q = r′ .q; mark = r′ .mark; found = n }) found,
         h .laid-out ∙ ap (λ (xs : List ℕ). laid xs room) (e .0) ∙ sym (h′ .laid-out),
       )
 
@@ -66,10 +63,10 @@ module _ (s sh : List ℕ) (k : ℕ) where
       let rest = turns-size n (x .0 .q) (x .0 .mark) ps t (x .4) in
       (omega (arith, rest .0), λ h. omega (arith, rest .1 h))
 
-  pub batched-long : (q : Query) (b : ℕ) (room : List ℕ) (r : Batch) (room′ : List ℕ)
+  pub batched-long : (q : Query) (b : ℕ) (room : List ℕ) (r : Turn) (room′ : List ℕ)
       → Batched s sh k q b room r room′ → length room′ ≡ length room
   batched-long q b room r room′ x =
-      let size = turns-size (length room) q b (x .pages) (record { q = r .q; mark = r .mark }) (x .turns) in
+      let size = turns-size (length room) q b (x .pages) r (x .turns) in
       ap length (x .laid-out) ∙ length-laid (x .pages) room (size .0)
 
 -- ---- a batch of one page
@@ -78,15 +75,11 @@ module _ (s sh : List ℕ) (k : ℕ) (q : Query) (b : ℕ) where
   one-turn : (ps : List ℕ) (t : Turn) → Turns s sh k 1 q b ps t → Turned s sh k q b t
   unfolding Turns
   one-turn [] t h = h .0
-  one-turn (p ∷ ps) t h =
-      let e : h .0 ≡ t =
-      ap₂ (λ (r : Query) (m : ℕ). record { q = r; mark = m }) (sym (h .4 .1)) (sym (h .4 .2)) in
-      rw e at (h .1)
+  one-turn (p ∷ ps) t h = turned-like s sh k q b (h .0) t (sym (h .4 .1)) (sym (h .4 .2)) (h .1)
 
-  pub batched-one : (room : List ℕ) (r : Batch) (room′ : List ℕ) → length room ≡ 1
-      → Batched s sh k q b room r room′ → Turned s sh k q b (record { q = r .q; mark = r .mark })
-  batched-one room r room′ h x =
-      one-turn (x .pages) (record { q = r .q; mark = r .mark }) (rw h at (x .turns))
+  pub batched-one : (room : List ℕ) (r : Turn) (room′ : List ℕ) → length room ≡ 1
+      → Batched s sh k q b room r room′ → Turned s sh k q b r
+  batched-one room r room′ h x = one-turn (x .pages) r (rw h at (x .turns))
 
 -- ---- the loop
 
@@ -141,8 +134,8 @@ module _ (s sh : List ℕ) (k : ℕ) (q₀ : Query) (b₀ : ℕ) (room₀ : List
           → Batched s sh k q₀ b₀ room₀ (record { q = withCursor q i c; mark = c .mark; found = found }) room
       unfolding Turns
       amid-none e =
-          let t : Turn = record { q = withCursor q i c; mark = c .mark } in
-          let u = midst-none s sh k (a .from) (a .bound) q b i (a .midst) (a .within) c w e in record {
+          let t : Turn = record { q = withCursor q i c; mark = c .mark; found = found } in
+          let u = midst-none s sh k (a .from) (a .bound) q b i (a .midst) (a .within) c w found e in record {
             pages = a .pages;
             turns = rw append-nil at (a .behind .goes-on [] t (rw more-left (u, e)));
             found = sym (a .behind .sized);
@@ -176,13 +169,13 @@ module _ (s sh : List ℕ) (k : ℕ) (q₀ : Query) (b₀ : ℕ) (room₀ : List
           -- where there is none, all share the page
           module _ (l : k ≤ i + 1) where
             abbrev turn : Turn
-            turn = record { q = withCursor q i c; mark = c .mark }
+            turn = record { q = withCursor q i c; mark = c .mark; found = found + 1 }
 
             abbrev more : List ℕ
             more = a .pages ++ (c .mark - 1) ∷ []
 
             turned : Turned s sh k (a .from) (a .bound) turn
-            turned = midst-page s sh k (a .from) (a .bound) q b i (a .midst) (a .within) c w e g l
+            turned = midst-page s sh k (a .from) (a .bound) q b i (a .midst) (a .within) c w e (found + 1) g l
 
             room-more : set room found (c .mark - 1) ≡ laid more room₀
             room-more =

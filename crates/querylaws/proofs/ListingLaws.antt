@@ -19,7 +19,6 @@ use Rattle.commonlaws.proofs.NextLaws.{rounds-next}
 use Rattle.walklaws.specs.Cursors.{spentMark}
 use Rattle.querylaws.specs.declared.Query.{Query}
 use Rattle.querylaws.specs.declared.Turn.{Turn}
-use Rattle.querylaws.specs.declared.Batch.{Batch}
 use Rattle.querylaws.specs.declared.Listed.{Listed}
 use Rattle.querylaws.specs.Lists.{pagesAt, boundIn, Lists}
 use Rattle.querylaws.specs.Queries.{newQuery, readerAt, leadIn, othersIn, seeksOf, looksOf, nextFor, Running}
@@ -211,17 +210,16 @@ module _ (s sh : List ℕ) (k : ℕ) (room₀ : List ℕ) where
     long = refl;
   }
 
-  pub listing-first : Lists s sh k → (r : Batch) (room : List ℕ) → Batched s sh k newQuery 0 room₀ r room
+  pub listing-first : Lists s sh k → (r : Turn) (room : List ℕ) → Batched s sh k newQuery 0 room₀ r room
       → Listing (r .q) (r .mark) (r .found) room
   listing-first l r room x =
-      let t : Turn = record { q = r .q; mark = r .mark } in
-      let size = turns-size s sh k (length room₀) newQuery 0 (x .pages) t (x .turns) in
+      let size = turns-size s sh k (length room₀) newQuery 0 (x .pages) r (x .turns) in
       record {
         ps = x .pages;
         reached =
             rw (x .found)
             (rw (zero-add (length (x .pages)))
-            at (reached-more s sh k (length room₀) newQuery 0 0 [] (x .pages) t (omega arith) (partway-start s sh k l)
+            at (reached-more s sh k (length room₀) newQuery 0 0 [] (x .pages) r (omega arith) (partway-start s sh k l)
             (x .turns)));
         full = size .1;
         room-is = x .laid-out ∙ sym (laid-within-all (x .pages) room₀ (size .0));
@@ -236,15 +234,14 @@ module _ (s sh : List ℕ) (k : ℕ) (room₀ : List ℕ) where
       pub listing-on : (b < spentMark) × Partway s sh k q b found (g .ps)
       listing-on = elim (g .reached) [ inl e ↦ absurd (h (e .0)) | inr e ↦ e ]
 
-      module _ (rest : List ℕ) (r : Batch) (rest′ : List ℕ) (x : Batched s sh k q b rest r rest′) where
+      module _ (rest : List ℕ) (r : Turn) (rest′ : List ℕ) (x : Batched s sh k q b rest r rest′) where
         pub listing-more : Listing (r .q) (r .mark) (found + r .found) room
         listing-more =
-            let t : Turn = record { q = r .q; mark = r .mark } in
             let full = g .full (listing-on .0) in record {
               ps = g .ps ++ x .pages;
               reached =
                   rw (x .found)
-                  (reached-more s sh k (length rest) q b found (g .ps) (x .pages) t (listing-on .0) (listing-on .1)
+                  (reached-more s sh k (length rest) q b found (g .ps) (x .pages) r (listing-on .0) (listing-on .1)
                   (x .turns));
               full = λ z. omega (arith, full, length-append (g .ps) (x .pages));
               room-is = g .room-is ∙ sym (laid-within-full (g .ps) (x .pages) room₀ full);
@@ -253,9 +250,8 @@ module _ (s sh : List ℕ) (k : ℕ) (room₀ : List ℕ) where
 
         pub listing-less : 0 < length rest → spentMark - r .mark < spentMark - b
         listing-less z =
-            let t : Turn = record { q = r .q; mark = r .mark } in
             let later =
-            reached-later s sh k (length rest) q b found (g .ps) (x .pages) t (listing-on .0) (listing-on .1)
+            reached-later s sh k (length rest) q b found (g .ps) (x .pages) r (listing-on .0) (listing-on .1)
             (x .turns) in
             omega (arith, later .1 z, listing-on .0)
 

@@ -170,15 +170,16 @@ module _ (s sh : List ℕ) (k : ℕ) (q₀ : Query) (b₀ : ℕ) where
     omega (arith, ap (λ (n : Next). n .looks) (m .same)),
   )
 
-  midst-end : (q : Query) (b i : ℕ) → Midst q b i → k ≤ i → Turned s sh k q₀ b₀ (record { q = q; mark = b + 1 })
-  midst-end q b i m h =
+  midst-end : (n : ℕ) (q : Query) (b i : ℕ) → Midst q b i → k ≤ i
+      → Turned s sh k q₀ b₀ (record { q = q; mark = b + 1; found = n })
+  midst-end n q b i m h =
       let e : i ≡ k = omega (arith, m .within) in
       let p = pending-end (boundIn sh) k b (readerAt s sh q) (m .apt .lists .some) in
       let end = ap (plus (seeksOf q) (looksOf q)) p in
       let none-left : toCome s sh k q k b .seeks ≡ 0 =
       ap (λ (n : Next). n .seeks) p ∙ (unfold stop in refl) in
       let stays : endOf s sh k q k b ≡ q = rw none-left (unfold seekOn in refl) in
-      turned-from (page b (rankOf (leadIn s sh q .cursor))) (record { q = q; mark = b + 1 }) b (m .running) (m .apt)
+      turned-from (page b (rankOf (leadIn s sh q .cursor))) (record { q = q; mark = b + 1; found = n }) b (m .running) (m .apt)
       (sym end ∙ rw e at (m .same)) (sym stays ∙ rw e at (m .ends)) (unfold markFound in refl)
       (λ c j z. let x : b ≡ c = cc in omega arith)
 
@@ -197,13 +198,15 @@ module _ (s sh : List ℕ) (k : ℕ) (q₀ : Query) (b₀ : ℕ) where
         }
 
     module _ (h : i < k) (c : Cursor) (w : c ≡ movedIn s sh i (cursorIn q i) b) where
-      pub midst-none : c .mark ≡ spentMark → Turned s sh k q₀ b₀ (record { q = withCursor q i c; mark = c .mark })
-      midst-none =
+      pub midst-none : (n : ℕ) → c .mark ≡ spentMark
+          → Turned s sh k q₀ b₀ (record { q = withCursor q i c; mark = c .mark; found = n })
+      midst-none n =
           rw w
           (λ e.
           turned-from none (record {
             q = withCursor q i (movedIn s sh i (cursorIn q i) b);
             mark = movedIn s sh i (cursorIn q i) b .mark;
+            found = n;
           }) b (m .running)
           (seek-apt s sh k q b (m .apt) i h b (omega arith)) (sym (left-none s sh k q b (m .apt) i h e) ∙ m .same)
           (sym (end-none s sh k q b (m .apt) i h e) ∙ m .ends) (e ∙ (unfold markFound in refl))
@@ -244,10 +247,11 @@ module _ (s sh : List ℕ) (k : ℕ) (q₀ : Query) (b₀ : ℕ) where
         midst-same g = step-to e (i + 1) (listAfter-same i b (c .mark - 1) g) (omega arith)
 
         -- of which there is none where all share the page
-        pub midst-page : (0 < i → b < c .mark - 1 → ⊥) → k ≤ i + 1 → Turned s sh k q₀ b₀ (record {
+        pub midst-page : (n : ℕ) → (0 < i → b < c .mark - 1 → ⊥) → k ≤ i + 1 → Turned s sh k q₀ b₀ (record {
           q = withCursor q i c;
           mark = c .mark;
+          found = n;
         })
-        midst-page g l =
+        midst-page n g l =
             let some : c .mark - 1 + 1 ≡ c .mark = omega (arith, midst-some) in
-            rw some at (midst-end (withCursor q i c) (c .mark - 1) (i + 1) (midst-same g) l)
+            rw some at (midst-end n (withCursor q i c) (c .mark - 1) (i + 1) (midst-same g) l)

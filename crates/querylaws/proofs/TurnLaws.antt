@@ -1,7 +1,7 @@
 -- What the mark of a next common page says: none, or the page of the rule's answer; that fewer of the lead are left;
 -- and that one query and mark alone come of it.
 use mathlib.Core.Bool.{true}
-use mathlib.Core.Path.{_≡_, refl, sym, ap, ap₂, _∙_}
+use mathlib.Core.Path.{_≡_, refl, sym, ap, subst, _∙_}
 use mathlib.Core.List.{List}
 use Prim.Native.Nat.{ℕ, _+_, _<_}
 use native.Mathlib.Omega.{arith}
@@ -67,7 +67,23 @@ module _ (s sh : List ℕ) (k : ℕ) (q : Query) (b : ℕ) (a : Apt s sh k q b) 
           ),
         )
 
-pub turned-unique : (s sh : List ℕ) (k : ℕ) (q : Query) (b : ℕ) (t t′ : Turn) → Turned s sh k q b t
-    → Turned s sh k q b t′ → t ≡ t′
-turned-unique s sh k q b t t′ u u′ = ap₂ (λ (r : Query) (m : ℕ). record { q = r; mark = m })
-    (u .query ∙ sym (u′ .query)) (u .mark ∙ sym (u′ .mark))
+module _ (s sh : List ℕ) (k : ℕ) (q : Query) (b : ℕ) where
+  pub turned-unique : (t t′ : Turn) → Turned s sh k q b t → Turned s sh k q b t′
+      → (t .q ≡ t′ .q) × (t .mark ≡ t′ .mark)
+  turned-unique t t′ u u′ = (u .query ∙ sym (u′ .query), u .mark ∙ sym (u′ .mark))
+
+  -- query and mark are all that it speaks of
+  pub turned-like : (t t′ : Turn) → t .q ≡ t′ .q → t .mark ≡ t′ .mark → Turned s sh k q b t → Turned s sh k q b t′
+  turned-like t t′ e m u =
+      subst (λ (r : Query). Turned s sh k q b (record { q = r; mark = t′ .mark; found = t′ .found })) e
+      (subst (λ (n : ℕ). Turned s sh k q b (record { q = t .q; mark = n; found = t′ .found })) m (record {
+        query = u .query;
+        eight = u .eight;
+        mark = u .mark;
+        lead = u .lead;
+        others = u .others;
+        seeks = u .seeks;
+        looks = u .looks;
+        narrow = u .narrow;
+        running = u .running;
+      }))

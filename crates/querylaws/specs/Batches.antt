@@ -13,7 +13,6 @@ use Rattle.rules.specs.Write.{laid}
 use Rattle.walklaws.specs.Cursors.{spentMark}
 use Rattle.querylaws.specs.declared.Query.{Query}
 use Rattle.querylaws.specs.declared.Turn.{Turn}
-use Rattle.querylaws.specs.declared.Batch.{Batch}
 use Rattle.querylaws.specs.Queries.{Turned}
 
 unfoldable pub Turns : List ℕ → List ℕ → ℕ → ℕ → Query → ℕ → List ℕ → Turn → Type 0
@@ -22,9 +21,9 @@ Turns s sh k (suc n) q b [] t = Turned s sh k q b t × (t .mark ≡ spentMark)
 Turns s sh k (suc n) q b (p ∷ ps) t = (u : Turn) × Turned s sh k q b u × (u .mark ≡ p + 1) × (u .mark ≡ spentMark → ⊥)
     × Turns s sh k n (u .q) (u .mark) ps t
 
-pub record Batched (s sh : List ℕ) (k : ℕ) (q : Query) (b : ℕ) (room : List ℕ) (r : Batch) (room′ : List ℕ)
+pub record Batched (s sh : List ℕ) (k : ℕ) (q : Query) (b : ℕ) (room : List ℕ) (r : Turn) (room′ : List ℕ)
     : Type 0 where
   pub pages : List ℕ
-  pub turns : Turns s sh k (length room) q b pages (record { q = r .q; mark = r .mark })
+  pub turns : Turns s sh k (length room) q b pages r
   pub found : r .found ≡ length pages
   pub laid-out : room′ ≡ laid pages room

@@ -38,14 +38,9 @@ impl Query {
     }
 }
 
-// A query, and the mark of a page: page + 1, or SPENT.
+// A query behind pages that were found, the mark of the last, page + 1, or SPENT where none is left, and how many they
+// are.
 pub struct Turn {
-    pub q: Query,
-    pub mark: u32,
-}
-
-// A query behind pages that were found, how many they are, and the mark of the last, or SPENT where none is left.
-pub struct Batch {
     pub q: Query,
     pub mark: u32,
     pub found: usize,

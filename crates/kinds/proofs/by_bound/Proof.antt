@@ -1,5 +1,5 @@
 -- `by_bound` finds the next page of the word's list alone.
-use mathlib.Core.Path.{_≡_}
+use mathlib.Core.Path.{_≡_, refl}
 use Prim.Native.Nat.{_-_}
 use native.Mathlib.Omega.{arith}
 use borrow.Author.Needs.{needs}
@@ -8,6 +8,7 @@ use Rattle.rules.specs.Questions.{pagesIn}
 use Rattle.walklaws.specs.Cursors.{spentMark}
 use Rattle.querylaws.specs.Queries.{newQuery, Turned}
 use Rattle.querylaws.proofs.NewLaws.{new-running}
+use Rattle.querylaws.proofs.BatchLaws.{batched-one}
 use Rattle.kinds.proofs.KindLaws.{pages-are, pages-accepted}
 use Rattle.querylaws.proofs.RankLaws.{Ranked, turned-ranked}
 use Rattle.kinds.proofs.BoundLaws.{bound-none, bound-marked, bound-some}
@@ -19,90 +20,96 @@ open-alone-requires c κs =
     let b = c .before .before .before in
     rw (c .pages-in .ensures) (pages-accepted (b .args .card .now) (b .args .t) (b .pre .0) (b .pre .1))
 
-next-common-requires : tie.Need-next-common-requires
-next-common-requires c κs =
-    let o = c .before .before in
-    rw (c .new .ensures) (new-running (o .before .pages-in .result .now) (o .open-alone .result) 1
-    (o .open-alone .ensures .lists) _)
+batch-requires : tie.Need-batch-requires
+batch-requires c κs =
+    let o = c .before .before .before in (
+      rw (c .before .new .ensures) (new-running (o .before .pages-in .result .now) (o .open-alone .result) 1
+          (o .open-alone .ensures .lists) _),
+      omega arith,
+    )
+
+-- what is known of the one list, seen from behind the search
+abbrev opened : tie.After-batch → tie.After-open-alone
+opened c = c .before .before .before .before
 
 -- the next page of the one list
-next : (c : tie.After-next-common) →
-    let o = c .before .before .before in
+next : (c : tie.After-batch) →
+    let o = opened c in
     Turned (o .before .pages-in .result .now) (o .open-alone .result) 1 newQuery
-    (o .before .before .before .before .args .bound) (c .next-common .result)
-next c = rw (c .before .new .ensures) at (c .next-common .ensures)
+    (o .before .before .before .before .args .bound) (c .batch .result)
+next c = rw (c .before .before .new .ensures) at (batched-one _ _ _ _ _ _ (c .batch .result) _ refl (c .batch .ensures))
 
 -- it is the word's
-word-pages : (c : tie.After-next-common) →
-    let p = c .before .before .before .before in
+word-pages : (c : tie.After-batch) →
+    let p = c .before .before .before .before .before in
     let a = p .before .before .before .args in
     pagesIn (a .card .now) (a .t) ≡ decode (p .pages-in .result .now)
 word-pages c =
-    let p = c .before .before .before .before in
+    let p = c .before .before .before .before .before in
     let a = p .before .before .before .args in
     rw (p .pages-in .ensures) (pages-are (a .card .now) (a .t))
 
 -- where there is one, the cursor tells its rank
-on-page : (c : tie.After-next-common) → (c .next-common .result .mark ≡ spentMark → ⊥) →
-    let o = c .before .before .before in
-    Ranked (o .before .pages-in .result .now) (o .open-alone .result) (c .next-common .result .q) 0
-    (c .next-common .result .mark - 1)
+on-page : (c : tie.After-batch) → (c .batch .result .mark ≡ spentMark → ⊥) →
+    let o = opened c in
+    Ranked (o .before .pages-in .result .now) (o .open-alone .result) (c .batch .result .q) 0
+    (c .batch .result .mark - 1)
 on-page c m =
-    let o = c .before .before .before in
+    let o = opened c in
     let s = o .before .pages-in .result .now in
     let a = o .before .before .before .before .args in
     let r = o .open-alone .result in
     turned-ranked s r 1 newQuery (a .bound) (new-running s r 1 (o .open-alone .ensures .lists) (a .bound) .apt)
-    (c .next-common .result) (next c) m 0 (omega arith)
+    (c .batch .result) (next c) m 0 (omega arith)
 
 returns : tie.Need-returns
 returns c =
-    let n = c .before .before .before .before .before .before .before in
-    let o = n .before .before .before in
+    let n = c .before .before .before .before .before .before .before .before in
+    let o = opened n in
     let a = o .before .before .before .before .args in
     rw (
       word-pages n,
       bound-none (o .before .pages-in .result .now) (o .open-alone .result)
-          (o .open-alone .ensures) (a .bound) (n .next-common .result) (next n)
+          (o .open-alone .ensures) (a .bound) (n .batch .result) (next n)
           (c .before .before .before .before .before .if1 .taken),
     )
     (c .before .before .put .ensures)
 
 rank-in-requires : tie.Need-rank-in-requires
 rank-in-requires c κs =
-    let n = c .before .before .before in
-    let o = n .before .before .before in (
+    let n = c .before .before .before .before in
+    let o = opened n in (
       o .open-alone .ensures .lists .each 0 (omega arith) .room,
       omega arith,
       next n .eight,
       on-page n (c .before .if1 .left) .on-element,
     )
 
-sub-t23 : tie.Need-sub-t23
-sub-t23 c =
-    let n = c .before .before .before .before .before in
-    let o = n .before .before .before in
+sub-t26 : tie.Need-sub-t26
+sub-t26 c =
+    let n = c .before .before .before .before .before .before in
+    let o = opened n in
     let a = o .before .before .before .before .args in
     bound-marked (o .before .pages-in .result .now) (o .open-alone .result) (o .open-alone .ensures)
-    (a .bound) (n .next-common .result) (next n) (c .before .before .before .if1 .left)
+    (a .bound) (n .batch .result) (next n) (c .before .before .before .if1 .left)
 
-cast-t24 : tie.Need-cast-t24
-cast-t24 c =
+cast-t27 : tie.Need-cast-t27
+cast-t27 c =
     omega (
       arith,
       c .before .rank-in .ensures,
-      on-page (c .before .before .before .before .before) (c .before .before .before .if1 .left) .small,
+      on-page (c .before .before .before .before .before .before) (c .before .before .before .if1 .left) .small,
     )
 
 returns-2 : tie.Need-returns-2
 returns-2 c =
-    let n = c .before .before .before .before .before .before .before .before .before .before in
-    let o = n .before .before .before in
+    let n = c .before .before .before .before .before .before .before .before .before .before .before in
+    let o = opened n in
     let a = o .before .before .before .before .args in
     rw (
       word-pages n,
       bound-some (o .before .pages-in .result .now) (o .open-alone .result) (o .open-alone .ensures)
-          (a .bound) (n .next-common .result) (next n)
+          (a .bound) (n .batch .result) (next n)
           (c .before .before .before .before .before .before .before .before .if1 .left),
       ← (c .before .before .before .before .before .before .rank-in .ensures),
     ) (c .before .before .put2 .ensures)
@@ -115,15 +122,16 @@ by-bound-spec =
     open-alone-requires
     (λ c. search needs)
     (λ c κs. search needs)
-    next-common-requires
+    (λ c. search needs)
+    batch-requires
     (λ c. search needs)
     (λ c κs. search needs)
     (λ c. search needs)
     returns
     (λ c. search needs)
     rank-in-requires
-    sub-t23
-    cast-t24
+    sub-t26
+    cast-t27
     (λ c. search needs)
     (λ c κs. search needs)
     (λ c. search needs)

@@ -25,8 +25,8 @@ Inv-loop card shapes k room s₀ found₀ rest₀ s found rest = (length rest �
 abbrev μ-loop : tie.MeasureT-loop
 μ-loop card shapes k room s₀ found₀ rest₀ s found rest = spentMark - s .mark
 
-list-from-requires : tie.Need-list-from-requires Inv-loop μ-loop
-list-from-requires c κs = (
+batch-requires : tie.Need-batch-requires Inv-loop μ-loop
+batch-requires c κs = (
   rw (c .before .before .new .ensures) (new-running _ _ _ (c .before .before .before .before .before .before .pre) 0),
   omega (arith, c .before .if1 .taken),
 )
@@ -49,11 +49,11 @@ first c = elim (c .if1 .came) [
 loop-holds : tie.Need-loop-holds Inv-loop μ-loop
 loop-holds c = (refl, λ room₀ g. g)
 
-slice-aggregate-list-from : tie.Need-slice-aggregate-list-from Inv-loop μ-loop
-slice-aggregate-list-from c = sym (c .before .before .before .before .loop .inv .0)
+slice-aggregate-batch : tie.Need-slice-aggregate-batch Inv-loop μ-loop
+slice-aggregate-batch c = sym (c .before .before .before .before .loop .inv .0)
 
-list-from-requires-2 : tie.Need-list-from-requires-2 Inv-loop μ-loop
-list-from-requires-2 c κs =
+batch-requires-2 : tie.Need-batch-requires-2 Inv-loop μ-loop
+batch-requires-2 c κs =
     let l = c .before .before .before .before .loop in
     let g = l .inv .1 _ (first (c .before .before .before .before .before)) in (
       listing-on _ _ _ _ (l .s .q) (l .s .mark) (l .found) _ g (c .before .before .if2 .taken) .1 .running,
@@ -63,7 +63,7 @@ list-from-requires-2 c κs =
 add-found : tie.Need-add-found Inv-loop μ-loop
 add-found c =
     let l = c .before .before .before .before .before .before .before .loop in
-    let n = c .before .before .list-from2 in
+    let n = c .before .before .batch2 in
     let g = l .inv .1 _ (first (c .before .before .before .before .before .before .before .before)) in
     let on = c .before .before .before .before .before .if2 .taken in
     let next = listing-more _ _ _ _ (l .s .q) (l .s .mark) (l .found) _ g on (l .rest) (n .result) _ (n .ensures) in
@@ -72,7 +72,7 @@ add-found c =
 loop-less : tie.Need-loop-less Inv-loop μ-loop
 loop-less c =
     let l = c .before .before .before .before .before .before .before .loop in
-    let n = c .before .before .list-from2 in
+    let n = c .before .before .batch2 in
     let g = l .inv .1 _ (first (c .before .before .before .before .before .before .before .before)) in
     let on = c .before .before .before .before .before .if2 .taken in
     listing-less _ _ _ _ (l .s .q) (l .s .mark) (l .found) _ g on (l .rest) (n .result) _ (n .ensures)
@@ -81,7 +81,7 @@ loop-less c =
 loop-again : tie.Need-loop-again Inv-loop μ-loop
 loop-again c =
     let l = c .before .before .before .before .before .before .before .loop in
-    let n = c .before .before .list-from2 in
+    let n = c .before .before .batch2 in
     let on = c .before .before .before .before .before .if2 .taken in (
       batched-long _ _ _ (l .s .q) (l .s .mark) (l .rest) (n .result) _ (n .ensures) ∙ l .inv .0,
       λ room₀ g.
@@ -111,11 +111,11 @@ list-common-spec =
     Inv-loop
     μ-loop
     (λ c κs. search needs)
-    list-from-requires
+    batch-requires
     loop-holds
     (λ c. search needs)
-    slice-aggregate-list-from
-    list-from-requires-2
+    slice-aggregate-batch
+    batch-requires-2
     add-found
     loop-less
     loop-again

@@ -1,4 +1,4 @@
--- `list_from` seeks list by list: what is left to be sought comes to the rule's next page, and what is left to be
+-- `batch` seeks list by list: what is left to be sought comes to the rule's next page, and what is left to be
 -- listed, behind what was, to the batch. The measure: the seeks that may follow.
 use mathlib.Core.Bool.{false≢true}
 use mathlib.Core.Logic.{inl, inr}
@@ -12,8 +12,8 @@ use Rattle.walklaws.specs.Cursors.{unused}
 use Rattle.querylaws.specs.Queries.{seeksOf}
 use Rattle.querylaws.proofs.RunLaws.{midst-seekable, midst-some, midst-less}
 use Rattle.querylaws.proofs.BatchLaws.{Amid, amid-start, amid-none, amid-larger, amid-same, amid-page, amid-full}
-use Rattle.query.proofs.list_from.Statement.{statement}
-use Rattle.query.proofs.list_from.Tie as tie
+use Rattle.query.proofs.batch.Statement.{statement}
+use Rattle.query.proofs.batch.Tie as tie
 
 abbrev Inv-loop : tie.InvT-loop
 Inv-loop card shapes k b0 room₀ q₀ b₀ i₀ found₀ room q b i found = Amid card shapes k q₀ b₀ room₀ q b i found room
@@ -186,8 +186,8 @@ loop-again-3 c =
     (amid-same _ _ _ _ _ _ (l .q) (l .b) (l .i) (l .found) (l .room) (l .inv) (s .result .hand) (s .ensures .1)
     (c .before .before .if1 .left) (no-larger (c .before)) (c .if4 .left))
 
-pub list-from-spec : {M : Type 1} → statement M
-list-from-spec =
+pub batch-spec : {M : Type 1} → statement M
+batch-spec =
     tie.close
     (tie.spec
     Inv-loop
