@@ -2,14 +2,14 @@
 -- listed, behind what was, to the batch. The measure: the seeks that may follow.
 use mathlib.Core.Bool.{false≢true}
 use mathlib.Core.Logic.{inl, inr}
-use mathlib.Core.Path.{sym, _∙_}
+use mathlib.Core.Path.{_≡_, sym, _∙_}
 use Prim.Native.Nat.{_-_, _^_, _<_}
 use native.Mathlib.Omega.{arith}
 use borrow.Author.Needs.{needs}
 use borrow.Author.Tests.{ltb-true, lt-ltb}
 use lib.ListN.{length-set}
-use Rattle.walklaws.specs.Cursors.{unused}
-use Rattle.querylaws.specs.Queries.{seeksOf}
+use Rattle.walklaws.specs.Cursors.{spentMark, unused}
+use Rattle.querylaws.specs.Queries.{withCursor, seeksOf}
 use Rattle.querylaws.proofs.RunLaws.{midst-seekable, midst-some, midst-less}
 use Rattle.querylaws.proofs.BatchLaws.{Amid, amid-start, amid-none, amid-larger, amid-same, amid-page, amid-full}
 use Rattle.query.proofs.batch.Statement.{statement}
@@ -26,13 +26,9 @@ loop-holds c =
     let p = c .before .before .before .pre in
     amid-start _ _ _ _ _ _ (p .0) (p .1)
 
-mul-hand : tie.Need-mul-hand Inv-loop μ-loop
-mul-hand c =
-    let g = c .loop .inv in
-    omega (arith, g .within, g .midst .apt .lists .few)
-
-element-copy-out-hand : tie.Need-element-copy-out-hand Inv-loop μ-loop
-element-copy-out-hand c =
+-- the list that is sought is one of the eight
+few : (c : tie.At-loop Inv-loop μ-loop) → c .loop .i < 8
+few c =
     let g = c .loop .inv in
     omega (arith, g .within, g .midst .apt .lists .few)
 
@@ -42,16 +38,6 @@ seek-in-requires c κs =
     let l = c .before .loop in
     let a = l .inv in
     midst-seekable _ _ _ (a .from) (a .bound) (l .q) (l .b) (l .i) (a .midst) (a .within)
-
-mul-c : tie.Need-mul-c Inv-loop μ-loop
-mul-c c =
-    let g = c .before .before .before .before .loop .inv in
-    omega (arith, g .within, g .midst .apt .lists .few)
-
-element-set-from-c : tie.Need-element-set-from-c Inv-loop μ-loop
-element-set-from-c c =
-    let g = c .before .before .before .before .loop .inv in
-    omega (arith, g .within, g .midst .apt .lists .few)
 
 same-length : tie.Need-same-length Inv-loop μ-loop
 same-length c = c .before .before .before .before .before .loop .inv .behind .long
@@ -66,25 +52,30 @@ returns c =
     (amid-none _ _ _ _ _ _ (l .q) (l .b) (l .i) (l .found) (l .room) (l .inv) (s .result .hand) (s .ensures .1)
     (c .if1 .taken))
 
-sub-page : tie.Need-sub-page Inv-loop μ-loop
+-- the mark that a seek leaves
+marked : (k : tie.After-seek-in Inv-loop μ-loop) → 0 < k .seek-in .result .hand .mark
 unfolding unused
-sub-page c =
-    let k = c .before .before .before in
+marked k =
     let l = k .before .before .loop in
     let a = l .inv in
     let s = k .seek-in in
     midst-some _ _ _ (a .from) (a .bound) (l .q) (l .b) (l .i) (a .midst) (a .within) (s .result .hand) (s .ensures .1)
 
-loop-less : tie.Need-loop-less Inv-loop μ-loop
+-- behind a page fewer seeks may follow
+fewer : (k : tie.After-seek-in Inv-loop μ-loop) → (k .seek-in .result .hand .mark ≡ spentMark → ⊥)
+    → let l = k .before .before .loop in
+    2 ^ 28 - seeksOf (withCursor (l .q) (l .i) (k .seek-in .result .hand)) < 2 ^ 28 - seeksOf (l .q)
 unfolding unused
-loop-less c =
-    let k = c .before .before .before .before .before in
+fewer k =
     let l = k .before .before .loop in
     let a = l .inv in
     let s = k .seek-in in
-    rw (s .ensures .0)
-    (midst-less _ _ _ (a .from) (a .bound) (l .q) (l .b) (l .i) (a .midst) (a .within) (s .result .hand) (s .ensures .1)
-    (c .before .before .if1 .left))
+    midst-less _ _ _ (a .from) (a .bound) (l .q) (l .b) (l .i) (a .midst) (a .within) (s .result .hand) (s .ensures .1)
+
+loop-less : tie.Need-loop-less Inv-loop μ-loop
+loop-less c =
+    let k = c .before .before .before .before .before in
+    rw (k .seek-in .ensures .0) (fewer k (c .before .before .if1 .left))
 
 loop-again : tie.Need-loop-again Inv-loop μ-loop
 unfolding unused
@@ -108,20 +99,6 @@ no-larger c h g = elim (c .if2 .came) [
   | inr e ↦ omega (arith, e .left)
 ]
 
-add-i : tie.Need-add-i Inv-loop μ-loop
-add-i c =
-    let g = c .before .before .before .before .before .before .loop .inv in
-    omega (arith, g .within, g .midst .apt .lists .few)
-
-sub-room : tie.Need-sub-room Inv-loop μ-loop
-unfolding unused
-sub-room c =
-    let k = c .before .before .before .before .before in
-    let l = k .before .before .loop in
-    let a = l .inv in
-    let s = k .seek-in in
-    midst-some _ _ _ (a .from) (a .bound) (l .q) (l .b) (l .i) (a .midst) (a .within) (s .result .hand) (s .ensures .1)
-
 slice-write-room : tie.Need-slice-write-room Inv-loop μ-loop
 slice-write-room c =
     let g = c .before .before .before .before .before .before .before .loop .inv in
@@ -144,15 +121,9 @@ returns-2 c =
     (omega (arith, c .if5 .taken, length-set (l .room) (l .found) (s .result .hand .mark - 1), l .inv .behind .long)))
 
 loop-less-2 : tie.Need-loop-less-2 Inv-loop μ-loop
-unfolding unused
 loop-less-2 c =
     let k = c .before .before .before .before .before .before in
-    let l = k .before .before .loop in
-    let a = l .inv in
-    let s = k .seek-in in
-    rw (s .ensures .0)
-    (midst-less _ _ _ (a .from) (a .bound) (l .q) (l .b) (l .i) (a .midst) (a .within) (s .result .hand) (s .ensures .1)
-    (c .before .before .before .if1 .left))
+    rw (k .seek-in .ensures .0) (fewer k (c .before .before .before .if1 .left))
 
 loop-again-2 : tie.Need-loop-again-2 Inv-loop μ-loop
 unfolding unused
@@ -166,15 +137,9 @@ loop-again-2 c =
     (omega (arith, c .if5 .left, length-set (l .room) (l .found) (s .result .hand .mark - 1), l .inv .behind .long)))
 
 loop-less-3 : tie.Need-loop-less-3 Inv-loop μ-loop
-unfolding unused
 loop-less-3 c =
     let k = c .before .before .before .before .before in
-    let l = k .before .before .loop in
-    let a = l .inv in
-    let s = k .seek-in in
-    rw (s .ensures .0)
-    (midst-less _ _ _ (a .from) (a .bound) (l .q) (l .b) (l .i) (a .midst) (a .within) (s .result .hand) (s .ensures .1)
-    (c .before .before .if1 .left))
+    rw (k .seek-in .ensures .0) (fewer k (c .before .before .if1 .left))
 
 loop-again-3 : tie.Need-loop-again-3 Inv-loop μ-loop
 unfolding unused
@@ -193,19 +158,19 @@ batch-spec =
     Inv-loop
     μ-loop
     loop-holds
-    mul-hand
-    element-copy-out-hand
+    (λ c. omega (arith, few c))
+    (λ c. omega (arith, few c))
     seek-in-requires
-    mul-c
-    element-set-from-c
+    (λ c. omega (arith, few (c .before .before .before .before)))
+    (λ c. omega (arith, few (c .before .before .before .before)))
     same-length
     returns
     (λ c. search needs)
-    sub-page
+    (λ c. marked (c .before .before .before))
     loop-less
     loop-again
-    add-i
-    sub-room
+    (λ c. omega (arith, few (c .before .before .before .before .before .before)))
+    (λ c. marked (c .before .before .before .before .before))
     (λ c. search needs)
     slice-write-room
     (λ c. search needs)
