@@ -40,7 +40,7 @@ typedef enum jf_refusal {
 /* The kinds of question; what each is asked and answers is told at jf_ask. */
 typedef enum jf_kind {
     JF_KIND_RANK = 1,   /* the page at a rank */
-    JF_KIND_BOUND = 2,  /* the first page at or above a bound */
+    JF_KIND_BOUND = 2,  /* the first page at or above a bound, and how many lie below it */
     JF_KIND_COMMON = 3, /* the pages that all words share */
     JF_KIND_PHRASE = 4  /* the pages where the words stand one after the other */
 } jf_kind;
@@ -114,9 +114,12 @@ uint32_t jf_check_index(const uint8_t *card, size_t card_len);
  *
  * question (numbers)         answer (numbers)                                      room that is enough
  * 1, 2, word, rank           1, page; or 0 if the word has no such rank             2
- * 2, 2, word, bound          2, page, rank; or 0 if no page is at or above it       3
+ * 2, 2, word, bound          2, page, rank; or 1, n if no page is at or above it    3
  * 3, c, c words (1 to 8)     m + 2, seeks, looks, the m common pages                3 + the fewest pages of a word
  * 4, c, c words (1 to 8)     2 m, then page and number of starts, m times           1 + twice the fewest pages
+ *
+ * Ranks count from 0, and n is the number of the word's pages, so the last number of kind 2's answer, found or not, is
+ * how many of the word's pages lie below the bound. Rank and bound may be any number.
  *
  * Each answer starts with the count of the numbers behind it. Where an answer does not fit whole, the refusal is
  * JF_ROOM: the answers before it stand, `answered` of them in `used` numbers, and the rest of the room is unchanged.

@@ -9,11 +9,14 @@ namespace {
 // so many that the questions take about as long as the card's check, or longer
 size_t enough_questions(const Bytes &card) { return std::clamp<size_t>(card.size() / 4, 4096, 1 << 19); }
 
-// the pages of answers to kind 1 or 2, no_page where there is none
-List pages_of(const List &answers) {
+// how many numbers follow an answer's count where there is a page: of kind 1 the page, of kind 2 its rank as well
+constexpr uint32_t found_by_rank = 1, found_by_bound = 2;
+
+// the pages of answers that have so many numbers where there is a page, no_page where there is none
+template <uint32_t found> List pages_of(const List &answers) {
     List pages;
     for (size_t i = 0; i < answers.size(); i += 1 + answers[i]) {
-        pages.push_back(answers[i] == 0 ? no_page : answers[i + 1]);
+        pages.push_back(answers[i] == found ? answers[i + 1] : no_page);
     }
     return pages;
 }
@@ -53,9 +56,10 @@ void one_reading(Bench &bench, const std::string &family, uint32_t u, const List
         by_bound.push_back({c->name(), some, [&](uint32_t *to) { return c->at_bounds(0, some_bounds, to), some; }});
     }
     const std::string text = parameters({{"U", u}, {"n", list.size()}});
-    const Times rank = time_questions(bench, card, questions_of(JF_KIND_RANK, ranks), by_rank, pages_of);
+    const Times rank = time_questions(bench, card, questions_of(JF_KIND_RANK, ranks), by_rank, pages_of<found_by_rank>);
     bench.record.add({"element by rank", family, text, "question", 0, rank});
-    const Times seek = time_questions(bench, card, questions_of(JF_KIND_BOUND, bounds), by_bound, pages_of);
+    const Times seek =
+        time_questions(bench, card, questions_of(JF_KIND_BOUND, bounds), by_bound, pages_of<found_by_bound>);
     bench.record.add({"fresh seek", family, text, "question", 0, seek});
 }
 

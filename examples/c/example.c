@@ -95,14 +95,18 @@ static void ask_rank(const uint8_t *card, size_t card_len)
     free(answer);
 }
 
-/* Prints the first page of "torque" from page 16 on. */
-static void ask_bound(const uint8_t *card, size_t card_len)
+/* Prints the first page of "torque" from a bound on, and how many of its pages lie below, which is told last. */
+static void ask_bound(const uint8_t *card, size_t card_len, uint32_t bound)
 {
-    const uint32_t question[] = {JF_KIND_BOUND, 2, TORQUE, 16};
+    const uint32_t question[] = {JF_KIND_BOUND, 2, TORQUE, bound};
     uint32_t *answer = ask(card, card_len, question, LENGTH(question));
-    if (answer[0] != 0) {
-        printf("torque from page 16 on: page %" PRIu32 ", rank %" PRIu32 "\n", answer[1], answer[2]);
+    printf("torque from page %" PRIu32 " on: ", bound);
+    if (answer[0] == 2) {
+        printf("page %" PRIu32, answer[1]);
+    } else {
+        printf("no page");
     }
+    printf(", pages below: %" PRIu32 "\n", answer[answer[0]]);
     free(answer);
 }
 
@@ -139,7 +143,8 @@ int main(void)
     expect_accepted("jf_check_index", jf_check_index(buffer, card_len));
     printf("card of %d words, %zu bytes\n", WORDS, card_len);
     ask_rank(buffer, card_len);
-    ask_bound(buffer, card_len);
+    ask_bound(buffer, card_len, 16);
+    ask_bound(buffer, card_len, PAGES);
     ask_common(buffer, card_len);
     ask_phrase(buffer, card_len);
     return EXIT_SUCCESS;

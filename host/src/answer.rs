@@ -4,12 +4,32 @@ use crate::question::Kind;
 use crate::Question;
 
 /// The answer to one question.
+///
+/// ```
+/// use jundefola::{ask_all, Answer, CardWriter, Question};
+/// let mut writer = CardWriter::new(44);
+/// writer.add(&[4, 15], &[1, 1], &[0, 0])?;
+/// let card = writer.close()?;
+///
+/// let questions = [9, 16].map(|bound| Question::Bound { term: 0, bound });
+/// let expected = [
+///     Answer::Bound { page: Some(15), below: 1 },
+///     Answer::Bound { page: None, below: 2 },
+/// ];
+/// assert!(ask_all(&card, &questions)?.iter().eq(expected));
+/// # Ok::<(), jundefola::Refusal>(())
+/// ```
 #[derive(Clone, Debug, PartialEq, Eq)]
 pub enum Answer<'a> {
     /// The page at the rank; none where the term has fewer pages.
     Rank(Option<u32>),
-    /// The first page at or above the bound; none where no page is.
-    Bound(Option<Found>),
+    /// Where the bound falls among the term's pages.
+    Bound {
+        /// The first page at or above the bound; none where all the term's pages lie below it.
+        page: Option<u32>,
+        /// How many of the term's pages lie below the bound; where there is a page, this is its rank, from 0.
+        below: u32,
+    },
     /// The pages that the terms share, and what finding them took.
     Common {
         /// How many seeks were made.
@@ -21,15 +41,6 @@ pub enum Answer<'a> {
     },
     /// The pages where the terms stand one after the other, rising.
     Phrase(Starts<'a>),
-}
-
-/// A page found for a bound.
-#[derive(Clone, Copy, Debug, PartialEq, Eq)]
-pub struct Found {
-    /// The page.
-    pub page: u32,
-    /// Its rank among the term's pages, from 0.
-    pub rank: u32,
 }
 
 /// A page where a phrase stands.
@@ -128,8 +139,12 @@ impl ExactSizeIterator for AnswerIter<'_> {}
 fn typed(kind: Kind, content: &[u32]) -> Answer<'_> {
     match (kind, content) {
         (Kind::Rank, content) => Answer::Rank(content.first().copied()),
-        (Kind::Bound, &[page, rank]) => Answer::Bound(Some(Found { page, rank })),
-        (Kind::Bound, _) => Answer::Bound(None),
+        (Kind::Bound, &[page, below]) => Answer::Bound {
+            page: Some(page),
+            below,
+        },
+        (Kind::Bound, &[below]) => Answer::Bound { page: None, below },
+        (Kind::Bound, _) => unreachable!("the pages below a bound are always told"),
         (Kind::Common, &[seeks, looks, ref pages @ ..]) => Answer::Common {
             seeks,
             looks,
@@ -149,21 +164,32 @@ mod tests {
         let questions = [
             Question::Rank { term: 0, rank: 9 },
             Question::Bound { term: 0, bound: 16 },
+            Question::Bound { term: 0, bound: 44 },
             Question::Common(vec![0]),
             Question::Phrase(vec![0]),
         ];
-        let answers = Answers::new(&questions, vec![0, 2, 21, 6, 3, 2, 5, 1, 4, 1, 2, 8, 3]);
+        let numbers = vec![0, 2, 21, 6, 1, 8, 3, 2, 5, 1, 4, 1, 2, 8, 3];
+        let answers = Answers::new(&questions, numbers);
         let read: Vec<Answer> = answers.iter().collect();
-        assert_eq!(answers.iter().len(), 4);
+        assert_eq!(answers.iter().len(), 5);
         assert_eq!(read[0], Answer::Rank(None));
-        assert_eq!(read[1], Answer::Bound(Some(Found { page: 21, rank: 6 })));
+        let found = Answer::Bound {
+            page: Some(21),
+            below: 6,
+        };
+        assert_eq!(read[1], found);
+        let none = Answer::Bound {
+            page: None,
+            below: 8,
+        };
+        assert_eq!(read[2], none);
         let common = Answer::Common {
             seeks: 2,
             looks: 5,
             pages: &[1],
         };
-        assert_eq!(read[2], common);
-        let Answer::Phrase(starts) = read[3].clone() else {
+        assert_eq!(read[3], common);
+        let Answer::Phrase(starts) = read[4].clone() else {
             panic!("a phrase was asked")
         };
         assert_eq!(starts.len(), 2);

@@ -42,7 +42,7 @@ mod question;
 mod refusal;
 mod room;
 
-pub use answer::{Answer, AnswerIter, Answers, Found, PageStarts, Starts};
+pub use answer::{Answer, AnswerIter, Answers, PageStarts, Starts};
 pub use ask::ask_all;
 pub use blocks::{list_block, term_block, CardWriter};
 pub use calls::{

@@ -10,7 +10,7 @@ pub enum Question {
         /// The rank.
         rank: u32,
     },
-    /// Which is the term's first page at or above this bound?
+    /// Which is the term's first page at or above this bound, and how many of its pages lie below?
     Bound {
         /// The term's number.
         term: u32,

@@ -135,11 +135,13 @@ fn a_refused_word_is_not_added() {
     assert_eq!(check_index(&writer.close().unwrap()), Ok(()));
 }
 
+/// A card with a word on 50,000 pages and a word on none.
 fn card_with_many_pages() -> Vec<u8> {
     let pages: Vec<u32> = (0..50_000).map(|i| 3 * i).collect();
     let ones = vec![1; pages.len()];
     let mut writer = CardWriter::new(150_000);
     writer.add(&pages, &ones, &vec![4; pages.len()]).unwrap();
+    writer.add(&[], &[], &[]).unwrap();
     writer.close().unwrap()
 }
 
@@ -158,6 +160,26 @@ fn answers_before_a_lack_of_room_stand() {
 }
 
 #[test]
+fn none_for_a_bound_takes_two_numbers() {
+    let card = card_with_many_pages();
+    let asked = |refusal, answered, used| Asked {
+        refusal,
+        answered,
+        used,
+    };
+    for (question, pages) in [([2, 2, 0, 150_000], 50_000), ([2, 2, 1, 0], 0)] {
+        let mut room = [7];
+        let refused = asked(Some(Refusal::Room), 0, 0);
+        assert_eq!(ask(&card, &question, &mut room), refused);
+        assert_eq!(room, [7]);
+        let mut room = [7; 3];
+        let answered = asked(None, 1, 2);
+        assert_eq!(ask(&card, &question, &mut room[..2]), answered);
+        assert_eq!(room, [1, pages, 7]);
+    }
+}
+
+#[test]
 fn the_room_for_answers_grows() {
     let card = card_with_many_pages();
     let questions = [
@@ -171,12 +193,29 @@ fn the_room_for_answers_grows() {
         .iter()
         .map(|answer| match answer {
             Answer::Rank(page) => page.iter().len(),
-            Answer::Bound(page) => page.iter().len(),
+            Answer::Bound { page, .. } => page.iter().len(),
             Answer::Common { pages, .. } => pages.len(),
             Answer::Phrase(starts) => starts.len(),
         })
         .collect();
     assert_eq!(found, [50_000, 1, 50_000, 50_000]);
+}
+
+#[test]
+fn the_room_grows_where_one_number_is_left_for_none() {
+    let card = card_with_many_pages();
+    let none = Question::Bound {
+        term: 0,
+        bound: 150_000,
+    };
+    let mut questions = vec![none; 3_000];
+    questions.insert(0, Question::Rank { term: 1, rank: 0 });
+    let answers = ask_all(&card, &questions).unwrap();
+    let expected = Answer::Bound {
+        page: None,
+        below: 50_000,
+    };
+    assert!(answers.iter().skip(1).eq(vec![expected; 3_000]));
 }
 
 #[test]

@@ -136,12 +136,31 @@ fn questions_on_standard_input() {
     let folder = Folder::with_card("input", TWO_WORDS);
     let input = "# ranks\nrank 0 5\nrank 0 8\n\nat 0 16 # and up\nat 0 44\nphrase 1 0\nrank 1 0";
     let asked = folder.run_on(&["ask", "card"], input);
-    let expected =
-        "rank 0 5: page 15\nrank 0 8: no page\nat 0 16: page 21, rank 6\nat 0 44: no page\n\
-                    phrase 1 0: no page\nrank 1 0: page 4\n";
+    let expected = "rank 0 5: page 15\n\
+                    rank 0 8: no page\n\
+                    at 0 16: page 21, rank 6; 6 pages lie below 16\n\
+                    at 0 44: no page; 8 pages lie below 44\n\
+                    phrase 1 0: no page\n\
+                    rank 1 0: page 4\n";
     assert_eq!(asked.printed, expected);
     assert_eq!(asked.status, 0);
     assert_eq!(folder.run_on(&["ask", "card"], "").printed, "");
+}
+
+#[test]
+fn bounds_tell_how_many_pages_lie_below() {
+    let folder = Folder::with_card("bounds", "pages 44\n4:1 15:3,6\n7:0\n\n");
+    let input = "at 0 0\nat 0 5\nat 0 15\nat 0 16\nat 0 4294967295\nat 1 8\nat 2 0\nat 2 44\n";
+    let asked = folder.run_on(&["ask", "card"], input);
+    let expected = "at 0 0: page 4, rank 0; no page lies below 0\n\
+                    at 0 5: page 15, rank 1; 1 page lies below 5\n\
+                    at 0 15: page 15, rank 1; 1 page lies below 15\n\
+                    at 0 16: no page; 2 pages lie below 16\n\
+                    at 0 4294967295: no page; 2 pages lie below 4294967295\n\
+                    at 1 8: no page; 1 page lies below 8\n\
+                    at 2 0: no page; the word is on none\n\
+                    at 2 44: no page; the word is on none\n";
+    assert_eq!((asked.printed.as_str(), asked.status), (expected, 0));
 }
 
 #[test]
@@ -191,11 +210,11 @@ fn questions_by_name() {
     let input = "rank torque 5\nat torque 16\ncommon torque common # both\nphrase 0 2\ncommon warranty\nat 3 0\n";
     let asked = folder.run_on(&["ask", "--names", "listing", "card"], input);
     let expected = "rank torque 5: page 15\n\
-                    at torque 16: page 21, rank 6\n\
+                    at torque 16: page 21, rank 6; 6 pages lie below 16\n\
                     common torque common: pages 4 15 (5 seeks, 5 looks)\n\
                     phrase torque 2: page 7 (1 start)\n\
                     common warranty: no page (1 seek, 0 looks)\n\
-                    at 3 0: no page\n";
+                    at 3 0: no page; the word is on none\n";
     assert_eq!(asked.printed, expected);
     assert_eq!((asked.status, asked.errors.as_str()), (0, ""));
 }

@@ -1,8 +1,8 @@
-//! The sample cards S1 to S12 of document 01 and its edges.
+//! The sample cards S1 to S12 of document 01, as docs/AMENDMENTS.md amends it, and its edges.
 
 use jundefola::{
     ask, ask_all, check_index, check_list, check_term, close_index, list_block, term_block,
-    write_term, Answer, CardWriter, Found, PageStarts, Question, Refusal,
+    write_term, Answer, CardWriter, PageStarts, Question, Refusal,
 };
 
 const S1_LIST: [u32; 8] = [3, 4, 7, 13, 14, 15, 21, 43];
@@ -103,7 +103,21 @@ fn s5_to_s7_bounds() {
     let card = card_of_pages(44, &[&S1_LIST]);
     assert_eq!(answer(&card, &[2, 2, 0, 16]), [2, 21, 6]);
     assert_eq!(answer(&card, &[2, 2, 0, 43]), [2, 43, 7]);
-    assert_eq!(answer(&card, &[2, 2, 0, 44]), [0]);
+    assert_eq!(answer(&card, &[2, 2, 0, 44]), [1, 8]);
+}
+
+#[test]
+fn bounds_behind_the_last_page_tell_all_pages() {
+    let card = card_of_pages(44, &[&S1_LIST, &[4, 15], &[]]);
+    for bound in [44, 45, u32::MAX] {
+        assert_eq!(answer(&card, &[2, 2, 0, bound]), [1, 8]);
+    }
+    for bound in [16, 43, 44, u32::MAX] {
+        assert_eq!(answer(&card, &[2, 2, 1, bound]), [1, 2]);
+    }
+    for bound in [0, 1, 43, 44, u32::MAX] {
+        assert_eq!(answer(&card, &[2, 2, 2, bound]), [1, 0]);
+    }
 }
 
 /// The looks of S1's first seek, beside those of the other word's: that word leads, and is on one page, the bound.
@@ -130,7 +144,7 @@ fn s8_a_list_with_a_pointer() {
     for bound in [299, 255, 0] {
         assert_eq!(answer(&card, &[2, 2, 0, bound]), [2, bound, bound]);
     }
-    assert_eq!(answer(&card, &[2, 2, 0, 300]), [0]);
+    assert_eq!(answer(&card, &[2, 2, 0, 300]), [1, 300]);
 }
 
 #[test]
@@ -234,6 +248,10 @@ fn s9_closed() {
     assert_eq!(without_words[11..], card[11..]);
 }
 
+fn at_bound(page: Option<u32>, below: u32) -> Answer<'static> {
+    Answer::Bound { page, below }
+}
+
 #[test]
 fn s5_to_s12_as_typed_answers() {
     let card = card_of_pages(44, &[&S1_LIST, &[4, 15]]);
@@ -241,6 +259,7 @@ fn s5_to_s12_as_typed_answers() {
         Question::Rank { term: 0, rank: 5 },
         Question::Rank { term: 0, rank: 8 },
         Question::Bound { term: 0, bound: 16 },
+        Question::Bound { term: 0, bound: 43 },
         Question::Bound { term: 0, bound: 44 },
         Question::Common(vec![0, 1]),
     ];
@@ -248,8 +267,9 @@ fn s5_to_s12_as_typed_answers() {
     let expected = [
         Answer::Rank(Some(15)),
         Answer::Rank(None),
-        Answer::Bound(Some(Found { page: 21, rank: 6 })),
-        Answer::Bound(None),
+        at_bound(Some(21), 6),
+        at_bound(Some(43), 7),
+        at_bound(None, 8),
         Answer::Common {
             seeks: 5,
             looks: 5,
@@ -263,6 +283,22 @@ fn s5_to_s12_as_typed_answers() {
         panic!("a phrase was asked")
     };
     assert!(starts.eq([PageStarts { page: 1, starts: 2 }]));
+}
+
+/// Every bound up to one past U, and the largest, on S1's list and on an empty one.
+#[test]
+fn typed_bounds_tell_the_pages_below() {
+    let words: [&[u32]; 2] = [&S1_LIST, &[]];
+    let card = card_of_pages(44, &words);
+    for (term, pages) in (0..).zip(words) {
+        for bound in (0..=45).chain([u32::MAX]) {
+            let first = pages.iter().find(|page| **page >= bound);
+            let below = pages.iter().filter(|page| **page < bound).count();
+            let answers = ask_all(&card, &[Question::Bound { term, bound }]).unwrap();
+            let expected = at_bound(first.copied(), below as u32);
+            assert!(answers.iter().eq([expected]), "bound {bound}");
+        }
+    }
 }
 
 #[test]

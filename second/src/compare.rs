@@ -138,6 +138,8 @@ mod tests {
         AnswersZero,
         AnswersOnlyTheFirst,
         CountsASeekMore,
+        TellsNoPagesBelow,
+        CountsAPageBelowMore,
         AcceptsAnyPointer,
         WritesBehindTheBlock,
         TellsALengthOnRefusal,
@@ -204,7 +206,9 @@ mod tests {
         }
 
         fn ask(&self, card: &[u8], questions: &[u32], room: &mut [u32]) -> Asked {
+            let before = room.to_vec();
             let asked = Plain.ask(card, questions, room);
+            let finds_none = asked.used == 2 && questions[0] == 2;
             match self {
                 Slip::AnswersZero => room[..asked.used].fill(0),
                 Slip::AnswersOnlyTheFirst if asked.answered > 1 => {
@@ -212,6 +216,12 @@ mod tests {
                     room[first..asked.used].fill(0);
                 }
                 Slip::CountsASeekMore if asked.used > 1 && questions[0] == 3 => room[1] += 1,
+                Slip::CountsAPageBelowMore if finds_none => room[1] += 1,
+                Slip::TellsNoPagesBelow if finds_none => {
+                    room.copy_from_slice(&before);
+                    room[0] = 0;
+                    return Asked { used: 1, ..asked };
+                }
                 _ => {}
             }
             asked
@@ -253,6 +263,8 @@ mod tests {
             Slip::AnswersZero,
             Slip::AnswersOnlyTheFirst,
             Slip::CountsASeekMore,
+            Slip::TellsNoPagesBelow,
+            Slip::CountsAPageBelowMore,
             Slip::AcceptsAnyPointer,
             Slip::WritesBehindTheBlock,
             Slip::TellsALengthOnRefusal,

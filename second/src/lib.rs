@@ -1,5 +1,6 @@
-//! The second program: document 01 read afresh on plain lists, a generator of
-//! cases, and a comparison of every host call with the library.
+//! The second program: document 01 and its amendments read afresh on plain
+//! lists, a generator of cases, and a comparison of every host call with the
+//! library.
 
 pub mod case;
 pub mod compare;

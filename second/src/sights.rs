@@ -1,12 +1,12 @@
-//! The edges and limits of document 01 that a compared case has shown.
+//! The edges and limits of document 01 and its amendments that a compared case has shown.
 
 use crate::case::{Case, Outcome};
 use crate::gen::full_size::LONG;
 use crate::plain::bytes::{next_part, number_at};
 use crate::plain::index::INDEX_HEADER;
-use crate::plain::list::{Shape, LIST_HEADER};
+use crate::plain::list::{check_list, Shape, LIST_HEADER};
 use crate::plain::term::{TERM_HEADER, TERM_OPENING};
-use crate::plain::{GREATEST_BOUND, GREATEST_TERMS, GREATEST_WORDS};
+use crate::plain::{refusal, GREATEST_BOUND, GREATEST_TERMS, GREATEST_WORDS};
 
 /// The pointers of a list that has many of them.
 pub const MANY_POINTERS: usize = 256;
@@ -44,13 +44,25 @@ pub enum Sight {
     AskedPointerAtEnd,
     /// A bound was asked for whose seek begins at the run's end.
     SeekAtEnd,
+    /// A bound found no page of a word that has pages.
+    NoneBehindPages,
+    /// A bound was asked for on a word that has no page.
+    NoneWithoutPages,
+    /// A bound equal to U was asked for on a word that has pages.
+    BoundAtU,
+    /// The largest number was asked for as a bound on a word that has pages.
+    LargestBound,
+    /// A bound that finds no page was refused with one number of room left.
+    NoneRefused,
+    /// A bound that finds no page was answered in the last two numbers of the room.
+    NoneInLastTwo,
     /// A question was answered over a list of full size.
     AskedLong,
 }
 
 impl Sight {
     /// Every sight, in the order of the report.
-    pub const ALL: [Sight; 16] = [
+    pub const ALL: [Sight; 22] = [
         Sight::WrittenPointers,
         Sight::WrittenManyPointers,
         Sight::WrittenPointerAtEnd,
@@ -66,6 +78,12 @@ impl Sight {
         Sight::AskedManyPointers,
         Sight::AskedPointerAtEnd,
         Sight::SeekAtEnd,
+        Sight::NoneBehindPages,
+        Sight::NoneWithoutPages,
+        Sight::BoundAtU,
+        Sight::LargestBound,
+        Sight::NoneRefused,
+        Sight::NoneInLastTwo,
         Sight::AskedLong,
     ];
 
@@ -93,6 +111,14 @@ impl Sight {
                 "questions answered on a list with a pointer at the run's end".into()
             }
             Sight::SeekAtEnd => "bounds answered whose seek begins at the run's end".into(),
+            Sight::NoneBehindPages => "bounds answered with none on a word with pages".into(),
+            Sight::NoneWithoutPages => "bounds answered with none on a word without pages".into(),
+            Sight::BoundAtU => "bounds answered that are U on a word with pages".into(),
+            Sight::LargestBound => {
+                format!("bounds answered that are {} on a word with pages", u32::MAX)
+            }
+            Sight::NoneRefused => "bounds with none refused with one number of room left".into(),
+            Sight::NoneInLastTwo => "bounds with none answered in the last two numbers".into(),
             Sight::AskedLong => format!("questions answered on a list of {LONG} or more pages"),
         }
     }
@@ -108,8 +134,13 @@ pub fn sights(case: &Case, plain: &Outcome) -> Vec<Sight> {
             Case::Ask {
                 card, questions, ..
             },
-            Outcome::Asked { answered, .. },
-        ) if *answered > 0 => of_answered(card, questions, *answered),
+            Outcome::Asked {
+                refusal: 0 | refusal::ROOM,
+                answered,
+                after,
+                ..
+            },
+        ) => of_good_questions(card, questions, *answered, &after.room),
         _ => Vec::new(),
     }
 }
@@ -131,13 +162,14 @@ fn of_written(list: &ListBlock) -> Vec<Sight> {
     holding(&sights).collect()
 }
 
-/// The sights of the first questions, so many, over an accepted card.
-fn of_answered(card: &[u8], questions: &[u32], answered: usize) -> Vec<Sight> {
+/// The sights of good questions over an accepted card, the first so many of
+/// them answered in the room, and of the next, which did not fit.
+fn of_good_questions(card: &[u8], questions: &[u32], answered: usize, room: &[u32]) -> Vec<Sight> {
     let pages = page_lists(card);
     let greatest_terms = pages.len() == GREATEST_TERMS as usize;
     let greatest_pages = number_at(card, 5) == GREATEST_BOUND;
     let mut sights = Vec::new();
-    let mut rest = questions;
+    let (mut rest, mut left) = (questions, room);
     for _ in 0..answered {
         let (question, after) = rest.split_at(2 + rest[1] as usize);
         rest = after;
@@ -145,14 +177,42 @@ fn of_answered(card: &[u8], questions: &[u32], answered: usize) -> Vec<Sight> {
         let named = words_of(question).iter();
         let lists: Vec<&ListBlock> = named.map(|word| &pages[*word as usize]).collect();
         sights.extend(of_asked(&lists));
-        let at_end = question[0] == 2 && lists[0].seek_begins_at_end(question[3]);
+        if question[0] == 2 {
+            sights.extend(of_bound(lists[0], question[3], left));
+        }
         sights.extend(holding(&[
-            (at_end, Sight::SeekAtEnd),
             (greatest_terms, Sight::GreatestTerms),
             (greatest_pages, Sight::GreatestPages),
         ]));
+        left = &left[1 + left[0] as usize..];
     }
+    sights.extend(of_refused(&pages, rest, left));
     sights
+}
+
+/// The sights of a bound whose answer stands at the front of the room.
+fn of_bound(list: &ListBlock, bound: u32, room: &[u32]) -> Vec<Sight> {
+    let finds_none = room[0] == 1;
+    let has_pages = list.count() > 0;
+    let sights = [
+        (list.seek_begins_at_end(bound), Sight::SeekAtEnd),
+        (finds_none && has_pages, Sight::NoneBehindPages),
+        (finds_none && !has_pages, Sight::NoneWithoutPages),
+        (has_pages && bound == list.bound(), Sight::BoundAtU),
+        (has_pages && bound == u32::MAX, Sight::LargestBound),
+        (finds_none && room.len() == 2, Sight::NoneInLastTwo),
+    ];
+    holding(&sights).collect()
+}
+
+/// The sight of the first of these questions, which did not fit in the room.
+fn of_refused(pages: &[ListBlock], questions: &[u32], room: &[u32]) -> Option<Sight> {
+    match (questions, room) {
+        ([2, _, word, bound, ..], [_]) => pages[*word as usize]
+            .lies_below(*bound)
+            .then_some(Sight::NoneRefused),
+        _ => None,
+    }
 }
 
 /// The words that a good question names.
@@ -221,6 +281,12 @@ impl ListBlock<'_> {
         last.is_some_and(|last| number_at(self.0, LIST_HEADER + 4 * last) as usize == run_end)
     }
 
+    /// Whether every element is below this bound.
+    fn lies_below(&self, bound: u32) -> bool {
+        let list = check_list(self.0).expect("the list is valid");
+        list.elements.iter().all(|element| *element < bound)
+    }
+
     /// Whether a fresh seek for this bound goes by a pointer to the run's end.
     fn seek_begins_at_end(&self, bound: u32) -> bool {
         let has_all_zeros_before = |shape: Shape| (bound >> shape.width) as usize == shape.zeros;
@@ -287,7 +353,7 @@ mod tests {
     fn an_answered_question_shows_its_kind_and_its_words() {
         let of_kind = |questions: &[u32]| asked(9, &[3], 2, questions, 99);
         assert_eq!(of_kind(&[1, 2, 0, 0]), [Sight::AtRank]);
-        assert_eq!(of_kind(&[2, 2, 1, 4]), [Sight::AtBound]);
+        assert_eq!(of_kind(&[2, 2, 1, 3]), [Sight::AtBound]);
         assert_eq!(of_kind(&[3, 2, 1, 0]), [Sight::Common]);
         assert_eq!(of_kind(&[4, 1, 1]), [Sight::Phrase]);
         let eight = [Sight::Common, Sight::CommonOfEight];
@@ -306,11 +372,50 @@ mod tests {
     fn a_bound_behind_the_last_pointer_shows_a_seek_at_the_runs_end() {
         let even: Vec<u32> = (0..256).map(|i| 2 * i).collect();
         let at_bound = |bound| asked(513, &even, 1, &[2, 2, 0, bound], 3);
-        let pointer_at_end = [Sight::AtBound, Sight::AskedPointerAtEnd];
-        assert_eq!(at_bound(511), pointer_at_end);
-        assert_eq!(at_bound(513), pointer_at_end);
-        let seek_at_end = [Sight::AtBound, Sight::AskedPointerAtEnd, Sight::SeekAtEnd];
-        assert_eq!(at_bound(512), seek_at_end);
+        let found = [Sight::AtBound, Sight::AskedPointerAtEnd];
+        assert_eq!(at_bound(510), found);
+        let none = [&found[..], &[Sight::NoneBehindPages]].concat();
+        assert_eq!(at_bound(511), none);
+        assert_eq!(at_bound(513), [&none[..], &[Sight::BoundAtU]].concat());
+        let seek_at_end = [Sight::SeekAtEnd, Sight::NoneBehindPages];
+        assert_eq!(at_bound(512), [found, seek_at_end].concat());
+    }
+
+    #[test]
+    fn a_bound_shows_how_it_finds_none() {
+        let at_bound = |on: &[u32], bound| {
+            let mut sights = asked(9, on, 1, &[2, 2, 0, bound], 3);
+            assert_eq!(sights.remove(0), Sight::AtBound);
+            sights
+        };
+        assert_eq!(at_bound(&[3], 3), []);
+        assert_eq!(at_bound(&[3], 4), [Sight::NoneBehindPages]);
+        let at_u = [Sight::NoneBehindPages, Sight::BoundAtU];
+        assert_eq!(at_bound(&[3], 9), at_u);
+        let largest = [Sight::NoneBehindPages, Sight::LargestBound];
+        assert_eq!(at_bound(&[3], u32::MAX), largest);
+        for bound in [0, 9, u32::MAX] {
+            assert_eq!(at_bound(&[], bound), [Sight::NoneWithoutPages]);
+        }
+    }
+
+    #[test]
+    fn a_bound_that_finds_none_shows_the_room_it_is_left() {
+        let in_room = |questions: &[u32], room| {
+            let mut sights = asked(9, &[3], 1, questions, room);
+            sights.retain(|sight| [Sight::NoneRefused, Sight::NoneInLastTwo].contains(sight));
+            sights
+        };
+        let (found, none) = ([2, 2, 0, 3], [2, 2, 0, 4]);
+        assert_eq!(in_room(&none, 0), []);
+        assert_eq!(in_room(&none, 1), [Sight::NoneRefused]);
+        assert_eq!(in_room(&none, 2), [Sight::NoneInLastTwo]);
+        assert_eq!(in_room(&none, 3), []);
+        assert_eq!(in_room(&found, 1), []);
+        let both = [found, none].concat();
+        assert_eq!(in_room(&both, 2), []);
+        assert_eq!(in_room(&both, 4), [Sight::NoneRefused]);
+        assert_eq!(in_room(&both, 5), [Sight::NoneInLastTwo]);
     }
 
     #[test]

@@ -3,7 +3,7 @@ from reading import flow, tree
 from sentences.names import FRESH, LOOK, LOW_PART, OF_SEEK, POINTER, RUN_WORD, SEEK, of_seek
 
 NUMBERS = {
-    "walklaws::Cursor": {"mark": "u32", "bit": "u32", "seeks": "u32", "looks": "u32"},
+    "walklaws::Cursor": {"mark": "u32", "rank": "u32", "seeks": "u32", "looks": "u32"},
     "shape::Shape": dict.fromkeys(["u", "n", "w", "bits", "lower", "upper", "end"], "usize"),
 }
 # what other crates call of the seek's

@@ -95,10 +95,11 @@ unsafe fn page_at(mut cursor: Cursor, rank: u32) -> Short {
     [1, cursor.place.mark - 1, 0]
 }
 
+/// The first page at or above the bound and its rank, or the number of pages, which then all lie below it.
 #[inline(always)]
 unsafe fn page_from(mut cursor: Cursor, bound: u32) -> Short {
     match cursor.seek(bound, &mut 0) {
-        NONE => [0; 3],
+        NONE => [1, cursor.n, 0],
         page => [2, page, cursor.place.passed - 1],
     }
 }

@@ -95,6 +95,12 @@ fn questions(random: &mut Random, card_pages: u32, words: &[Word]) -> Vec<u32> {
         let bound = random.from_to(0, card_pages);
         questions.extend([1, 2, term as u32, rank, 2, 2, term as u32, bound]);
     }
+    for (term, word) in words.iter().enumerate() {
+        let behind_all = word.pages.last().map_or(0, |last| last + 1);
+        for bound in [behind_all, card_pages, u32::MAX] {
+            questions.extend([2, 2, term as u32, bound]);
+        }
+    }
     for kind in [3, 4] {
         for _ in 0..6 {
             let count = random.from_to(1, 4);

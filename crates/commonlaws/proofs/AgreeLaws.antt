@@ -58,9 +58,10 @@ module _ (U b : ℕ) (r : Reader) (k : Ready U b r) where
         let f = sought-first in
         member-gap U (r .pages) (k .rises) b x h (λ g. rw (f .0, f .2) l)
 
-  pub sought-none : seek U (r .pages) (r .cursor) b .found ≡ none → (x : ℕ) → b ≤ x → member x (r .pages) ≡ false
-  sought-none e x h =
-      let f = first-none b (r .pages) (sym seek-plain ∙ e) in
+  pub sought-none : (m : ℕ) → seek U (r .pages) (r .cursor) b .found ≡ none m → (x : ℕ) → b ≤ x
+      → member x (r .pages) ≡ false
+  sought-none m e x h =
+      let f = first-none b (r .pages) m (sym seek-plain ∙ e) in
       member-gap U (r .pages) (k .rises) b x h (λ g. absurd (omega arith))
 
 pub ready-more : (U b d : ℕ) (r : Reader) → Ready U b r → b ≤ d → Ready U d r
@@ -107,9 +108,9 @@ module _ (U c : ℕ) (r : Reader) (rs : List Reader) where
   abbrev this : Sought
   this = seek U (r .pages) (r .cursor) c
 
-  pub agree-none : this .found ≡ none → agree U c (r ∷ rs) ≡ before (r .pages) this (stopped exhausted rs)
+  pub agree-none : (m : ℕ) → this .found ≡ none m → agree U c (r ∷ rs) ≡ before (r .pages) this (stopped exhausted rs)
   unfolding agree before
-  agree-none e = rw (e, agree)
+  agree-none m e = rw (e, agree)
 
   pub agree-larger : (d i : ℕ) → this .found ≡ page d i → c < d
       → agree U c (r ∷ rs) ≡ before (r .pages) this (stopped (larger d) rs)
@@ -131,7 +132,7 @@ agree-kept U c (r ∷ rs) k = go (agree-kept U c rs (k .1)) (this U c r rs .foun
     stops e = before-kept U c r rs (stopped e rs) (k .0) (stopped-kept U c rs e (k .1))
 
     go : Kept U c rs (agree U c rs) → (f : Found) → this U c r rs .found ≡ f → Kept U c (r ∷ rs) (agree U c (r ∷ rs))
-    go m none e = rw (agree-none U c r rs e) (stops exhausted)
+    go m (none n) e = rw (agree-none U c r rs n e) (stops exhausted)
     go m (page d i) e =
         elim (decLt c d) [
           | yes h ↦ rw (agree-larger U c r rs d i e h) (stops (larger d))
@@ -174,8 +175,8 @@ agree-says U c (r ∷ rs) k = go (agree-says U c rs (k .1)) (this U c r rs .foun
   where
     go : Says c (pagesOf rs) (agree U c rs .readers) (agree U c rs .ended) → (f : Found) → this U c r rs .found ≡ f
         → Says c (r .pages ∷ pagesOf rs) (agree U c (r ∷ rs) .readers) (agree U c (r ∷ rs) .ended)
-    go m none e =
-        rw (agree-none U c r rs e) (λ x h. first-lacks x (r .pages) (pagesOf rs) (sought-none U c r (k .0) e x h))
+    go m (none n) e =
+        rw (agree-none U c r rs n e) (λ x h. first-lacks x (r .pages) (pagesOf rs) (sought-none U c r (k .0) n e x h))
     go m (page d i) e =
         elim (decLt c d) [
           | yes h ↦ rw (agree-larger U c r rs d i e h)

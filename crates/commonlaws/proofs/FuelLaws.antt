@@ -27,8 +27,8 @@ module _ (f U : ℕ) (lead : Reader) (others : List Reader) (b : ℕ) where
     where
       go : (g : Found) → this U b lead others .found ≡ g
           → rounds (suc f) U lead others b ≡ roundsOn f U (turned U lead others b)
-      go none e =
-          rw (turned-none U b lead others e)
+      go (none m) e =
+          rw (turned-none U b lead others m e)
           (unfold rounds roundsOn roundsBy behindLead stopped in
           rw (e, rounds) (ap (λ (n : ℕ). counted 1 n [] nothing) (sym (add-zero (this U b lead others .looks)))))
       go (page c i) e = rw (turned-page U b lead others c i e) (ends (agree U c others .ended) refl)

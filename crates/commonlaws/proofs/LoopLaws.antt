@@ -3,6 +3,7 @@ use mathlib.Core.Path.{_≡_, refl, sym, ap, _∙_}
 use mathlib.Core.List.{List, [], _∷_, _++_, append-assoc, append-nil}
 use Prim.Native.Nat.{ℕ, _+_, _≤_, _<_}
 use native.Mathlib.Nat.{add-zero, add-assoc, add-comm}
+use lib.ListN.{length}
 use Rattle.rules.specs.Seek.{none, page, Sought, seek}
 use Rattle.rules.specs.Common.{Reader, Round, before, stopped, agree}
 use Rattle.commonlaws.specs.Readers.{Ready, AllReady, moved}
@@ -31,10 +32,10 @@ module _ (U : ℕ) (lead : Reader) (others : List Reader) (b : ℕ) (k : Ready U
   abbrev first : Sought
   first = seek U (lead .pages) (lead .cursor) b
 
-  pub next-none : first .found ≡ none
-      → nextCommon U lead others b ≡ plus 1 (first .looks) (stop none (moved U b lead) others)
-  next-none e = next-turn U lead others b k a
-      ∙ rw (turned-none U b lead others e) (unfold nextBy behindLead ending stopped plus stop moved in refl)
+  pub next-none : (m : ℕ) → first .found ≡ none m → nextCommon U lead others b
+      ≡ plus 1 (first .looks) (stop (none (length (lead .pages))) (moved U b lead) others)
+  next-none m e = next-turn U lead others b k a
+      ∙ rw (turned-none U b lead others m e) (unfold nextBy behindLead ending stopped plus stop moved in refl)
 
   pub next-page : (c i : ℕ) → first .found ≡ page c i
       → nextCommon U lead others b ≡ plus 1 (first .looks) (midway U (moved U b lead) c i [] others)
@@ -53,10 +54,10 @@ module _ (U : ℕ) (lead : Reader) (c i : ℕ) (done : List Reader) where
     abbrev this : Sought
     this = seek U (r .pages) (r .cursor) c
 
-    pub midway-none : this .found ≡ none
-        → midway U lead c i done (r ∷ rest) ≡ plus 1 (this .looks) (stop none lead (done ++ moved U c r ∷ rest))
-    midway-none e = unfold midway midTurn in
-        rw (agree-none U c r rest e) (unfold before stopped turnOf nextBy ending plus stop moved in refl)
+    pub midway-none : (m : ℕ) → this .found ≡ none m → midway U lead c i done (r ∷ rest)
+        ≡ plus 1 (this .looks) (stop (none (length (lead .pages))) lead (done ++ moved U c r ∷ rest))
+    midway-none m e = unfold midway midTurn in
+        rw (agree-none U c r rest m e) (unfold before stopped turnOf nextBy ending plus stop moved in refl)
 
     pub midway-larger : (d j : ℕ) → this .found ≡ page d j → c < d
         → midway U lead c i done (r ∷ rest) ≡ plus 1 (this .looks) (nextCommon U lead (done ++ moved U c r ∷ rest) d)

@@ -68,9 +68,9 @@ module _ (U b d : ℕ) (lead : Reader) (others : List Reader) (t : Turned) (n : 
     (a : Again U b d lead others (t .lead) (t .others) (t .seeks)) where
   ends-after : (f : Found) → Ends U d (t .lead) (t .others) n f → Ends U b lead others (plus (t .seeks) (t .looks) n) f
   unfolding plus
-  ends-after none o =
-      let p = over-same U lead others (t .lead) (t .others) (w .lead-pages) (w .pages) d (n .seeks) o in
-      record { shared = a .shared ∙ p .shared; few = omega (arith, p .few, a .few) }
+  ends-after (none m) o =
+      let p = over-same U lead others (t .lead) (t .others) (w .lead-pages) (w .pages) d (n .seeks) (o .1) in
+      (o .0 ∙ rw (w .lead-pages), record { shared = a .shared ∙ p .shared; few = omega (arith, p .few, a .few) })
   ends-after (page c i) h =
       let p = hit-same U lead others (t .lead) (t .others) (w .lead-pages) (w .pages) d c i (n .lead) (n .others)
       (n .seeks) h in
@@ -110,7 +110,7 @@ module _ (U : ℕ) where
       go : (e : Turn) → Goes U b lead others t e
           → ((d : ℕ) → To e d → Came U d (t .lead) (t .others) (nextCommon U (t .lead) (t .others) d))
           → Came U b lead others (nextBy (nextCommon U (t .lead) (t .others)) t e)
-      go over o ih = unfold nextBy ending in record { carried = w; ends = o }
+      go over o ih = unfold nextBy ending in record { carried = w; ends = (ap length (w .lead-pages), o) }
       go (hit c i) o ih = unfold nextBy ending in record { carried = w; ends = o }
       go (again d) o ih = unfold nextBy in
           came-after U b d lead others t (nextCommon U (t .lead) (t .others) d) w o (ih d refl)
@@ -127,7 +127,7 @@ module _ (U : ℕ) where
     where
       go : (f : Found) → Ends U b lead others (nextCommon U lead others b) f
           → f ≡ firstShared b (pagesOf others) (lead .pages)
-      go none o = unfold firstShared in rw (o .shared, firstShared)
+      go (none m) o = unfold firstShared in rw (o .1 .shared, firstShared, o .0)
       go (page c i) h = unfold firstShared in rw (h .shared, firstShared) (sym (h .first))
 
   -- one list alone: the next page is its first element at least b
@@ -157,7 +157,7 @@ module _ (U : ℕ) where
     where
       go : (f : Found) → n .found ≡ f
           → counted (t .seeks) (t .looks) [] (onward U n) ≡ onward U (plus (t .seeks) (t .looks) n)
-      go none e = unfold onward plus in
+      go (none m) e = unfold onward plus in
           rw (e, onward) (counted-twice (t .seeks) (t .looks) (n .seeks) (n .looks) [] nothing)
       go (page c i) e =
           unfold onward plus in rw (e, onward) (counted-twice (t .seeks) (t .looks) (n .seeks) (n .looks) (c ∷ [])

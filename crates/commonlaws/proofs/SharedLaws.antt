@@ -55,16 +55,16 @@ first-page b xs c i e =
           (f, rw f at h, rw f at g)
       | no h ↦
           let l : firstAt b xs ≡ length xs = omega (arith, firstAt-le b xs) in
-          let q : none ≡ page c i = sym (first-found b xs ∙ foundAt-none xs (firstAt b xs) l) ∙ e in
+          let q : none (length xs) ≡ page c i = sym (first-found b xs ∙ foundAt-none xs (firstAt b xs) l) ∙ e in
           let z : _≡_ {A = ℕ} 0 1 = cc q in
           absurd (omega arith)
     ]
 
-pub first-none : (b : ℕ) (xs : List ℕ) → firstFrom b 0 xs ≡ none → firstAt b xs ≡ length xs
-first-none b xs e =
+pub first-none : (b : ℕ) (xs : List ℕ) (m : ℕ) → firstFrom b 0 xs ≡ none m → firstAt b xs ≡ length xs
+first-none b xs m e =
     elim (decLt (firstAt b xs) (length xs)) [
       | yes h ↦
-          let q : page (getD xs (firstAt b xs) 0) (firstAt b xs) ≡ none =
+          let q : page (getD xs (firstAt b xs) 0) (firstAt b xs) ≡ none m =
           sym (first-found b xs ∙ foundAt-page xs (firstAt b xs) h) ∙ e in
           let z : _≡_ {A = ℕ} 0 1 = cc q in
           absurd (omega arith)

@@ -56,10 +56,10 @@ module _ (U b : ℕ) (lead : Reader) (others : List Reader) where
   abbrev pub this : Sought
   this = seek U (lead .pages) (lead .cursor) b
 
-  pub turned-none : this .found ≡ none
+  pub turned-none : (m : ℕ) → this .found ≡ none m
       → turned U lead others b ≡ behindLead (lead .pages) this over (stopped exhausted others)
   unfolding turned behindLead
-  turned-none e = rw (e, turned)
+  turned-none m e = rw (e, turned)
 
   pub turned-page : (c i : ℕ) → this .found ≡ page c i
       → turned U lead others b ≡ behindLead (lead .pages) this (turnOf c i (agree U c others .ended)) (agree U c others)
@@ -82,12 +82,12 @@ module _ (U b : ℕ) (lead : Reader) (others : List Reader) where
       );
     }
 
-    none-goes : this .found ≡ none
+    none-goes : (m : ℕ) → this .found ≡ none m
         → Goes U b lead others (behindLead (lead .pages) this over (stopped exhausted others)) over
     unfolding behindLead stopped sharedBy
-    none-goes e = record {
+    none-goes m e = record {
       shared = ap (sharedBy (pagesOf others))
-          (from-none b (lead .pages) (first-none b (lead .pages) (sym (seek-plain U b lead k) ∙ e)));
+          (from-none b (lead .pages) (first-none b (lead .pages) m (sym (seek-plain U b lead k) ∙ e)));
       few = omega arith;
     }
 
@@ -149,7 +149,7 @@ module _ (U b : ℕ) (lead : Reader) (others : List Reader) where
           go : (f : Found) → this .found ≡ f
               → let t = turned U lead others b in
               Carried U lead others (t .lead) (t .others) (t .seeks) (t .looks)
-          go none e = rw (turned-none e) (unfold behindLead moved in
+          go (none m) e = rw (turned-none m e) (unfold behindLead moved in
               behind-carried b (stopped exhausted others) (stopped-kept U b others exhausted a))
           go (page c i) e = rw (turned-page c i e) (unfold behindLead moved in
               behind-carried c (agree U c others) (agree-kept U c others (found-kept c i e)))
@@ -159,7 +159,7 @@ module _ (U b : ℕ) (lead : Reader) (others : List Reader) where
         where
           go : (f : Found) → this .found ≡ f
               → Goes U b lead others (turned U lead others b) (turned U lead others b .turn)
-          go none e = rw (turned-none e) (unfold behindLead in none-goes e)
+          go (none m) e = rw (turned-none m e) (unfold behindLead in none-goes m e)
           go (page c i) e =
               let o = found-kept c i e in
               rw (turned-page c i e) (unfold behindLead in page-goes c i e (agree U c others) (agree-kept U c others o)

@@ -4,7 +4,8 @@
 --                         one list has no page left, the lead is sought again for d, or all are on page c
 --   Turned                that, the readers after it, its seeks and looks
 --   turned U lead others b  one turn: the lead is sought for b, and the others in turn for the page that it found
---   Next                  a page with its rank in the lead, or none; the readers after it, its seeks and looks
+--   Next                  a page with its rank in the lead, or none with the lead's n; the readers after it, its seeks
+--                         and looks
 --   nextIn f U lead others b    turns from the bound b until there is a page or no more, at most f
 --   nextCommon U lead others b  as many turns as it takes
 --   midway U lead c i done rest  the next page where the lead is on page c of rank i,
@@ -17,7 +18,8 @@
 --   commonFrom U ls b     the rule on the lists ls from the bound b on
 --   onward U n            a next page, listed, and the rule from the page behind it
 --   firstShared b ls xs   by plain reading:
---                         the first of xs at least b that is in every list of ls, with its number; or none
+--                         the first of xs at least b that is in every list of ls, with its number; or none with the
+--                         number of xs
 use mathlib.Core.List.{List, [], _∷_, _++_}
 use Prim.Native.Nat.{ℕ, zero, suc, _+_}
 use lib.ListN.{length}
@@ -58,7 +60,7 @@ unfoldable pub turned : ℕ → Reader → List Reader → ℕ → Turned
 turned U lead others b =
     let s : Sought = seek U (lead .pages) (lead .cursor) b in
     elim (s .found) [
-      | none ↦ behindLead (lead .pages) s over (stopped exhausted others)
+      | none _ ↦ behindLead (lead .pages) s over (stopped exhausted others)
       | page c i ↦ behindLead (lead .pages) s (turnOf c i (agree U c others .ended)) (agree U c others)
     ]
 
@@ -87,12 +89,12 @@ plus seeks looks n = record {
 
 -- what comes of a turn, where go is what comes from a bound on
 unfoldable pub nextBy : (ℕ → Next) → Turned → Turn → Next
-nextBy go t over = ending none t
+nextBy go t over = ending (none (length (t .lead .pages))) t
 nextBy go t (again d) = plus (t .seeks) (t .looks) (go d)
 nextBy go t (hit c i) = ending (page c i) t
 
 unfoldable pub nextIn : ℕ → ℕ → Reader → List Reader → ℕ → Next
-nextIn zero U lead others b = stop none lead others
+nextIn zero U lead others b = stop (none (length (lead .pages))) lead others
 nextIn (suc f) U lead others b =
     let t : Turned = turned U lead others b in
     nextBy (nextIn f U (t .lead) (t .others)) t (t .turn)
@@ -136,9 +138,9 @@ roundsBy go t (hit c i) = counted (t .seeks) (t .looks) (c ∷ []) (go (c + 1))
 unfoldable pub onward : ℕ → Next → Tally
 onward U n =
     elim (n .found) [
-      | none ↦ counted (n .seeks) (n .looks) [] nothing
+      | none _ ↦ counted (n .seeks) (n .looks) [] nothing
       | page c _ ↦ counted (n .seeks) (n .looks) (c ∷ []) (allRounds U (n .lead) (n .others) (c + 1))
     ]
 
 unfoldable pub firstShared : ℕ → List (List ℕ) → List ℕ → Found
-firstShared b ls xs = elim (sharedBy ls (from b xs)) [ [] ↦ none | c ∷ _ ↦ firstFrom c 0 xs ]
+firstShared b ls xs = elim (sharedBy ls (from b xs)) [ [] ↦ none (length xs) | c ∷ _ ↦ firstFrom c 0 xs ]

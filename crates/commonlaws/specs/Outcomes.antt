@@ -54,7 +54,7 @@ Goes U b lead others t (again d) = Again U b d lead others (t .lead) (t .others)
 Goes U b lead others t (hit c i) = Hit U b c i lead others (t .lead) (t .others) (t .seeks)
 
 abbrev pub Ends : ℕ → ℕ → Reader → List Reader → Next → Found → Type 0
-Ends U b lead others n none = Over b lead others (n .seeks)
+Ends U b lead others n (none m) = (m ≡ length (lead .pages)) × Over b lead others (n .seeks)
 Ends U b lead others n (page c i) = Hit U b c i lead others (n .lead) (n .others) (n .seeks)
 
 pub record Came (U b : ℕ) (lead : Reader) (others : List Reader) (n : Next) : Type 0 where

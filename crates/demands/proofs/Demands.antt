@@ -21,7 +21,7 @@ use Rattle.rules.specs.ReadTerm.{termRefusal}
 use Rattle.rules.specs.Index.{validCard, card, indexN, indexT, indexRefusal, closeIndex}
 use Rattle.rules.specs.Seek.{upperWords}
 use Rattle.rules.specs.Common.{rounds, common}
-use Rattle.rules.specs.Questions.{commonPages, byCommon, byPhrase, allBelow, goodQuestion, wellFormed, replies}
+use Rattle.rules.specs.Questions.{below, commonPages, byCommon, byPhrase, allBelow, goodQuestion, wellFormed, replies}
 use Rattle.rules.specs.Ask.{Replied, fitting, joined, reply}
 use Rattle.laws.proofs.RefusalLaws.{number-inj}
 use Rattle.listlaws.proofs.Theorems as lists
@@ -34,16 +34,17 @@ use Rattle.hostlaws.specs.declared.HostAsked.{HostAsked}
 use Rattle.hostlaws.specs.Host.{Told, HostListChecked, HostListWritten, HostTermChecked, HostTermWritten}
 use Rattle.hostlaws.specs.Host.{HostIndexChecked, HostIndexClosed, HostAnswered}
 use Rattle.demands.specs.Asking.{ValidWord, Query, written, Good, pagesAt, named, pagesNamed, plain, plainAll}
-use Rattle.demands.specs.Asking.{upperRuns, leadOn, othersOn, times, readingIt}
+use Rattle.demands.specs.Asking.{lastOf, upperRuns, leadOn, othersOn, times, readingIt}
 use Rattle.demands.proofs.WriteLaws.{number-le, to-writable, from-writable, list-keeps, term-keeps, close-keeps}
 use Rattle.demands.proofs.WriteLaws.{close-size, list-writes, list-wrote, told-accepts, accepts-told}
 use Rattle.demands.proofs.WriteLaws.{told-refused, told-success}
 use Rattle.demands.proofs.AskLaws.{Reads, fits, reply-nothing, reply-room, reply-all, all-reply, reads}
 use Rattle.demands.proofs.AskLaws.{written-formed}
-use Rattle.demands.proofs.KindLaws.{length-lists, states-T, may-ask, plain-answers, length-plain, common-told}
+use Rattle.demands.proofs.KindLaws.{length-lists, states-T, pages-rise, may-ask, plain-answers, length-plain, common-told}
 use Rattle.demands.proofs.KindLaws.{common-lists, seeks-most, seeks-same, looks-most, counts-fit}
 use Rattle.demands.proofs.SameLaws.{begins-length, begins-times, times-twice, runs-twice}
-use Rattle.demands.proofs.PlainLaws.{rank-in, rank-past, bound-at, bound-none, rank-length, bound-length}
+use Rattle.demands.proofs.PlainLaws.{rank-in, rank-past, bound-at, bound-none, bound-last, rank-length}
+use Rattle.demands.proofs.PlainLaws.{bound-length}
 
 -- ---- 1. "Any bytes, lists and questions are answered and every call ends. Each refusal is one of document 01's
 -- numbers."
@@ -273,23 +274,37 @@ module _ (N : ℕ) (ts : List Word) (v : validCard N ts ≡ true) (room : List �
         λ k. a .2 ∙ ap (λ (c : List ℕ). laid c room) (rank-past xs rank k),
       )
 
-  -- Kind 2: the first page at or after the bound with its rank, or 0 where there is none.
-  pub by-bound : (t b : ℕ) → t < length ts
-      → HostAnswered (card N ts) (2 ∷ (2 ∷ (t ∷ (b ∷ [])))) room r after → 3 ≤ length room
-      → (r .refusal ≡ 0)
-      × ((i : ℕ) → i < length (pagesAt ts t) → b ≤ getD (pagesAt ts t) i 0
-      → ((j : ℕ) → j < i → getD (pagesAt ts t) j 0 < b)
-      → after ≡ laid (2 ∷ (getD (pagesAt ts t) i 0 ∷ (i ∷ []))) room)
-      × (((j : ℕ) → j < length (pagesAt ts t) → getD (pagesAt ts t) j 0 < b) → after ≡ laid (0 ∷ []) room)
+  -- Kind 2: the first page at or after the bound with its rank; or the number of all pages where there is none, for
+  -- which two numbers of room are enough.
+  pub by-bound : (t b : ℕ) → t < length ts → HostAnswered (card N ts) (2 ∷ (2 ∷ (t ∷ (b ∷ [])))) room r after
+      → ((i : ℕ) → i < length (pagesAt ts t) → b ≤ getD (pagesAt ts t) i 0
+      → ((j : ℕ) → j < i → getD (pagesAt ts t) j 0 < b) → 3 ≤ length room
+      → (r .refusal ≡ 0) × (after ≡ laid (2 ∷ (getD (pagesAt ts t) i 0 ∷ (i ∷ []))) room))
+      × (((j : ℕ) → j < length (pagesAt ts t) → getD (pagesAt ts t) j 0 < b) → 2 ≤ length room
+      → (r .refusal ≡ 0) × (after ≡ laid (1 ∷ (length (pagesAt ts t) ∷ [])) room))
   unfolding plain goodQuestion
-  by-bound t b h p l =
+  by-bound t b h p =
+      let xs = pagesAt ts t in
+      let q : Query = record { kind = 2; numbers = t ∷ (b ∷ []) } in (
+        λ i k m n l.
+            let e = bound-at b xs i k m n in
+            let a = one-answered q (rw (lt-ltb t (length ts) h)) p (omega (arith, ap length e)) in
+            (a .0, a .2 ∙ ap (λ (c : List ℕ). laid c room) e),
+        λ n l.
+            let e = bound-none b xs n in
+            let a = one-answered q (rw (lt-ltb t (length ts) h)) p (omega (arith, ap length e)) in
+            (a .0, a .2 ∙ ap (λ (c : List ℕ). laid c room) e),
+      )
+
+  -- Found or not, the last number of its answer is how many pages of the word lie below the bound.
+  pub pages-below : (t b : ℕ) → t < length ts → HostAnswered (card N ts) (2 ∷ (2 ∷ (t ∷ (b ∷ [])))) room r after
+      → 3 ≤ length room → lastOf after ≡ below b (pagesAt ts t)
+  unfolding plain goodQuestion
+  pages-below t b h p l =
       let xs = pagesAt ts t in
       let q : Query = record { kind = 2; numbers = t ∷ (b ∷ []) } in
-      let a = one-answered q (rw (lt-ltb t (length ts) h)) p (omega (arith, bound-length xs b)) in (
-        a .0,
-        λ i k m n. a .2 ∙ ap (λ (c : List ℕ). laid c room) (bound-at b xs i k m n),
-        λ n. a .2 ∙ ap (λ (c : List ℕ). laid c room) (bound-none b xs n),
-      )
+      let a = one-answered q (rw (lt-ltb t (length ts) h)) p (omega (arith, bound-length xs b)) in
+      ap lastOf (a .2) ∙ bound-last b N xs (pages-rise N ts v t h) room
 
   -- One to eight words, each by its number.
   module _ (terms : List ℕ) (some : 1 ≤ length terms) (few : length terms ≤ 8)

@@ -75,7 +75,7 @@ module _ (N : ℕ) (ts : List Word) (v : validCard N ts ≡ true) where
       let p = below-front (length ts) t terms b in
       rw (holds-pages t (p .0), holds-lists terms (p .1))
 
-  pages-rise : (t : ℕ) → t < length ts → rising 0 N (pagesAt ts t) ≡ true
+  pub pages-rise : (t : ℕ) → t < length ts → rising 0 N (pagesAt ts t) ≡ true
   pages-rise t h =
       let w = accepted-word (card N ts) (card-accepted N ts v) t (rw states-T h) in
       valid-agreeing N (wordAt ts t) (rw (states-N, holds-word t h) at (w .valid)) .rises

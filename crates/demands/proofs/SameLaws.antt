@@ -75,12 +75,12 @@ module _ (U : ℕ) where
     abbrev left : ℕ
     left = leftIn b lead
 
-    exact-none : this U b lead others .found ≡ none → Exact lead others b
+    exact-none : (m : ℕ) → this U b lead others .found ≡ none m → Exact lead others b
     unfolding roundsBy counted nothing behindLead stopped
-    exact-none e s =
+    exact-none m e s =
         let n : from b (lead .pages) ≡ [] =
-        from-none b (lead .pages) (first-none b (lead .pages) (sym (seek-plain U b lead k) ∙ e)) in
-        rw (rounds-turn U lead others b k a, turned-none U b lead others e, n) (omega arith)
+        from-none b (lead .pages) (first-none b (lead .pages) m (sym (seek-plain U b lead k) ∙ e)) in
+        rw (rounds-turn U lead others b k a, turned-none U b lead others m e, n) (omega arith)
 
     module _ (c i : ℕ) (e : this U b lead others .found ≡ page c i) (s : Same (lead .pages) (pagesOf others)) where
       own-first : firstFrom c 0 (lead .pages) ≡ page c i
@@ -127,7 +127,7 @@ module _ (U : ℕ) where
         where
           go : (f : Found) → this U b lead others .found ≡ f
               → allRounds U lead others b .seeks ≡ (1 + length others) * leftIn b lead + 1
-          go none e = exact-none lead others b k a e s
+          go (none m) e = exact-none lead others b k a m e s
           go (page c i) e = exact-page lead others b k a c i e s ih
 
   -- k · m + 1 seeks where all k lists are one of m pages

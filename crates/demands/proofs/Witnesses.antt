@@ -1,6 +1,6 @@
 -- The premises of Demands.antt and Refusals.antt can be met: every input has a result that the promise allows, and
 -- S9's card, its question and small rooms meet the others, by computation.
-use mathlib.Core.Bool.{true}
+use mathlib.Core.Bool.{true, false}
 use mathlib.Core.Path.{_≡_, refl}
 use mathlib.Core.List.{List, [], _∷_}
 use Prim.Native.Nat.{ℕ, zero, suc}
@@ -23,14 +23,15 @@ use Rattle.rules.specs.ReadTerm.{termRefusal}
 use Rattle.rules.specs.Index.{indexFront, terms, card, validWords, validCard, indexN, indexT, termPart, wordOf}
 use Rattle.rules.specs.Index.{termsRefusal, indexRefusal, closeRefusal, closeIndex}
 use Rattle.rules.specs.Seek.{placeOf, bitsOf, cursorBit, startOf, looksTo, walk, gone, arrived, walked, walkFrom, move}
-use Rattle.rules.specs.Seek.{seek}
+use Rattle.rules.specs.Seek.{fresh, rankOf, seek}
 use Rattle.rules.specs.Common.{leadFrom, leadOf, readersOf, before, stopped, agree, counted, nothing, rounds, common}
-use Rattle.rules.specs.Questions.{firstFrom, member, inAll, sharedBy, commonPages, positionsAmong, positionsOn, stands}
+use Rattle.rules.specs.Questions.{firstFrom, below, member, inAll, sharedBy, commonPages, positionsAmong, positionsOn, stands}
 use Rattle.rules.specs.Questions.{startsAmong, starts, withStarts, numbered, pagesIn, listsIn, wordsIn, byRank, byBound}
 use Rattle.rules.specs.Questions.{byCommon, byPhrase, answer, allBelow, goodQuestion, kindOf, countOf, argsOf, behind}
 use Rattle.rules.specs.Questions.{wellFormed, replies}
 use Rattle.rules.specs.Ask.{fitting, fitted, reply, joined, put, ask}
-use Rattle.rules.specs.Table.{s9, s9Word}
+use Rattle.rules.specs.Table.{s1List, s9, s9Word}
+use Rattle.seeklaws.specs.Cursors.{answers, neverDown, ranks, belows}
 use Rattle.listlaws.proofs.RisingLaws.{and-parts}
 use Rattle.hostlaws.specs.declared.HostWritten.{HostWritten}
 use Rattle.hostlaws.specs.declared.HostAsked.{HostAsked}
@@ -144,6 +145,14 @@ unfolding accepted andThen be beAt sized same bit runWord runBit field wordsFor 
     byRank byBound byCommon byPhrase answer allBelow goodQuestion kindOf countOf argsOf behind wellFormed replies
     fitting fitted reply joined put ask s9
 asked-met = (refl, refl, refl)
+
+-- a bound that goes down: the cursor stays on its page and says that page's rank, 7, where two pages lie below
+pub lower-met : (ranks (answers 44 s1List fresh (43 ∷ (5 ∷ []))) ≡ 7 ∷ (7 ∷ []))
+    × (belows s1List (43 ∷ (5 ∷ [])) ≡ 7 ∷ (2 ∷ []))
+    × (neverDown 0 (43 ∷ (5 ∷ [])) ≡ false)
+unfolding ranks rankOf answers belows below neverDown s1List seek move walkFrom walked walk arrived startOf cursorBit
+    placeOf bitsOf looksTo pointer afterZero upper zeros width greatest bit
+lower-met = (refl, refl, refl)
 
 -- ---- writing and closing, done and refused
 

@@ -11,6 +11,7 @@
 --   plain N ts q      the answer to q by plain reading of the words ts of N pages; only the seeks and looks of kind 3
 --                     are the step rule's
 --   plainAll N ts qs  the answer to each, in their order
+--   lastOf a          the last number of an answer at the front of a: its first number says how many follow
 --   upperRuns N ls    the 64-bit words of the lists' upper runs, a list counted as often as it stands there
 --   leadOn ls, othersOn ls  the readers with which the step rule begins on the lists ls, each with a cursor of its own
 --   times xs ls       how many of the lists are xs
@@ -67,6 +68,9 @@ plain N ts q =
 unfoldable pub plainAll : ℕ → List Word → List Query → List (List ℕ)
 plainAll N ts [] = []
 plainAll N ts (q ∷ qs) = plain N ts q ∷ plainAll N ts qs
+
+abbrev pub lastOf : List ℕ → ℕ
+lastOf a = getD a (getD a 0 0) 0
 
 unfoldable pub upperRuns : ℕ → List (List ℕ) → ℕ
 upperRuns N [] = 0

@@ -14,13 +14,14 @@ use walklaws::Landing;
 use walklaws::Ones;
 use walklaws::SPENT;
 
-// The end where there is no element at or above the bound.
-pub fn none() -> Landing
-    ensures { λ r. ⌜ (r .mark ≡ spentMark) × (r .bit ≡ 0) ⌝ }
+// The end where there is no element at or above the bound, of a list of n.
+pub fn none(n: usize) -> Landing
+    requires { ⌜ n < 2 ^ 32 ⌝ }
+    ensures { λ r. ⌜ (r .mark ≡ spentMark) × (r .rank ≡ n) ⌝ }
 {
     Landing {
         mark: SPENT,
-        bit: 0,
+        rank: n as u32,
     }
 }
 
@@ -69,7 +70,7 @@ pub fn land(s: &[u8], g: Shape, b: usize, from: Ones, looks: &mut u32) -> Landin
         if b <= page {
             return Landing {
                 mark: (page + 1) as u32,
-                bit: bit as u32,
+                rank: one.rank as u32,
             };
         }
         let next = Ones {
@@ -80,5 +81,5 @@ pub fn land(s: &[u8], g: Shape, b: usize, from: Ones, looks: &mut u32) -> Landin
         at = next;
     }
     looks::to_end(s, g, at.k, looks);
-    none()
+    none(g.n)
 }

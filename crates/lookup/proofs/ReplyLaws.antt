@@ -42,8 +42,8 @@ count-bound : (xs : List ℕ) (b : ℕ) → Count (byBound xs b)
 unfolding byBound
 count-bound xs b = go (firstFrom b 0 xs)
   where
-    go : (f : Found) → Count (elim f [ none ↦ numbered [] | page x i ↦ numbered (x ∷ (i ∷ [])) ])
-    go none = count-numbered []
+    go : (f : Found) → Count (elim f [ none n ↦ numbered (n ∷ []) | page x i ↦ numbered (x ∷ (i ∷ [])) ])
+    go (none n) = count-numbered (n ∷ [])
     go (page x i) = count-numbered (x ∷ (i ∷ []))
 
 count-common : (N : ℕ) (ls : List (List ℕ)) → Count (byCommon N ls)

@@ -52,9 +52,9 @@ unfolding counted
 counted-none t = rw (zero-add (t .seeks), zero-add (t .looks))
 
 module _ (U : ℕ) (n : Next) where
-  onward-none : n .found ≡ none → onward U n ≡ counted (n .seeks) (n .looks) [] nothing
+  onward-none : (m : ℕ) → n .found ≡ none m → onward U n ≡ counted (n .seeks) (n .looks) [] nothing
   unfolding onward
-  onward-none e = rw (e, onward)
+  onward-none m e = rw (e, onward)
 
   onward-page : (c j : ℕ) → n .found ≡ page c j
       → onward U n ≡ counted (n .seeks) (n .looks) (c ∷ []) (allRounds U (n .lead) (n .others) (c + 1))
@@ -124,7 +124,8 @@ module _ (s sh : List ℕ) (k : ℕ) where
         → (wholeIn s sh k .listed ≡ ps) × Tells (wholeIn s sh k) r
     unfolding counted nothing
     partway-end h r e =
-        let n = onward-none (boundIn sh) here (turned-none s sh k q b (p .running .apt) t u h) in
+        let o = turned-none s sh k q b (p .running .apt) t u h in
+        let n = onward-none (boundIn sh) here (o .0) (o .1) in
         let w = so-far (counted (here .seeks) (here .looks) [] nothing) n in
         let listed : wholeIn s sh k .listed ≡ ps = ap (λ (x : Tally). x .listed) w ∙ append-nil ps in (
           listed,

@@ -8,6 +8,7 @@ use native.Mathlib.Decide.{decLt}
 use native.Mathlib.Omega.{arith}
 use borrow.Author.Tests.{lt-ltb, le-ltb}
 use lib.Dec.{ltb}
+use lib.ListN.{length}
 use Rattle.rules.specs.Seek.{Cursor, fresh, on, spent, none, page, Sought, seek}
 use Rattle.rules.specs.Common.{Reader}
 use Rattle.seeklaws.proofs.SeekLaws.{seek-first, cursorAt-on}
@@ -20,10 +21,10 @@ use Rattle.querylaws.specs.Queries.{listAfter}
 use Rattle.querylaws.proofs.SpanLaws.{span-none, span-cons, span-split, span-snoc, span-same, span-ready}
 
 -- the rank at which a cursor is
-unfoldable pub rankOf : Cursor → ℕ
-rankOf fresh = 0
-rankOf (on i) = i
-rankOf spent = 0
+unfoldable pub cursorRank : Cursor → ℕ
+cursorRank fresh = 0
+cursorRank (on i) = i
+cursorRank spent = 0
 
 module _ (i b d : ℕ) where
   pub listAfter-larger : 0 < i → b < d → listAfter i b d ≡ 0
@@ -48,17 +49,17 @@ module _ (i b d : ℕ) where
 -- k readers f 0, f 1, .., of which number i is to be sought for b: those before it are on b
 unfoldable pub pending : ℕ → ℕ → (ℕ → Reader) → ℕ → ℕ → Next
 pending U k f zero b = nextCommon U (f 0) (span f 1 (k - 1)) b
-pending U k f (suc j) b = midway U (f 0) b (rankOf (f 0 .cursor)) (span f 1 j) (span f (suc j) (k - suc j))
+pending U k f (suc j) b = midway U (f 0) b (cursorRank (f 0 .cursor)) (span f 1 j) (span f (suc j) (k - suc j))
 
 -- all are on b
 pub pending-end : (U k b : ℕ) (f : ℕ → Reader) → 0 < k
-    → pending U k f k b ≡ stop (page b (rankOf (f 0 .cursor))) (f 0) (span f 1 (k - 1))
+    → pending U k f k b ≡ stop (page b (cursorRank (f 0 .cursor))) (f 0) (span f 1 (k - 1))
 unfolding pending
 pending-end U zero b f h = absurd (omega arith)
 pending-end U (suc j) b f h =
     let none-left : suc j - suc j ≡ 0 = omega arith in
     let all-done : suc j - 1 ≡ j = omega arith in
-    rw (none-left, all-done, span-none f (suc j)) (midway-end U (f 0) b (rankOf (f 0 .cursor)) (span f 1 j))
+    rw (none-left, all-done, span-none f (suc j)) (midway-end U (f 0) b (cursorRank (f 0 .cursor)) (span f 1 j))
 
 -- reader i is sought for b, and no other
 pub record Moves (U b i : ℕ) (f g : ℕ → Reader) : Type 0 where
@@ -99,24 +100,25 @@ module _ (U k b : ℕ) (f g : ℕ → Reader) where
     all-ready i n h = span-ready f U b n i (λ j l l′. ready j (omega arith))
 
     -- a seek that finds nothing ends it
-    pub pending-none : (i : ℕ) → i < k → Moves U b i f g → this i .found ≡ none
-        → pending U k f i b ≡ plus 1 (this i .looks) (stop none (g 0) (span g 1 (k - 1)))
+    pub pending-none : (i : ℕ) → i < k → Moves U b i f g → (n : ℕ) → this i .found ≡ none n → pending U k f i b
+        ≡ plus 1 (this i .looks) (stop (none (length (g 0 .pages))) (g 0) (span g 1 (k - 1)))
     unfolding pending
-    pending-none zero h m e =
-        next-none U (f 0) (span f 1 (k - 1)) b (ready 0 h) (all-ready 1 (k - 1) (omega arith)) e
-        ∙ rw (others-same m, m .here)
-    pending-none (suc j) h m e =
+    pending-none zero h m n e =
+        next-none U (f 0) (span f 1 (k - 1)) b (ready 0 h) (all-ready 1 (k - 1) (omega arith)) n e
+        ∙ rw (others-same m, m .here) (unfold moved in refl)
+    pending-none (suc j) h m n e =
         rw (span-cons f (suc j) k h)
-        (midway-none U (f 0) b (rankOf (f 0 .cursor)) (span f 1 j) (f (suc j)) (span f (suc j + 1) (k - (suc j + 1))) e
+        (midway-none U (f 0) b (cursorRank (f 0 .cursor)) (span f 1 j) (f (suc j)) (span f (suc j + 1) (k - (suc j + 1)))
+        n e
         ∙ rw (others-parts j h m, lead-same j h m))
 
     -- the rank of a page is the cursor's
-    lands : (i : ℕ) → i < k → Moves U b i f g → (d r : ℕ) → this i .found ≡ page d r → rankOf (g i .cursor) ≡ r
+    lands : (i : ℕ) → i < k → Moves U b i f g → (d r : ℕ) → this i .found ≡ page d r → cursorRank (g i .cursor) ≡ r
     lands i h m d r e =
         let a = ready i h in
         let t = sought-first U b (f i) a d r e in
         let stands = seek-first U (f i .pages) (a .rises) (f i .cursor) b (a .placed) (a .behind) .cursor in
-        rw (m .here) (unfold moved rankOf in rw (stands, t .0, cursorAt-on (f i .pages) r (t .1)))
+        rw (m .here) (unfold moved cursorRank in rw (stands, t .0, cursorAt-on (f i .pages) r (t .1)))
 
     -- a seek that finds page d leaves what listAfter says
     pub pending-page : (i : ℕ) → i < k → Moves U b i f g → (d r : ℕ) → this i .found ≡ page d r
@@ -129,12 +131,12 @@ module _ (U k b : ℕ) (f g : ℕ → Reader) where
         rw (span-cons f (suc j) k h)
         (elim (decLt b d) [
           | yes l ↦
-              midway-larger U (f 0) b (rankOf (f 0 .cursor)) (span f 1 j) (f (suc j))
+              midway-larger U (f 0) b (cursorRank (f 0 .cursor)) (span f 1 j) (f (suc j))
               (span f (suc j + 1) (k - (suc j + 1))) d r e l
               ∙ rw (lt-ltb 0 (suc j) (omega arith), lt-ltb b d l, others-parts j h m, lead-same j h m)
           | no l ↦
               let s : d ≡ b = omega (arith, sought-least U b (f (suc j)) (ready (suc j) h) d r e) in
-              midway-same U (f 0) b (rankOf (f 0 .cursor)) (span f 1 j) (f (suc j))
+              midway-same U (f 0) b (cursorRank (f 0 .cursor)) (span f 1 j) (f (suc j))
               (span f (suc j + 1) (k - (suc j + 1))) d r e (omega arith)
               ∙ rw (
                 lt-ltb 0 (suc j) (omega arith),

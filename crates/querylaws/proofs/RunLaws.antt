@@ -21,11 +21,11 @@ use Rattle.querylaws.specs.Queries.{cursorIn, withCursor, readerAt, lead
 use Rattle.querylaws.specs.Queries.{markFound, nextFor, listAfter, seekOn, Seekable, Apt, Running}
 use Rattle.querylaws.specs.Queries.{Turned}
 use Rattle.querylaws.proofs.SpanLaws.{length-span, span-cons, span-ready, span-pages}
-use Rattle.querylaws.proofs.PendingLaws.{rankOf, listAfter-larger, listAfter-same, listAfter-le, pending}
+use Rattle.querylaws.proofs.PendingLaws.{cursorRank, listAfter-larger, listAfter-same, listAfter-le, pending}
 use Rattle.querylaws.proofs.PendingLaws.{pending-end}
 use Rattle.querylaws.proofs.ListLaws.{list-within, list-length, span-words}
 use Rattle.querylaws.proofs.QueryLaws.{total-at, left, seek-apt, seek-seeks, mark-some, left-none, left-page}
-use Rattle.querylaws.proofs.QueryLaws.{toCome, endOf, end-none, end-page, page-least}
+use Rattle.querylaws.proofs.QueryLaws.{toCome, endOf, end-all, end-none, end-page, page-least}
 
 apt-more : (s sh : List ℕ) (k : ℕ) (q : Query) (b d : ℕ) → Apt s sh k q b → b ≤ d → Apt s sh k q d
 apt-more s sh k q b d a l = record {
@@ -69,7 +69,7 @@ pub record Narrow (seeks looks : ℕ) : Type 0 where
 module _ (s sh : List ℕ) (k : ℕ) (q : Query) (b : ℕ) (r : Running s sh k q b) where
   ends-few : (f : Found) → Ends (boundIn sh) b (leadIn s sh q) (othersIn s sh k q) (nextFor s sh k q b) f
       → nextFor s sh k q b .seeks ≤ k * leftIn b (leadIn s sh q) + 1
-  ends-few none e = rw (others-count s sh k q b (r .apt)) at (e .few)
+  ends-few (none n) e = rw (others-count s sh k q b (r .apt)) at (e .1 .few)
   ends-few (page c i) e = omega (arith, rw (others-count s sh k q b (r .apt)) at (e .few))
 
   next-narrow : Narrow (seeksOf q + nextFor s sh k q b .seeks) (looksOf q + nextFor s sh k q b .looks)
@@ -157,7 +157,7 @@ module _ (s sh : List ℕ) (k : ℕ) (q₀ : Query) (b₀ : ℕ) where
           }
         where
           go : (g : Found) → g ≡ f → (d : ℕ) → (t .mark ≡ spentMark → ⊥) → t .mark ≤ d → Running s sh k (t .q) d
-          go none g d u l = absurd (u (e ∙ ap markFound (sym g) ∙ (unfold markFound in refl)))
+          go (none n) g d u l = absurd (u (e ∙ ap markFound (sym g) ∙ (unfold markFound in refl)))
           go (page c j) g d u l =
               let m : t .mark ≡ c + 1 = e ∙ ap markFound (sym g) ∙ (unfold markFound in refl) in
               running-from c j d (sym g) (omega (arith, h c j (sym g))) (omega arith)
@@ -176,11 +176,8 @@ module _ (s sh : List ℕ) (k : ℕ) (q₀ : Query) (b₀ : ℕ) where
       let e : i ≡ k = omega (arith, m .within) in
       let p = pending-end (boundIn sh) k b (readerAt s sh q) (m .apt .lists .some) in
       let end = ap (plus (seeksOf q) (looksOf q)) p in
-      let none-left : toCome s sh k q k b .seeks ≡ 0 =
-      ap (λ (n : Next). n .seeks) p ∙ (unfold stop in refl) in
-      let stays : endOf s sh k q k b ≡ q = rw none-left (unfold seekOn in refl) in
-      turned-from (page b (rankOf (leadIn s sh q .cursor))) (record { q = q; mark = b + 1; found = n }) b (m .running) (m .apt)
-      (sym end ∙ rw e at (m .same)) (sym stays ∙ rw e at (m .ends)) (unfold markFound in refl)
+      turned-from (page b (cursorRank (leadIn s sh q .cursor))) (record { q = q; mark = b + 1; found = n }) b (m .running) (m .apt)
+      (sym end ∙ rw e at (m .same)) (sym (end-all s sh k q b (m .apt .lists .some)) ∙ rw e at (m .ends)) (unfold markFound in refl)
       (λ c j z. let x : b ≡ c = cc in omega arith)
 
   module _ (q : Query) (b i : ℕ) (m : Midst q b i) where
@@ -203,7 +200,7 @@ module _ (s sh : List ℕ) (k : ℕ) (q₀ : Query) (b₀ : ℕ) where
       midst-none n =
           rw w
           (λ e.
-          turned-from none (record {
+          turned-from (none (length (pagesAt s sh 0))) (record {
             q = withCursor q i (movedIn s sh i (cursorIn q i) b);
             mark = movedIn s sh i (cursorIn q i) b .mark;
             found = n;

@@ -28,11 +28,11 @@ module _ (s sh : List ℕ) (k : ℕ) (q : Query) (b : ℕ) (a : Apt s sh k q b) 
       rw (on .there) at (rising-below 0 (boundIn sh) (nextFor s sh k q b .lead .pages) rises (on .rank) (on .within))
 
   module _ (t : Turn) (u : Turned s sh k q b t) where
-    pub turned-none : t .mark ≡ spentMark → nextFor s sh k q b .found ≡ none
+    pub turned-none : t .mark ≡ spentMark → (n : ℕ) × (nextFor s sh k q b .found ≡ none n)
     turned-none h = go (nextFor s sh k q b .found) refl
       where
-        go : (f : Found) → nextFor s sh k q b .found ≡ f → nextFor s sh k q b .found ≡ none
-        go none e = e
+        go : (f : Found) → nextFor s sh k q b .found ≡ f → (n : ℕ) × (nextFor s sh k q b .found ≡ none n)
+        go (none n) e = (n, e)
         go (page c j) e =
             let m : t .mark ≡ c + 1 = u .mark ∙ ap markFound e ∙ (unfold markFound in refl) in
             absurd (omega (arith, found-below c j e, list-within s sh 0 (a .lists .each 0 (a .lists .some))))
@@ -44,7 +44,7 @@ module _ (s sh : List ℕ) (k : ℕ) (q : Query) (b : ℕ) (a : Apt s sh k q b) 
       where
         go : (f : Found) → nextFor s sh k q b .found ≡ f
             → (c : ℕ) × (j : ℕ) × (t .mark ≡ c + 1) × (nextFor s sh k q b .found ≡ page c j)
-        go none e = absurd (h (u .mark ∙ ap markFound e ∙ (unfold markFound in refl)))
+        go (none n) e = absurd (h (u .mark ∙ ap markFound e ∙ (unfold markFound in refl)))
         go (page c j) e = (c, j, u .mark ∙ ap markFound e ∙ (unfold markFound in refl), e)
 
     pub turned-fewer : (t .mark ≡ spentMark → ⊥) → leftIn (t .mark) (leadIn s sh (t .q)) < leftIn b (leadIn s sh q)

@@ -2,4 +2,3 @@ pub mod Lists
 pub mod Queries
 pub mod Batches
 pub mod Listings
-pub mod Ranks

@@ -1,6 +1,7 @@
 -- Queries, the readers of the step rule that one holds, and what the next common page makes of it.
 --
 --   cursorIn q i        cursor number i
+--   rankIn q i          the rank of the page that it is on, or its list's n where it is spent
 --   withCursor q i c    the query with that cursor in its place
 --   newQuery            eight cursors that no seek has moved
 --   readerAt s sh q i   the rule's reader that cursor i is, on the lists that sh places in the card s
@@ -38,6 +39,9 @@ use Rattle.querylaws.specs.Lists.{span, pagesAt, boundIn, ListAt, Lists}
 abbrev pub cursorIn : Query → ℕ → Cursor
 cursorIn q i = getD (q .cursors) i unused
 
+abbrev pub rankIn : Query → ℕ → ℕ
+rankIn q i = cursorIn q i .rank
+
 abbrev pub withCursor : Query → ℕ → Cursor → Query
 withCursor q i c = record { cursors = set (q .cursors) i c }
 
@@ -45,7 +49,7 @@ unfoldable pub newQuery : Query
 newQuery = record { cursors = replicate 8 unused }
 
 unfoldable pub readerAt : List ℕ → List ℕ → Query → ℕ → Reader
-readerAt s sh q i = record { pages = pagesAt s sh i; cursor = ruleCursor (boundIn sh) (pagesAt s sh i) (cursorIn q i) }
+readerAt s sh q i = record { pages = pagesAt s sh i; cursor = ruleCursor (cursorIn q i) }
 
 abbrev pub leadIn : List ℕ → List ℕ → Query → Reader
 leadIn s sh q = readerAt s sh q 0
@@ -67,7 +71,7 @@ unfoldable pub looksOf : Query → ℕ
 looksOf q = total (λ c. c .looks) (q .cursors)
 
 unfoldable pub markFound : Found → ℕ
-markFound none = spentMark
+markFound (none _) = spentMark
 markFound (page c _) = c + 1
 
 abbrev pub nextFor : List ℕ → List ℕ → ℕ → Query → ℕ → Next
@@ -84,14 +88,14 @@ seekOn s sh (suc n) q i b =
 
 pub record Seekable (s sh : List ℕ) (i : ℕ) (c : Cursor) : Type 0 where
   pub list : ListAt s sh i
-  pub held : Held (boundIn sh) (pagesAt s sh i) c
+  pub held : Held (pagesAt s sh i) c
   pub seeks : c .seeks < 2 ^ 31
   pub looks : c .looks < 2 ^ 31
 
 pub record Apt (s sh : List ℕ) (k : ℕ) (q : Query) (b : ℕ) : Type 0 where
   pub lists : Lists s sh k
   pub eight : length (q .cursors) ≡ 8
-  pub held : (i : ℕ) → i < k → Held (boundIn sh) (pagesAt s sh i) (cursorIn q i)
+  pub held : (i : ℕ) → i < k → Held (pagesAt s sh i) (cursorIn q i)
   pub ready : (i : ℕ) → i < k → Ready (boundIn sh) b (readerAt s sh q i)
 
 -- each page of the lead that is left costs at most k seeks, and each look is paid for by a seek or a word passed

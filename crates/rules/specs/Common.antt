@@ -64,7 +64,7 @@ agree U c [] = stopped agreed []
 agree U c (r ∷ rs) =
     let s : Sought = seek U (r .pages) (r .cursor) c in
     elim (s .found) [
-      | none ↦ before (r .pages) s (stopped exhausted rs)
+      | none _ ↦ before (r .pages) s (stopped exhausted rs)
       | page d _ ↦ elim (ltb c d) [
         | true ↦ before (r .pages) s (stopped (larger d) rs)
         | false ↦ before (r .pages) s (agree U c rs)
@@ -88,7 +88,7 @@ rounds (suc f) U lead others b =
     let s : Sought = seek U (lead .pages) (lead .cursor) b in
     let moved : Reader = record { pages = lead .pages; cursor = s .cursor } in
     elim (s .found) [
-      | none ↦ counted 1 (s .looks) [] nothing
+      | none _ ↦ counted 1 (s .looks) [] nothing
       | page c _ ↦
           let r : Round = agree U c others in
           elim (r .ended) [

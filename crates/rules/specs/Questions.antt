@@ -1,7 +1,9 @@
 -- Questions over a card [01 Questions]. Pages, ranks and starts are by plain reading; only a kind 3 answer's
 -- seeks and looks are the step rule's.
 --
---   firstFrom b i xs       the first element at least b with its number, xs those from number i on; or none
+--   firstFrom b i xs       the first element at least b with its number, xs those from number i on; or none, with the
+--                          number of all
+--   below b xs             how many of xs are below b
 --   inAll x ls             whether x is in every list
 --   commonPages ls         the pages that all the lists hold
 --   positionsOn p t        the positions of word t on page p
@@ -22,8 +24,12 @@ use Rattle.rules.specs.Seek.{Found, none, page}
 use Rattle.rules.specs.Common.{common}
 
 unfoldable pub firstFrom : ℕ → ℕ → List ℕ → Found
-firstFrom b i [] = none
+firstFrom b i [] = none i
 firstFrom b i (x ∷ xs) = elim (leb b x) [ true ↦ page x i | false ↦ firstFrom b (i + 1) xs ]
+
+unfoldable pub below : ℕ → List ℕ → ℕ
+below b [] = 0
+below b (x ∷ xs) = cond (ltb x b) 1 0 + below b xs
 
 unfoldable pub member : ℕ → List ℕ → Bool
 member x [] = false
@@ -89,7 +95,7 @@ unfoldable pub byRank : List ℕ → ℕ → List ℕ
 byRank xs r = cond (ltb r (length xs)) (numbered (getD xs r 0 ∷ [])) (numbered [])
 
 unfoldable pub byBound : List ℕ → ℕ → List ℕ
-byBound xs b = elim (firstFrom b 0 xs) [ none ↦ numbered [] | page x i ↦ numbered (x ∷ (i ∷ [])) ]
+byBound xs b = elim (firstFrom b 0 xs) [ none n ↦ numbered (n ∷ []) | page x i ↦ numbered (x ∷ (i ∷ [])) ]
 
 unfoldable pub byCommon : ℕ → List (List ℕ) → List ℕ
 byCommon N ls = numbered (common N ls .seeks ∷ (common N ls .looks ∷ commonPages ls))

@@ -52,9 +52,9 @@ unfoldable pub sameRefusal : Refusal → Refusal → Bool
 sameRefusal r q = eqb (number r) (number q)
 
 unfoldable pub sameFound : Found → Found → Bool
-sameFound none none = true
-sameFound none (page x i) = false
-sameFound (page y j) none = false
+sameFound (none n) (none m) = eqb n m
+sameFound (none n) (page x i) = false
+sameFound (page y j) (none m) = false
 sameFound (page y j) (page x i) = eqb y x && eqb j i
 
 unfoldable pub soughtSo : ℕ → List ℕ → Cursor → List Step → Bool

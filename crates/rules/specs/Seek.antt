@@ -1,7 +1,8 @@
 -- How a seek moves, and what it counts: the step rule on one list [01 How a seek moves].
 --
 --   Cursor          fresh, on element number i, or spent
---   Found           none, or a page with its rank
+--   Found           none with the list's n, or a page with its rank
+--   rankOf f        the number that either carries: the page's rank, or n
 --   Sought          what a seek answers: found, the next cursor, looks
 --   placeOf U xs i  the bit of element number i in the upper run
 --   bitsOf U xs     the bits of the upper run; 0 for the empty list
@@ -23,8 +24,12 @@ pub data Cursor : Type 0 where
   spent : Cursor
 
 pub data Found : Type 0 where
-  none : Found
+  none : ℕ → Found
   page : ℕ → ℕ → Found
+
+unfoldable pub rankOf : Found → ℕ
+rankOf (none n) = n
+rankOf (page x i) = i
 
 pub record Sought : Type 0 where
   pub found : Found
@@ -65,8 +70,8 @@ walk w start b i [] = i
 walk w start b i (x ∷ xs) =
     elim (leb start (x / 2 ^ w + i) && leb b x) [ true ↦ i | false ↦ walk w start b (i + 1) xs ]
 
-unfoldable pub gone : ℕ → Sought
-gone looks = record { found = none; cursor = spent; looks = looks }
+unfoldable pub gone : List ℕ → ℕ → Sought
+gone xs looks = record { found = none (length xs); cursor = spent; looks = looks }
 
 unfoldable pub arrived : List ℕ → ℕ → ℕ → Sought
 arrived xs i looks = record { found = page (getD xs i 0) i; cursor = on i; looks = looks }
@@ -74,16 +79,16 @@ arrived xs i looks = record { found = page (getD xs i 0) i; cursor = on i; looks
 -- a walk from start that ended at element number i
 unfoldable pub walked : ℕ → List ℕ → ℕ → ℕ → Sought
 walked U xs start i =
-    cond (eqb i (length xs)) (gone (looksTo start (bitsOf U xs - 1))) (arrived xs i (looksTo start (placeOf U xs i)))
+    cond (eqb i (length xs)) (gone xs (looksTo start (bitsOf U xs - 1))) (arrived xs i (looksTo start (placeOf U xs i)))
 
 unfoldable pub walkFrom : ℕ → List ℕ → ℕ → ℕ → Sought
 walkFrom U xs start b =
-    cond (eqb start (bitsOf U xs)) (gone 0) (walked U xs start (walk (widthOf U xs) start b 0 xs))
+    cond (eqb start (bitsOf U xs)) (gone xs 0) (walked U xs start (walk (widthOf U xs) start b 0 xs))
 
 unfoldable pub move : ℕ → List ℕ → Cursor → ℕ → Sought
-move U xs c b = cond (eqb (length xs) 0 || leb U b) (gone 0) (walkFrom U xs (startOf U xs c b) b)
+move U xs c b = cond (eqb (length xs) 0 || leb U b) (gone xs 0) (walkFrom U xs (startOf U xs c b) b)
 
 unfoldable pub seek : ℕ → List ℕ → Cursor → ℕ → Sought
 seek U xs fresh b = move U xs fresh b
 seek U xs (on i) b = cond (leb b (getD xs i 0)) (arrived xs i 0) (move U xs (on i) b)
-seek U xs spent b = gone 0
+seek U xs spent b = gone xs 0

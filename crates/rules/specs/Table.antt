@@ -52,12 +52,12 @@ atFront pages k = record { pages = pages; counts = replicate k 1; positions = re
 unfoldable pub s12 : List ℕ
 s12 = card 44 (atFront s1List 8 ∷ (atFront (4 ∷ (15 ∷ [])) 2 ∷ []))
 
--- a step that finds, and one that does not
+-- a step that finds a page with its rank, and one that finds none of so many
 abbrev pub finds : ℕ → ℕ → ℕ → ℕ → Step
 finds b x i k = record { bound = b; found = page x i; looks = k }
 
-abbrev pub misses : ℕ → ℕ → Step
-misses b k = record { bound = b; found = none; looks = k }
+abbrev pub misses : ℕ → ℕ → ℕ → Step
+misses b n k = record { bound = b; found = none n; looks = k }
 
 unfoldable pub samples : List Row
 samples =
@@ -68,8 +68,8 @@ samples =
     ∷ (listed (be 21 0x00000015_01_00000003_00000003_0000000000000015) 3 (0 ∷ (1 ∷ (2 ∷ [])))
     -- S5 to S7
     ∷ (sought 44 s1List (finds 16 21 6 1 ∷ (finds 43 43 7 1 ∷ []))
-    ∷ (sought 44 s1List (finds 43 43 7 1 ∷ (finds 5 43 7 0 ∷ (misses 44 0 ∷ (misses 0 0 ∷ []))))
-    ∷ (sought 44 s1List (misses 44 0 ∷ [])
+    ∷ (sought 44 s1List (finds 43 43 7 1 ∷ (finds 5 43 7 0 ∷ (misses 44 8 0 ∷ (misses 0 8 0 ∷ []))))
+    ∷ (sought 44 s1List (misses 44 8 0 ∷ [])
     -- S8
     ∷ (listed s8 300 (stepped 300 0 1)
     ∷ (sought 300 (stepped 300 0 1) (finds 299 299 299 2 ∷ [])
@@ -86,7 +86,7 @@ samples =
     -- w = 1 where U - 1 would give 0; a last pointer at the run's end; both ends of U
     ∷ (listed (be 29 0x0000001D_01_00000004_00000002_0000000000000003_0000000000000005) 4 (1 ∷ (3 ∷ []))
     ∷ (listed (be 17 0x00000051_01_00000100_00000100_00000200 ++ replicate 64 0x55) 256 (stepped 256 0 1)
-    ∷ (sought 256 (stepped 256 0 1) (finds 255 255 255 8 ∷ (misses 256 0 ∷ []))
+    ∷ (sought 256 (stepped 256 0 1) (finds 255 255 255 8 ∷ (misses 256 256 0 ∷ []))
     ∷ (listed (be 13 0x0000000D_01_00000000_00000000) 0 []
     ∷ (listed (be 13 0x0000000D_01_01000000_00000000) 16777216 []
     ∷ (listed (be 29 0x0000001D_01_01000000_00000001_0000000000FFFFFF_0000000000000001) 16777216 (16777215 ∷ [])
@@ -105,9 +105,12 @@ samples =
     ∷ (notList (set (set s8 15 1) 16 0xFF) Runs
     ∷ (asked s9 (3 ∷ (9 ∷ replicate 9 0)) 40 Question 0 []
     ∷ (asked s9 (3 ∷ (1 ∷ (1 ∷ []))) 40 Question 0 []
-    -- kinds 1 and 2 on S12, both ends; room one short at the second question; parts that disagree; the writer's refusals
+    -- kinds 1 and 2 on S12, both ends; none of a word, and of an empty one; room one short; parts that disagree; the writer's refusals
     ∷ (asked s12 (1 ∷ (2 ∷ (0 ∷ (7 ∷ (1 ∷ (2 ∷ (0 ∷ (8 ∷ [])))))))) 40 Accepted 2 (1 ∷ (43 ∷ (0 ∷ [])))
-    ∷ (asked s12 (2 ∷ (2 ∷ (0 ∷ (16 ∷ (2 ∷ (2 ∷ (0 ∷ (44 ∷ [])))))))) 40 Accepted 2 (2 ∷ (21 ∷ (6 ∷ (0 ∷ []))))
+    ∷ (asked s12 (2 ∷ (2 ∷ (0 ∷ (16 ∷ (2 ∷ (2 ∷ (0 ∷ (44 ∷ [])))))))) 40 Accepted 2 (2 ∷ (21 ∷ (6 ∷ (1 ∷ (8 ∷ [])))))
+    ∷ (asked s12 (2 ∷ (2 ∷ (1 ∷ (4294967295 ∷ [])))) 2 Accepted 1 (1 ∷ (2 ∷ []))
+    ∷ (asked s12 (2 ∷ (2 ∷ (1 ∷ (16 ∷ [])))) 1 Room 0 []
+    ∷ (asked (card 5 (atFront [] 0 ∷ [])) (2 ∷ (2 ∷ (0 ∷ (0 ∷ [])))) 40 Accepted 1 (1 ∷ (0 ∷ []))
     ∷ (asked s9 (1 ∷ (2 ∷ (0 ∷ (0 ∷ (3 ∷ (1 ∷ (0 ∷ []))))))) 5 Room 1 (1 ∷ (1 ∷ []))
     ∷ (notIndex (set s9 8 4) Parts
     ∷ (written 44 s1List 29 Accepted
@@ -115,7 +118,7 @@ samples =
     ∷ (written 44 (4 ∷ (4 ∷ [])) 40 Lists
     ∷ (written 16777217 [] 40 Limit
     -- the pointer by b div 2^w; no jump back behind the cursor; back to the lead after a larger page
-    ∷ (sought 1024 (stepped 300 0 3) (finds 600 600 200 2 ∷ (finds 897 897 299 5 ∷ (misses 898 2 ∷ [])))
+    ∷ (sought 1024 (stepped 300 0 3) (finds 600 600 200 2 ∷ (finds 897 897 299 5 ∷ (misses 898 300 2 ∷ [])))
     ∷ (sought 300 (stepped 300 0 1) (finds 290 290 290 2 ∷ (finds 295 295 295 1 ∷ []))
     ∷ (tallied 20 ((1 ∷ (9 ∷ [])) ∷ ((2 ∷ (9 ∷ (10 ∷ []))) ∷ ((1 ∷ (9 ∷ (12 ∷ []))) ∷ []))) 6 6 (9 ∷ [])
-    ∷ []))))))))))))))))))))))))))))))))))))))))))))))
+    ∷ [])))))))))))))))))))))))))))))))))))))))))))))))))

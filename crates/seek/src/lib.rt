@@ -12,7 +12,7 @@ use walklaws::Landing;
 
 // Where a seek for b ends: it stays, is spent with no look, or passes and lands.
 fn find(s: &[u8], g: Shape, c: Cursor, b: usize, looks: &mut u32) -> Landing
-    requires { ⌜ Open (now s) g × Held (listU (now s)) (decode (now s)) c × (now looks < 2 ^ 31) ⌝ }
+    requires { ⌜ Open (now s) g × Held (decode (now s)) c × (now looks < 2 ^ 31) ⌝ }
     ensures { λ r. ⌜ (r ≡ landing (listU (now (s .entry))) (decode (now (s .entry))) c b)
         × (now (looks .exit)
         ≡ now (looks .entry) + looksFor (listU (now (s .entry))) (decode (now (s .entry))) c b) ⌝ }
@@ -20,15 +20,15 @@ fn find(s: &[u8], g: Shape, c: Cursor, b: usize, looks: &mut u32) -> Landing
     if b < c.mark as usize {
         return Landing {
             mark: c.mark,
-            bit: c.bit,
+            rank: c.rank,
         };
     }
     if g.n == 0 || g.u <= b {
-        return landing::none();
+        return landing::none(g.n);
     }
     let from = starting::start(s, g, c, b);
     if from.own == 0 && from.bit == g.bits {
-        return landing::none();
+        return landing::none(g.n);
     }
     let at = passing::pass(s, g, b, from, looks);
     landing::land(s, g, b, at, looks)
@@ -37,7 +37,7 @@ fn find(s: &[u8], g: Shape, c: Cursor, b: usize, looks: &mut u32) -> Landing
 // One seek for b: the cursor moves as the step rule says, and this function alone adds one seek. The count that every
 // look of it adds to is the cursor's own.
 pub fn seek(s: &[u8], g: Shape, c: Cursor, b: usize) -> Cursor
-    requires { ⌜ Open (now s) g × Held (listU (now s)) (decode (now s)) c
+    requires { ⌜ Open (now s) g × Held (decode (now s)) c
         × (c .seeks < 2 ^ 31) × (c .looks < 2 ^ 31) ⌝ }
     ensures { λ r. ⌜ r ≡ movedTo (listU (now (s .entry))) (decode (now (s .entry))) c b ⌝ }
 {
@@ -45,7 +45,7 @@ pub fn seek(s: &[u8], g: Shape, c: Cursor, b: usize) -> Cursor
     let to = find(s, g, c, b, &mut looks);
     Cursor {
         mark: to.mark,
-        bit: to.bit,
+        rank: to.rank,
         seeks: c.seeks + 1,
         looks,
     }

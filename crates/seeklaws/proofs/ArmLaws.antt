@@ -18,7 +18,7 @@ module _ (U : ℕ) (xs : List ℕ) where
   unfolding seek
   seek-stays i b h = rw (le-leb b (getD xs i 0) h)
 
-  pub seek-spent : (b : ℕ) → seek U xs spent b ≡ gone 0
+  pub seek-spent : (b : ℕ) → seek U xs spent b ≡ gone xs 0
   unfolding seek
   seek-spent b = refl
 
@@ -32,11 +32,11 @@ module _ (U : ℕ) (xs : List ℕ) where
         go (on i) m = rw (lt-leb b (getD xs i 0) m)
         go spent m = absurd m
 
-    pub seek-empty : length xs ≡ 0 → seek U xs c b ≡ gone 0
+    pub seek-empty : length xs ≡ 0 → seek U xs c b ≡ gone xs 0
     unfolding move
     seek-empty e = seek-moves ∙ rw (eq-eqb (length xs) 0 e)
 
-    pub seek-past : U ≤ b → 0 < length xs → seek U xs c b ≡ gone 0
+    pub seek-past : U ≤ b → 0 < length xs → seek U xs c b ≡ gone xs 0
     unfolding move
     seek-past h s = seek-moves ∙ rw (ne-eqb (length xs) 0 (λ e. omega arith), le-leb U b h)
 
@@ -45,7 +45,7 @@ module _ (U : ℕ) (xs : List ℕ) where
       unfolding move
       seek-walks = seek-moves ∙ rw (ne-eqb (length xs) 0 (λ e. omega arith), lt-leb U b below)
 
-      pub seek-end : startOf U xs c b ≡ bitsOf U xs → seek U xs c b ≡ gone 0
+      pub seek-end : startOf U xs c b ≡ bitsOf U xs → seek U xs c b ≡ gone xs 0
       unfolding walkFrom
       seek-end e = seek-walks ∙ rw (eq-eqb (startOf U xs c b) (bitsOf U xs) e)
 
@@ -63,7 +63,7 @@ module _ (U : ℕ) (xs : List ℕ) where
           walk-ahead U xs (startOf U xs c b) b (start-ahead U xs r c b p (floor-le c m)),
         )
 
-        pub seek-none : firstAt b xs ≡ length xs → seek U xs c b ≡ gone (looksTo (startOf U xs c b) (bitsOf U xs - 1))
+        pub seek-none : firstAt b xs ≡ length xs → seek U xs c b ≡ gone xs (looksTo (startOf U xs c b) (bitsOf U xs - 1))
         unfolding walked
         seek-none e = seek-walked ∙ rw (eq-eqb (firstAt b xs) (length xs) e)
 

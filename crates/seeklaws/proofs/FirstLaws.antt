@@ -1,18 +1,18 @@
--- Laws of order in a rising list, and of its first element at least b, read plainly or by a walk.
-use mathlib.Core.Bool.{true, cond, and-false}
+-- Laws of order in a rising list, of its first element at least b, read plainly or by a walk, and of how many are below b.
+use mathlib.Core.Bool.{Bool, true, false, cond, and-false}
 use mathlib.Core.Path.{_≡_, refl, sym, ap, _∙_}
 use mathlib.Core.List.{List, [], _∷_}
 use Prim.Native.Nat.{ℕ, zero, suc, _+_, _-_, _/_, _^_, _≤_, _<_}
 use native.Mathlib.Nat.{add-zero, zero-add}
 use native.Mathlib.Decide.{decLe}
 use native.Mathlib.Omega.{arith}
-use borrow.Author.Tests.{le-leb, lt-leb, eq-eqb, ne-eqb}
+use borrow.Author.Tests.{le-leb, lt-leb, lt-ltb, le-ltb, eq-eqb, ne-eqb}
 use lib.Dec.{leb, eqb, eqb·zero-suc, eqb·suc-suc}
 use lib.ListN.{length, getD}
 use Rattle.rules.specs.List.{rising}
-use Rattle.rules.specs.Seek.{none, page, walk}
-use Rattle.rules.specs.Questions.{firstFrom}
-use Rattle.listlaws.proofs.RisingLaws.{rising-at, rising-gap}
+use Rattle.rules.specs.Seek.{none, page, rankOf, walk}
+use Rattle.rules.specs.Questions.{firstFrom, below}
+use Rattle.listlaws.proofs.RisingLaws.{rising-parts, rising-at, rising-gap}
 use Rattle.seeklaws.specs.Cursors.{firstAt, foundAt}
 
 -- ---- order
@@ -112,9 +112,9 @@ walk-first w start b i (x ∷ xs) a =
 -- ---- by plain reading
 
 firstFrom-is : (b i : ℕ) (xs : List ℕ)
-    → firstFrom b i xs ≡ cond (eqb (firstAt b xs) (length xs)) none (page (getD xs (firstAt b xs) 0) (i + firstAt b xs))
+    → firstFrom b i xs ≡ cond (eqb (firstAt b xs) (length xs)) (none (i + firstAt b xs)) (page (getD xs (firstAt b xs) 0) (i + firstAt b xs))
 unfolding firstFrom firstAt
-firstFrom-is b i [] = refl
+firstFrom-is b i [] = ap none (sym (add-zero i))
 firstFrom-is b i (x ∷ xs) =
     elim (decLe b x) [
       | yes h ↦ rw (le-leb b x h, firstFrom, firstAt, eqb·zero-suc, add-zero)
@@ -127,10 +127,46 @@ pub first-found : (b : ℕ) (xs : List ℕ) → firstFrom b 0 xs ≡ foundAt xs 
 unfolding foundAt
 first-found b xs = firstFrom-is b 0 xs ∙ rw zero-add
 
-pub foundAt-none : (xs : List ℕ) (i : ℕ) → i ≡ length xs → foundAt xs i ≡ none
+pub foundAt-none : (xs : List ℕ) (i : ℕ) → i ≡ length xs → foundAt xs i ≡ none (length xs)
 unfolding foundAt
-foundAt-none xs i e = rw (eq-eqb i (length xs) e)
+foundAt-none xs i e = rw (eq-eqb i (length xs) e, e)
 
 pub foundAt-page : (xs : List ℕ) (i : ℕ) → i < length xs → foundAt xs i ≡ page (getD xs i 0) i
 unfolding foundAt
 foundAt-page xs i h = rw (ne-eqb i (length xs) (λ e. omega arith))
+
+-- ---- how many elements are below b
+
+pub foundAt-rank : (xs : List ℕ) (i : ℕ) → rankOf (foundAt xs i) ≡ i
+unfolding foundAt rankOf
+foundAt-rank xs i = go (eqb i (length xs))
+  where
+    go : (e : Bool) → rankOf (cond e (none i) (page (getD xs i 0) i)) ≡ i
+    go true = refl
+    go false = refl
+
+below-none : (b lo U : ℕ) (xs : List ℕ) → rising lo U xs ≡ true → b ≤ lo → below b xs ≡ 0
+unfolding below
+below-none b lo U [] r h = refl
+below-none b lo U (x ∷ xs) r h =
+    let t = rising-parts lo U x xs r in
+    rw (le-ltb x b (omega (arith, t .0)), below-none b (x + 1) U xs (t .2) (omega (arith, t .0)))
+
+-- those before the first that is not
+pub below-first : (b lo U : ℕ) (xs : List ℕ) → rising lo U xs ≡ true → below b xs ≡ firstAt b xs
+unfolding below firstAt
+below-first b lo U [] r = refl
+below-first b lo U (x ∷ xs) r =
+    let t = rising-parts lo U x xs r in
+    elim (decLe b x) [
+      | yes h ↦
+          rw (firstAt-here b x xs h, le-ltb x b h) (omega (arith, below-none b (x + 1) U xs (t .2) (omega arith)))
+      | no h ↦
+          let l : x < b = omega arith in
+          rw (firstAt-past b x xs l, lt-ltb x b l) (omega (arith, below-first b (x + 1) U xs (t .2)))
+    ]
+
+-- the number that plain reading's answer carries
+pub first-rank : (b lo U : ℕ) (xs : List ℕ) → rising lo U xs ≡ true → rankOf (firstFrom b 0 xs) ≡ below b xs
+first-rank b lo U xs r =
+    ap rankOf (first-found b xs) ∙ foundAt-rank xs (firstAt b xs) ∙ sym (below-first b lo U xs r)

@@ -31,7 +31,7 @@ module _ (U : ℕ) (xs : List ℕ) (r : rising 0 U xs ≡ true) where
   abbrev Paid : ℕ → Sought → Type 0
   Paid q s = s .looks + q ≤ reached U xs (s .cursor) + 1
 
-  gone-paid : (q : ℕ) → q ≤ upperWords U xs → Paid q (gone 0)
+  gone-paid : (q : ℕ) → q ≤ upperWords U xs → Paid q (gone xs 0)
   unfolding gone reached
   gone-paid q h = omega arith
 

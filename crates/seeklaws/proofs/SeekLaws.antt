@@ -1,5 +1,5 @@
--- What a seek answers, by plain reading, for every cursor and bound; what the next cursor has passed; and that jumps
--- change neither. The looks are in LookLaws.
+-- What a seek answers, by plain reading, for every cursor and bound; what the next cursor has passed; that jumps change
+-- neither; and how many elements are below the bound. The looks are in LookLaws.
 use mathlib.Core.Bool.{true}
 use mathlib.Core.Path.{_≡_, refl, sym, ap, ap₂, _∙_}
 use mathlib.Core.List.{List, [], _∷_}
@@ -10,14 +10,16 @@ use borrow.Author.Tests.{le-leb, lt-leb, leb-true, eq-eqb, ne-eqb}
 use lib.Dec.{leb}
 use lib.ListN.{length, getD}
 use Rattle.rules.specs.List.{rising, upper, pointer}
-use Rattle.rules.specs.Seek.{Cursor, fresh, on, spent, widthOf, bitsOf, cursorBit}
+use Rattle.rules.specs.Seek.{Cursor, fresh, on, spent, rankOf, widthOf, bitsOf, cursorBit}
 use Rattle.rules.specs.Seek.{startOf, walk, gone, arrived, walked, walkFrom, move, seek}
+use Rattle.rules.specs.Questions.{below}
 use Rattle.listlaws.proofs.RisingLaws.{and-parts}
 use Rattle.seeklaws.specs.Cursors.{firstAt, cursorAt, floor, Placed, Behind, Ahead}
 use Rattle.seeklaws.specs.Cursors.{Answered, moveBy, seekBy, answers, firsts, neverDown}
+use Rattle.seeklaws.specs.Cursors.{ranks, belows}
 use Rattle.seeklaws.proofs.FirstLaws.{rising-lt, rising-below, firstAt-unique, firstAt-self, firstAt-le}
 use Rattle.seeklaws.proofs.FirstLaws.{firstAt-before, firstAt-at, firstAt-none, first-found, foundAt-none}
-use Rattle.seeklaws.proofs.FirstLaws.{foundAt-page}
+use Rattle.seeklaws.proofs.FirstLaws.{foundAt-page, first-rank}
 use Rattle.seeklaws.proofs.JumpLaws.{walk-ahead, place-lt, pointer-ahead, cursor-ahead}
 
 pub cursorAt-spent : (xs : List ℕ) (i : ℕ) → i ≡ length xs → cursorAt xs i ≡ spent
@@ -28,7 +30,7 @@ pub cursorAt-on : (xs : List ℕ) (i : ℕ) → i < length xs → cursorAt xs i 
 unfolding cursorAt
 cursorAt-on xs i h = rw (ne-eqb i (length xs) (λ e. omega arith))
 
-gone-answered : (xs : List ℕ) (b k : ℕ) → firstAt b xs ≡ length xs → Answered xs b (gone k)
+gone-answered : (xs : List ℕ) (b k : ℕ) → firstAt b xs ≡ length xs → Answered xs b (gone xs k)
 unfolding gone
 gone-answered xs b k e = record {
   found = sym (first-found b xs ∙ foundAt-none xs (firstAt b xs) e);
@@ -205,3 +207,22 @@ module _ (U : ℕ) (xs : List ℕ) (r : rising 0 U xs ≡ true) where
 
   pub answers-first : (bs : List ℕ) → neverDown 0 bs ≡ true → answers U xs fresh bs ≡ firsts xs bs
   answers-first bs n = answers-from fresh 0 bs tt (behind-fresh 0) n
+
+  -- ---- how many elements are below the bound
+
+  -- found or none, the stay rule included: the answer carries the number of elements below b
+  pub seek-rank : (c : Cursor) (b : ℕ) → Placed xs c → Behind U xs c b → rankOf (seek U xs c b .found) ≡ below b xs
+  seek-rank c b p h = ap rankOf (seek-first c b p h .found) ∙ first-rank b 0 U xs r
+
+  -- a spent cursor carries the number of all, for any bound
+  pub spent-rank : (b : ℕ) → rankOf (seek U xs spent b .found) ≡ length xs
+  unfolding seek gone rankOf
+  spent-rank b = refl
+
+  ranks-firsts : (bs : List ℕ) → ranks (firsts xs bs) ≡ belows xs bs
+  unfolding ranks firsts belows
+  ranks-firsts [] = refl
+  ranks-firsts (b ∷ bs) = ap₂ _∷_ (first-rank b 0 U xs r) (ranks-firsts bs)
+
+  pub ranks-below : (bs : List ℕ) → neverDown 0 bs ≡ true → ranks (answers U xs fresh bs) ≡ belows xs bs
+  ranks-below bs n = ap ranks (answers-first bs n) ∙ ranks-firsts bs

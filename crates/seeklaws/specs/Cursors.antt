@@ -1,7 +1,7 @@
 -- Cursors on a list of pages, and seeks in turn on one cursor.
 --
 --   firstAt b xs     the number of the first element at least b; the list's length where there is none
---   foundAt xs i     the answer at element number i; none behind the last
+--   foundAt xs i     the answer at element number i; none with all of them behind the last
 --   cursorAt xs i    the cursor there; spent behind the last
 --   floor U xs c     the element at which the cursor is; 0 if fresh, U if spent
 --   Placed xs c      a cursor on an element is on one of xs
@@ -15,6 +15,8 @@
 --   looksOver U xs c bs   and their looks in all
 --   firsts xs bs     the first element at least b, for each bound b, by plain reading
 --   neverDown b bs   whether the bounds bs never go down, from b on
+--   ranks fs         the number that each of the answers fs carries
+--   belows xs bs     how many elements are below b, for each bound b, by plain reading
 use mathlib.Core.Bool.{Bool, true, false, cond, _&&_, _||_}
 use mathlib.Core.Path.{_≡_}
 use mathlib.Core.List.{List, [], _∷_}
@@ -22,15 +24,15 @@ use Prim.Native.Nat.{ℕ, suc, _+_, _/_, _^_, _≤_, _<_, max}
 use lib.Dec.{leb, eqb}
 use lib.ListN.{length, getD}
 use Rattle.rules.specs.Seek.{Cursor, fresh, on, spent, Found, none, page, Sought, widthOf}
-use Rattle.rules.specs.Seek.{placeOf, upperWords, cursorBit, gone, arrived, walkFrom, seek}
-use Rattle.rules.specs.Questions.{firstFrom}
+use Rattle.rules.specs.Seek.{rankOf, placeOf, upperWords, cursorBit, gone, arrived, walkFrom, seek}
+use Rattle.rules.specs.Questions.{firstFrom, below}
 
 unfoldable pub firstAt : ℕ → List ℕ → ℕ
 firstAt b [] = 0
 firstAt b (x ∷ xs) = elim (leb b x) [ true ↦ 0 | false ↦ suc (firstAt b xs) ]
 
 unfoldable pub foundAt : List ℕ → ℕ → Found
-foundAt xs i = cond (eqb i (length xs)) none (page (getD xs i 0) i)
+foundAt xs i = cond (eqb i (length xs)) (none i) (page (getD xs i 0) i)
 
 unfoldable pub cursorAt : List ℕ → ℕ → Cursor
 cursorAt xs i = cond (eqb i (length xs)) spent (on i)
@@ -67,13 +69,13 @@ reached U xs spent = upperWords U xs
 
 unfoldable pub moveBy : (ℕ → ℕ) → ℕ → List ℕ → Cursor → ℕ → Sought
 moveBy jump U xs c b =
-    cond (eqb (length xs) 0 || leb U b) (gone 0)
+    cond (eqb (length xs) 0 || leb U b) (gone xs 0)
     (walkFrom U xs (max (cursorBit U xs c) (jump (b / 2 ^ widthOf U xs / 256))) b)
 
 unfoldable pub seekBy : (ℕ → ℕ) → ℕ → List ℕ → Cursor → ℕ → Sought
 seekBy jump U xs fresh b = moveBy jump U xs fresh b
 seekBy jump U xs (on i) b = cond (leb b (getD xs i 0)) (arrived xs i 0) (moveBy jump U xs (on i) b)
-seekBy jump U xs spent b = gone 0
+seekBy jump U xs spent b = gone xs 0
 
 unfoldable pub answers : ℕ → List ℕ → Cursor → List ℕ → List Found
 answers U xs c [] = []
@@ -90,3 +92,11 @@ firsts xs (b ∷ bs) = firstFrom b 0 xs ∷ firsts xs bs
 unfoldable pub neverDown : ℕ → List ℕ → Bool
 neverDown b [] = true
 neverDown b (d ∷ bs) = leb b d && neverDown d bs
+
+unfoldable pub ranks : List Found → List ℕ
+ranks [] = []
+ranks (f ∷ fs) = rankOf f ∷ ranks fs
+
+unfoldable pub belows : List ℕ → List ℕ → List ℕ
+belows xs [] = []
+belows xs (b ∷ bs) = below b xs ∷ belows xs bs

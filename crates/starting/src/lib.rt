@@ -35,7 +35,7 @@ pub fn start(s: &[u8], g: Shape, c: Cursor, b: usize) -> StartPlace
         };
     }
     StartPlace {
-        bit: c.bit as usize,
+        bit: high + c.rank as usize,
         zeros: high,
         own: (c.mark != 0) as u32,
     }

@@ -94,6 +94,11 @@ module _ (s : List ℕ) (g : Shape) (o : Open s g) where
   pub open-length : length (decode s) ≡ g .n
   open-length = accepted-length s (o .accepted) ∙ open-n
 
+  pub open-few : g .n < 2 ^ 32
+  open-few =
+      let r = open-reads s g o in
+      omega arith
+
   pub open-rising : rising 0 (listU s) (decode s) ≡ true
   open-rising = accepted-rising s (o .accepted)
 

@@ -11,7 +11,7 @@ use Rattle.rules.specs.Limits.{limit}
 use Rattle.rules.specs.Runs.{wordsFor}
 use Rattle.rules.specs.List.{rising}
 use Rattle.rules.specs.Seek.{Cursor as Placing, fresh, on, spent, Sought, placeOf, bitsOf}
-use Rattle.rules.specs.Seek.{upperWords, cursorBit, startOf, looksTo, gone, arrived, seek}
+use Rattle.rules.specs.Seek.{upperWords, startOf, looksTo, gone, arrived, seek}
 use Rattle.seeklaws.specs.Cursors.{firstAt, cursorAt, Moves}
 use Rattle.seeklaws.proofs.FirstLaws.{firstAt-le, firstAt-at}
 use Rattle.seeklaws.proofs.JumpLaws.{start-ahead}
@@ -19,15 +19,15 @@ use Rattle.seeklaws.proofs.SeekLaws.{cursorAt-spent, cursorAt-on}
 use Rattle.seeklaws.proofs.ArmLaws.{seek-stays, seek-spent, seek-empty, seek-past, seek-end, seek-none, seek-finds}
 use Rattle.walklaws.specs.declared.Cursor.{Cursor}
 use Rattle.walklaws.specs.declared.Landing.{Landing}
-use Rattle.walklaws.specs.Cursors.{spentMark, markOf, ruleCursor, Held, landing, looksFor}
+use Rattle.walklaws.specs.Cursors.{spentMark, markOf, rankAt, ruleCursor, Held, landing, looksFor}
 use Rattle.walklaws.specs.Walks.{lastWord}
 use Rattle.walklaws.proofs.CursorLaws.{held-rule, held-floor}
 use Rattle.walklaws.proofs.LandLaws.{last-on, last-none}
 
-landing-ext : (r t : Landing) → r .mark ≡ t .mark → r .bit ≡ t .bit → r ≡ t
+landing-ext : (r t : Landing) → r .mark ≡ t .mark → r .rank ≡ t .rank → r ≡ t
 landing-ext r t m b =
-    let made : ℕ → ℕ → Landing = λ i j. record { mark = i; bit = j } in
-    let e : made (r .mark) (r .bit) ≡ made (t .mark) (t .bit) = rw (m, b) in
+    let made : ℕ → ℕ → Landing = λ i j. record { mark = i; rank = j } in
+    let e : made (r .mark) (r .rank) ≡ made (t .mark) (t .rank) = rw (m, b) in
     e
 
 -- a cursor behind b moves, or is spent
@@ -38,7 +38,7 @@ moves xs (on i) b l = inl (omega arith)
 moves xs spent b l = inr refl
 
 seek-nothing : (U : ℕ) (xs : List ℕ) (a : Placing) (b : ℕ) → markOf xs a ≤ b → (length xs ≡ 0) ⊎ (U ≤ b)
-    → seek U xs a b ≡ gone 0
+    → seek U xs a b ≡ gone xs 0
 seek-nothing U xs a b l h =
     elim (moves xs a b l) [
       | inr e ↦ rw e (seek-spent U xs b)
@@ -56,18 +56,18 @@ abbrev pub Ends : ℕ → List ℕ → Cursor → ℕ → Landing → ℕ → �
 Ends U xs c b r i j = (r ≡ landing U xs c b) × (j ≡ i + looksFor U xs c b)
 
 module _ (U : ℕ) (xs : List ℕ)
-    (rises : rising 0 U xs ≡ true) (within : U ≤ limit) (c : Cursor) (h : Held U xs c) (b : ℕ) where
+    (rises : rising 0 U xs ≡ true) (within : U ≤ limit) (c : Cursor) (h : Held xs c) (b : ℕ) where
   landing-is : (a : Sought) → seek U xs (h .place) b ≡ a → (r : Landing) (i j : ℕ) → r .mark ≡ markOf xs (a .cursor)
-      → r .bit ≡ cursorBit U xs (a .cursor) → j ≡ i + a .looks → Ends U xs c b r i j
+      → r .rank ≡ rankAt xs (a .cursor) → j ≡ i + a .looks → Ends U xs c b r i j
   unfolding landing looksFor
   landing-is a e r i j m p l =
-      let d : seek U xs (ruleCursor U xs c) b ≡ a = rw (held-rule U xs rises within c h) e in
+      let d : seek U xs (ruleCursor c) b ≡ a = rw (held-rule U xs rises within c h) e in
       (landing-ext r (landing U xs c b) (rw d m) (rw d p), l ∙ ap (λ (k : Sought). i + k .looks) (sym d))
 
-  landing-gone : (r : Landing) (i : ℕ) → seek U xs (h .place) b ≡ gone 0 → r .mark ≡ spentMark → r .bit ≡ 0
+  landing-gone : (r : Landing) (i : ℕ) → seek U xs (h .place) b ≡ gone xs 0 → r .mark ≡ spentMark → r .rank ≡ length xs
       → Ends U xs c b r i i
-  unfolding gone markOf cursorBit
-  landing-gone r i e m p = landing-is (gone 0) e r i i m p (omega arith)
+  unfolding gone markOf rankAt
+  landing-gone r i e m p = landing-is (gone xs 0) e r i i m p (omega arith)
 
   -- a cursor on an element at or above b stays, and so does a spent one
   stays-at : (a : Placing) → b < markOf xs a → (seek U xs a b .cursor ≡ a) × (seek U xs a b .looks ≡ 0)
@@ -76,17 +76,17 @@ module _ (U : ℕ) (xs : List ℕ)
   stays-at spent l = rw (seek-spent U xs b) (refl, refl)
   stays-at (on i) l = rw (seek-stays U xs i b (omega arith)) (unfold arrived in (refl, refl))
 
-  pub landing-stays : (r : Landing) (i : ℕ) → b < c .mark → r .mark ≡ c .mark → r .bit ≡ c .bit → Ends U xs c b r i i
+  pub landing-stays : (r : Landing) (i : ℕ) → b < c .mark → r .mark ≡ c .mark → r .rank ≡ c .rank → Ends U xs c b r i i
   landing-stays r i g m p =
       let s = stays-at (h .place) (rw (h .mark-is) at g) in
-      landing-is (seek U xs (h .place) b) refl r i i (rw (s .0) (m ∙ h .mark-is)) (rw (s .0) (p ∙ h .bit-is))
+      landing-is (seek U xs (h .place) b) refl r i i (rw (s .0) (m ∙ h .mark-is)) (rw (s .0) (p ∙ h .rank-is))
       (omega (arith, s .1))
 
   module _ (ahead : c .mark ≤ b) where
     behind : markOf xs (h .place) ≤ b
     behind = rw (h .mark-is) at ahead
 
-    pub landing-none : (r : Landing) (i : ℕ) → (length xs ≡ 0) ⊎ (U ≤ b) → r .mark ≡ spentMark → r .bit ≡ 0
+    pub landing-none : (r : Landing) (i : ℕ) → (length xs ≡ 0) ⊎ (U ≤ b) → r .mark ≡ spentMark → r .rank ≡ length xs
         → Ends U xs c b r i i
     landing-none r i n = landing-gone r i (seek-nothing U xs (h .place) b behind n)
 
@@ -94,21 +94,21 @@ module _ (U : ℕ) (xs : List ℕ)
       abbrev start : ℕ
       start = startOf U xs (h .place) b
 
-      start-is : startOf U xs (ruleCursor U xs c) b ≡ start
+      start-is : startOf U xs (ruleCursor c) b ≡ start
       start-is = ap (λ (a : Placing). startOf U xs a b) (held-rule U xs rises within c h)
 
       goes : Moves xs (h .place) b
       unfolding markOf
       goes = elim (moves xs (h .place) b behind) [ inl m ↦ m | inr e ↦ absurd (omega (arith, rw e at behind)) ]
 
-      pub landing-end : (r : Landing) (i : ℕ) → startOf U xs (ruleCursor U xs c) b ≡ bitsOf U xs → r .mark ≡ spentMark
-          → r .bit ≡ 0 → Ends U xs c b r i i
+      pub landing-end : (r : Landing) (i : ℕ) → startOf U xs (ruleCursor c) b ≡ bitsOf U xs → r .mark ≡ spentMark
+          → r .rank ≡ length xs → Ends U xs c b r i i
       landing-end r i e = landing-gone r i (seek-end U xs (h .place) b goes some below (sym start-is ∙ e))
 
       -- the walk ends at the first element at least b, or at the run's last word
-      pub landing-walked : (r : Landing) (before after : ℕ) → startOf U xs (ruleCursor U xs c) b < bitsOf U xs
-          → r .mark ≡ markOf xs (cursorAt xs (firstAt b xs)) → r .bit ≡ cursorBit U xs (cursorAt xs (firstAt b xs))
-          → after + startOf U xs (ruleCursor U xs c) b / 64 ≡ before + 1 + lastWord U xs (firstAt b xs)
+      pub landing-walked : (r : Landing) (before after : ℕ) → startOf U xs (ruleCursor c) b < bitsOf U xs
+          → r .mark ≡ markOf xs (cursorAt xs (firstAt b xs)) → r .rank ≡ rankAt xs (cursorAt xs (firstAt b xs))
+          → after + startOf U xs (ruleCursor c) b / 64 ≡ before + 1 + lastWord U xs (firstAt b xs)
           → Ends U xs c b r before after
       unfolding gone arrived looksTo upperWords wordsFor
       landing-walked r before after l m p n =
@@ -118,7 +118,7 @@ module _ (U : ℕ) (xs : List ℕ)
           start-ahead U xs rises (h .place) b (h .placed) (held-floor U xs rises within c h b ahead below) in
           elim (ℕ-discrete i (length xs)) [
             | yes e ↦
-                landing-is (gone (looksTo start (bitsOf U xs - 1)))
+                landing-is (gone xs (looksTo start (bitsOf U xs - 1)))
                 (seek-none U xs (h .place) b goes some below rises (h .placed) inside e) r before after
                 (rw (cursorAt-spent xs i e) at m) (rw (cursorAt-spent xs i e) at p)
                 (omega (arith, rw (start-is, last-none U xs i e) at n))

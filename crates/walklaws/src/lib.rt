@@ -3,10 +3,11 @@
 ghost use mathlib.Core.Path.{_≡_};
 ghost use Rattle.walklaws.specs.Cursors.{unused};
 
-// A cursor on a list: its mark is 0 where fresh, page + 1 on an element, or SPENT; the element's bit; and its counts.
+// A cursor on a list: its mark is 0 where fresh, page + 1 on an element, or SPENT; the element's rank, or the list's n
+// where it is spent; and its counts.
 pub struct Cursor {
     pub mark: u32,
-    pub bit: u32,
+    pub rank: u32,
     pub seeks: u32,
     pub looks: u32,
 }
@@ -21,7 +22,7 @@ impl Cursor {
     {
         Cursor {
             mark: 0,
-            bit: 0,
+            rank: 0,
             seeks: 0,
             looks: 0,
         }
@@ -42,8 +43,8 @@ pub struct Ones {
     pub rank: usize,
 }
 
-// Where a search ends: the cursor's mark and bit.
+// Where a search ends: the cursor's mark and rank.
 pub struct Landing {
     pub mark: u32,
-    pub bit: u32,
+    pub rank: u32,
 }

@@ -135,11 +135,11 @@ fn at_rank(pages: &List, rank: u32) -> Vec<u32> {
     page.copied().into_iter().collect()
 }
 
+/// The first page at or above the bound, if there is one, then how many lie below the bound.
 fn at_bound(pages: &List, bound: u32) -> Vec<u32> {
-    match pages.elements.iter().position(|page| *page >= bound) {
-        Some(rank) => vec![pages.elements[rank], rank as u32],
-        None => Vec::new(),
-    }
+    let first = pages.elements.iter().find(|page| **page >= bound);
+    let below = pages.elements.iter().filter(|page| **page < bound).count();
+    first.copied().into_iter().chain([below as u32]).collect()
 }
 
 /// Seeks, looks, then the common pages.
@@ -258,4 +258,50 @@ fn starts_on(terms: &[&Term], page: u32) -> u32 {
         })
     };
     words[0].iter().filter(is_start).count() as u32
+}
+
+#[cfg(test)]
+mod tests {
+    use super::*;
+    use crate::gen::lists;
+    use crate::gen::random::Random;
+
+    fn s1_list() -> List {
+        List {
+            bound: 44,
+            elements: vec![3, 4, 7, 13, 14, 15, 21, 43],
+        }
+    }
+
+    #[test]
+    fn s5_to_s7_tell_the_pages_below_the_bound() {
+        assert_eq!(at_bound(&s1_list(), 16), [21, 6]);
+        assert_eq!(at_bound(&s1_list(), 43), [43, 7]);
+        assert_eq!(at_bound(&s1_list(), 44), [8]);
+        assert_eq!(at_bound(&s1_list(), u32::MAX), [8]);
+    }
+
+    #[test]
+    fn a_word_on_no_page_has_none_below_any_bound() {
+        let nowhere = List {
+            bound: 5,
+            elements: Vec::new(),
+        };
+        for bound in [0, 4, 5, u32::MAX] {
+            assert_eq!(at_bound(&nowhere, bound), [0]);
+        }
+    }
+
+    #[test]
+    fn the_pages_below_a_bound_are_the_rank_of_the_page_found_or_all() {
+        let mut random = Random::of_case(5, 0, 0);
+        for _ in 0..600 {
+            let pages = lists::list(&mut random);
+            let bound = random.from_to(0, pages.bound);
+            match at_bound(&pages, bound)[..] {
+                [page, rank] => assert_eq!(pages.elements[rank as usize], page),
+                ref none => assert_eq!(none, [pages.elements.len() as u32]),
+            }
+        }
+    }
 }

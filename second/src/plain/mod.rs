@@ -1,4 +1,5 @@
-//! Document 01 on plain lists: slow, small and read straight from the text.
+//! Document 01 and its amendments on plain lists: slow, small and read straight
+//! from the text.
 
 pub mod ask;
 pub mod bits;

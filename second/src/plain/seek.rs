@@ -130,6 +130,48 @@ mod tests {
         assert_eq!(none, (None, 15_360));
     }
 
+    /// What a seek tells with its answer: the rank of the element found, or n.
+    fn told(list: &List, cursor: Cursor) -> usize {
+        match cursor {
+            Cursor::On(rank) => rank,
+            _ => list.elements.len(),
+        }
+    }
+
+    #[test]
+    fn bounds_that_never_go_down_are_told_the_elements_below() {
+        let mut random = Random::of_case(8, 0, 0);
+        for _ in 0..600 {
+            let list = lists::list(&mut random);
+            let mut cursor = Cursor::Fresh;
+            let mut bound = 0;
+            for _ in 0..4 {
+                bound = random.from_to(bound, list.bound);
+                seek(&list, &mut cursor, bound);
+                let below = list.elements.iter().filter(|x| **x < bound).count();
+                assert_eq!(told(&list, cursor), below);
+            }
+        }
+    }
+
+    #[test]
+    fn a_lower_bound_is_told_where_the_cursor_stands() {
+        let list = List {
+            bound: 44,
+            elements: vec![3, 4, 7, 13, 14, 15, 21, 43],
+        };
+        let mut cursor = Cursor::Fresh;
+        for (bound, found, number) in [
+            (16, Some(21), 6),
+            (0, Some(21), 6),
+            (44, None, 8),
+            (0, None, 8),
+        ] {
+            assert_eq!(seek(&list, &mut cursor, bound).0, found);
+            assert_eq!(told(&list, cursor), number);
+        }
+    }
+
     /// The seek as a walk over the block's bits, its pointers read from it.
     fn walked(list: &List, from: Option<usize>, bound: u32) -> (Option<u32>, u32) {
         let block = list.block();

@@ -1,16 +1,13 @@
 -- `by_bound` finds the next page of the word's list alone.
 use mathlib.Core.Path.{_≡_, refl}
-use Prim.Native.Nat.{_-_}
 use native.Mathlib.Omega.{arith}
 use borrow.Author.Needs.{needs}
 use Rattle.rules.specs.ReadList.{decode}
 use Rattle.rules.specs.Questions.{pagesIn}
-use Rattle.walklaws.specs.Cursors.{spentMark}
 use Rattle.querylaws.specs.Queries.{newQuery, Turned}
 use Rattle.querylaws.proofs.NewLaws.{new-running}
 use Rattle.querylaws.proofs.BatchLaws.{batched-one}
 use Rattle.kinds.proofs.KindLaws.{pages-are, pages-accepted}
-use Rattle.querylaws.proofs.RankLaws.{Ranked, turned-ranked}
 use Rattle.kinds.proofs.BoundLaws.{bound-none, bound-marked, bound-some}
 use Rattle.kinds.proofs.by_bound.Statement.{statement}
 use Rattle.kinds.proofs.by_bound.Tie as tie
@@ -49,22 +46,12 @@ word-pages c =
     let a = p .before .before .before .args in
     rw (p .pages-in .ensures) (pages-are (a .card .now) (a .t))
 
--- where there is one, the cursor tells its rank
-on-page : (c : tie.After-batch) → (c .batch .result .mark ≡ spentMark → ⊥) →
-    let o = opened c in
-    Ranked (o .before .pages-in .result .now) (o .open-alone .result) (c .batch .result .q) 0
-    (c .batch .result .mark - 1)
-on-page c m =
-    let o = opened c in
-    let s = o .before .pages-in .result .now in
-    let a = o .before .before .before .before .args in
-    let r = o .open-alone .result in
-    turned-ranked s r 1 newQuery (a .bound) (new-running s r 1 (o .open-alone .ensures .lists) (a .bound) .apt)
-    (c .batch .result) (next c) m 0 (omega arith)
+rank-in-requires : tie.Need-rank-in-requires
+rank-in-requires c κs = (omega arith, next (c .before) .eight)
 
 returns : tie.Need-returns
 returns c =
-    let n = c .before .before .before .before .before .before .before .before in
+    let n = c .before .before .before .before .before .before .before .before .before in
     let o = opened n in
     let a = o .before .before .before .before .args in
     rw (
@@ -72,46 +59,29 @@ returns c =
       bound-none (o .before .pages-in .result .now) (o .open-alone .result)
           (o .open-alone .ensures) (a .bound) (n .batch .result) (next n)
           (c .before .before .before .before .before .if1 .taken),
+      ← (c .before .before .before .before .before .before .before .rank-in .ensures),
     )
     (c .before .before .put .ensures)
 
-rank-in-requires : tie.Need-rank-in-requires
-rank-in-requires c κs =
-    let n = c .before .before .before .before in
-    let o = opened n in (
-      o .open-alone .ensures .lists .each 0 (omega arith) .room,
-      omega arith,
-      next n .eight,
-      on-page n (c .before .if1 .left) .on-element,
-    )
-
-sub-t26 : tie.Need-sub-t26
-sub-t26 c =
-    let n = c .before .before .before .before .before .before in
+sub-t24 : tie.Need-sub-t24
+sub-t24 c =
+    let n = c .before .before .before .before .before in
     let o = opened n in
     let a = o .before .before .before .before .args in
     bound-marked (o .before .pages-in .result .now) (o .open-alone .result) (o .open-alone .ensures)
-    (a .bound) (n .batch .result) (next n) (c .before .before .before .if1 .left)
-
-cast-t27 : tie.Need-cast-t27
-cast-t27 c =
-    omega (
-      arith,
-      c .before .rank-in .ensures,
-      on-page (c .before .before .before .before .before .before) (c .before .before .before .if1 .left) .small,
-    )
+    (a .bound) (n .batch .result) (next n) (c .before .if1 .left)
 
 returns-2 : tie.Need-returns-2
 returns-2 c =
-    let n = c .before .before .before .before .before .before .before .before .before .before .before in
+    let n = c .before .before .before .before .before .before .before .before .before .before in
     let o = opened n in
     let a = o .before .before .before .before .args in
     rw (
       word-pages n,
       bound-some (o .before .pages-in .result .now) (o .open-alone .result) (o .open-alone .ensures)
           (a .bound) (n .batch .result) (next n)
-          (c .before .before .before .before .before .before .before .before .if1 .left),
-      ← (c .before .before .before .before .before .before .rank-in .ensures),
+          (c .before .before .before .before .before .before .if1 .left),
+      ← (c .before .before .before .before .before .before .before .before .rank-in .ensures),
     ) (c .before .before .put2 .ensures)
 
 pub by-bound-spec : {M : Type 1} → statement M
@@ -124,14 +94,12 @@ by-bound-spec =
     (λ c κs. search needs)
     (λ c. search needs)
     batch-requires
+    rank-in-requires
     (λ c. search needs)
     (λ c κs. search needs)
     (λ c. search needs)
     returns
-    (λ c. search needs)
-    rank-in-requires
-    sub-t26
-    cast-t27
+    sub-t24
     (λ c. search needs)
     (λ c κs. search needs)
     (λ c. search needs)

@@ -13,7 +13,7 @@ use Rattle.readlaws.proofs.ReadLaws.{open-reads, one-ranks}
 use Rattle.seeklaws.proofs.FirstLaws.{rising-below}
 use Rattle.walklaws.specs.declared.Ones.{Ones}
 use Rattle.walklaws.specs.Walks.{Before, Paid, Walking}
-use Rattle.walklaws.proofs.OpenLaws.{open-U, open-length, open-rising, words-few}
+use Rattle.walklaws.proofs.OpenLaws.{open-U, open-length, open-few, open-rising, words-few}
 use Rattle.walklaws.proofs.WalkLaws.{one-lt, one-bit, one-rank, walking-drop}
 use Rattle.walklaws.proofs.LandLaws.{landed-on, landed-none}
 use Rattle.landing.proofs.land.Statement.{statement}
@@ -90,18 +90,20 @@ cast-t17 : tie.Need-cast-t17 Inv-loop μ-loop
 cast-t17 c = record { fits = omega (arith, turn (c .before .before .before .before) .low, c .before .page-at .ensures) }
 
 cast-t18 : tie.Need-cast-t18 Inv-loop μ-loop
-cast-t18 c = record { fits = omega (arith, turn (c .before .before .before .before) .inside) }
+cast-t18 c =
+    let t = turn (c .before .before .before .before .before) in
+    record { fits = omega (arith, t .number, t .few) }
 
 returns : tie.Need-returns Inv-loop μ-loop
 returns c =
-    let one = c .before .before .before .before in
+    let one = c .before .before .before .before .before in
     let at = one .before .before .before .before .before .loop in
     let start = one .before .before .before .before .before .before .before in
     let t = one .to-one .ensures in
-    let v = c .before .page-at .ensures in
+    let v = c .before .before .page-at .ensures in
     let l = landed-on (start .args .s .now) (start .args .g) (start .pre .0) (start .args .b) (one .to-one .result)
     (t .0 .at) (λ j h. at .inv .1 j (omega (arith, t .0 .rank-kept))) _ (t .0 .some)
-    (omega (arith, v, c .if2 .taken)) (ap (λ (x : ℕ). x + 1) v) refl in
+    (omega (arith, v, c .before .if2 .taken)) (ap (λ (x : ℕ). x + 1) v) refl in
     (l .0, omega (arith, l .1, at .inv .2, t .1))
 
 sub-t19 : tie.Need-sub-t19 Inv-loop μ-loop
@@ -137,6 +139,11 @@ to-end-requires c κs =
     let at = c .before .before .before .before .loop in
     (start .pre .0, at .inv .0 .within, omega (arith, at .inv .2, start .pre .3))
 
+none-requires : tie.Need-none-requires Inv-loop μ-loop
+none-requires c κs =
+    let start = c .before .before .before .before .before .before .before in
+    open-few (start .args .s .now) (start .args .g) (start .pre .0)
+
 returns-2 : tie.Need-returns-2 Inv-loop μ-loop
 returns-2 c =
     let at = c .before .before .before .before .before .before .loop in
@@ -167,5 +174,5 @@ land-spec =
     loop-less
     loop-again
     to-end-requires
-    (λ c κs. tt)
+    none-requires
     returns-2)

@@ -11,7 +11,7 @@ seek-requires c κs =
     let p = c .before .before .before .before .before .before .pre in
     let from = c .before .before .before .number .ensures in
     let to = c .before .before .number2 .ensures in
-    rw (from, to, c .shape-in .ensures) (p .list .opened, rw (p .list .bound) (p .held), p .seeks, p .looks)
+    rw (from, to, c .shape-in .ensures) (p .list .opened, p .held, p .seeks, p .looks)
 
 returns : tie.Need-returns
 unfolding partAt pagesAt

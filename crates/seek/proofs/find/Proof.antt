@@ -7,7 +7,8 @@ use borrow.Author.Needs.{needs}
 use borrow.Author.Tests.{leb-true, leb-false, eqb-true, eqb-false}
 use Rattle.rules.specs.ReadList.{listU, decode}
 use Rattle.walklaws.specs.Cursors.{Moving}
-use Rattle.walklaws.proofs.OpenLaws.{open-U, open-within, open-n, open-length, open-rising, open-ruled}
+use Rattle.walklaws.proofs.OpenLaws.{open-U, open-within, open-n, open-length, open-few, open-rising}
+use Rattle.walklaws.proofs.OpenLaws.{open-ruled}
 use Rattle.walklaws.proofs.StartLaws.{own-inside}
 use Rattle.walklaws.proofs.RuleLaws.{landing-stays, landing-none, landing-end, landing-walked}
 use Rattle.seek.proofs.find.Statement.{statement}
@@ -20,6 +21,11 @@ returns c =
     let o = start .pre .0 in
     landing-stays (listU (a .s .now)) (decode (a .s .now)) (open-rising (a .s .now) (a .g) o)
     (open-within (a .s .now) (a .g) o) (a .c) (start .pre .1) (a .b) _ _ (c .if1 .taken) refl refl
+
+none-requires : tie.Need-none-requires
+none-requires c κs =
+    let start = c .before .before .before .before .before in
+    open-few (start .args .s .now) (start .args .g) (start .pre .0)
 
 returns-2 : tie.Need-returns-2
 returns-2 c =
@@ -34,7 +40,7 @@ returns-2 c =
     (c .before .before .before .if1 .left) _ _ (elim (c .before .if2 .came) [
       | inl w ↦ inl (omega arith)
       | inr w ↦ inr (omega (arith, leb-true))
-    ]) (e .0) (e .1)
+    ]) (e .0) (e .1 ∙ sym n)
 
 -- past the first tests the cursor moves
 moving : (c : tie.Else3) →
@@ -54,6 +60,11 @@ moving c =
 start-requires : tie.Need-start-requires
 start-requires c κs = (c .before .before .before .before .before .before .before .pre .0, moving c)
 
+none-requires-2 : tie.Need-none-requires-2
+none-requires-2 c κs =
+    let start = c .before .before .before .before .before .before .before .before .before .before .before .before .before in
+    open-few (start .args .s .now) (start .args .g) (start .pre .0)
+
 returns-3 : tie.Need-returns-3
 returns-3 c =
     let there = c .before .before .before .before .before .before in
@@ -68,7 +79,8 @@ returns-3 c =
     landing-end (listU (a .s .now)) (decode (a .s .now)) (open-rising (a .s .now) (a .g) o)
     (open-within (a .s .now) (a .g) o) (a .c) (start .pre .1) (a .b)
     (m .ahead) (m .below) (rw (open-length (a .s .now) (a .g) o) some) _ _
-    (sym (e .1) ∙ here ∙ sym (open-ruled (a .s .now) (a .g) o some .bits-is)) (n .0) (n .1)
+    (sym (e .1) ∙ here ∙ sym (open-ruled (a .s .now) (a .g) o some .bits-is)) (n .0)
+    (n .1 ∙ sym (open-length (a .s .now) (a .g) o))
 
 -- where the start is not the run's end
 inside : (c : tie.Joined4) →
@@ -116,7 +128,7 @@ returns-4 c =
     (open-within (a .s .now) (a .g) o) (a .c) (start .pre .1) (a .b)
     (m .ahead) (m .below) (rw (open-length (a .s .now) (a .g) o) some) _ _ _
     (omega (arith, e .1, inside (c .before .before .before .before), open-ruled (a .s .now) (a .g) o some .bits-is)) (l .0 .mark-is)
-    (l .0 .bit-is) (rw (← e .1) (omega (arith, l .1, c .before .before .pass .ensures .1)))
+    (l .0 .rank-is) (rw (← e .1) (omega (arith, l .1, c .before .before .pass .ensures .1)))
 
 pub find-spec : {M : Type 1} → statement M
 find-spec =
@@ -124,10 +136,10 @@ find-spec =
     (tie.spec
     (λ c. search needs)
     returns
-    (λ c κs. tt)
+    none-requires
     returns-2
     start-requires
-    (λ c κs. tt)
+    none-requires-2
     returns-3
     pass-requires
     land-requires

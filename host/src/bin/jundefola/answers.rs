@@ -2,26 +2,46 @@
 
 use std::io::{self, Write};
 
-use jundefola::{Answer, Found, PageStarts, Starts};
+use jundefola::{Answer, PageStarts, Question, Starts};
 
 use crate::numbers::counted;
 
-/// Prints an answer to the end of its line.
-pub fn write_answer(answer: Answer, out: &mut dyn Write) -> io::Result<()> {
-    match answer {
-        Answer::Rank(Some(page)) => writeln!(out, "page {page}"),
-        Answer::Bound(Some(Found { page, rank })) => writeln!(out, "page {page}, rank {rank}"),
-        Answer::Rank(None) | Answer::Bound(None) => writeln!(out, "no page"),
-        Answer::Common {
-            seeks,
-            looks,
-            pages,
-        } => {
+/// Prints the answer to a question to the end of its line.
+pub fn write_answer(question: &Question, answer: Answer, out: &mut dyn Write) -> io::Result<()> {
+    match (question, answer) {
+        (Question::Rank { .. }, Answer::Rank(Some(page))) => writeln!(out, "page {page}"),
+        (Question::Rank { .. }, Answer::Rank(None)) => writeln!(out, "no page"),
+        (Question::Bound { bound, .. }, Answer::Bound { page, below }) => {
+            writeln!(out, "{}", bound_text(*bound, page, below))
+        }
+        (
+            Question::Common(_),
+            Answer::Common {
+                seeks,
+                looks,
+                pages,
+            },
+        ) => {
             write_pages(pages, out)?;
             let seeks = counted(seeks as usize, "seek");
             writeln!(out, " ({seeks}, {})", counted(looks as usize, "look"))
         }
-        Answer::Phrase(starts) => write_starts(starts, out),
+        (Question::Phrase(_), Answer::Phrase(starts)) => write_starts(starts, out),
+        _ => unreachable!("an answer is of its question's kind"),
+    }
+}
+
+/// The page found for a bound, with its rank, and how many pages lie below the bound.
+fn bound_text(bound: u32, page: Option<u32>, below: u32) -> String {
+    let below_text = match below {
+        0 => format!("no page lies below {bound}"),
+        1 => format!("1 page lies below {bound}"),
+        _ => format!("{below} pages lie below {bound}"),
+    };
+    match (page, below) {
+        (Some(page), rank) => format!("page {page}, rank {rank}; {below_text}"),
+        (None, 0) => "no page; the word is on none".into(),
+        (None, _) => format!("no page; {below_text}"),
     }
 }
 
@@ -47,5 +67,24 @@ fn write_heading(pages: usize, out: &mut dyn Write) -> io::Result<()> {
         0 => write!(out, "no page"),
         1 => write!(out, "page"),
         _ => write!(out, "pages"),
+    }
+}
+
+#[cfg(test)]
+mod tests {
+    use super::*;
+
+    #[test]
+    fn a_bound_tells_how_many_pages_lie_below_it() {
+        for (page, below, expected) in [
+            (Some(3), 0, "page 3, rank 0; no page lies below 2"),
+            (Some(3), 1, "page 3, rank 1; 1 page lies below 2"),
+            (Some(3), 2, "page 3, rank 2; 2 pages lie below 2"),
+            (None, 1, "no page; 1 page lies below 2"),
+            (None, 2, "no page; 2 pages lie below 2"),
+            (None, 0, "no page; the word is on none"),
+        ] {
+            assert_eq!(bound_text(2, page, below), expected);
+        }
     }
 }

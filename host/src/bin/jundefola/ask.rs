@@ -45,7 +45,7 @@ pub fn ask(arguments: &[OsString], out: &mut dyn Write) -> Result<(), Problem> {
     })?;
     for (question, answer) in batch.questions.iter().zip(&answers) {
         write!(out, "{}: ", question_text(question, batch.names.as_ref()))?;
-        write_answer(answer, out)?;
+        write_answer(question, answer, out)?;
     }
     Ok(())
 }

@@ -36,7 +36,7 @@ The name may be left out; it has a letter and no colon, and no two are the same.
 page, and `#` starts a comment. Pages, positions and words count from 0.
 
 Questions: rank TERM RANK     the page of the term with that rank
-           at TERM PAGE       the term's first page at or above that page
+           at TERM PAGE       the term's first page at or above that page, and how many lie below it
            common TERM..      the pages that have all the terms
            phrase TERM..      the pages where the terms stand one after the other
 A TERM is the number of a word or, with --names, its name.
