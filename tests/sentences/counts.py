@@ -15,6 +15,7 @@ COUNTING = ["walklaws::Cursor", "querylaws::Listed"]
 # those, the query and what seeks hand on with it, with the places at which they are made
 MADE = {
     "walklaws::Cursor": [FRESH, SEEK],
+    "walklaws::Moved": [SEEK],
     "querylaws::Query": ["querylaws::Query::new"],
     "query::InHand": [LOOP],
     "querylaws::Turn": [LOOP, LOOP, "query::list_common"],
@@ -35,8 +36,11 @@ CALLS = {
     "bycommon::by_common": ["answer::answer_one"],
     "answer::answer_one": ["ask::answer_all"],
 }
-# what `seek_in` is given and gives back: the query, and the cursor in hand
+# what `seek_in` is given and gives back: the query, and the cursor in hand; it is given no rank
 IN_HAND = ("q", "hand")
+NO_RANK = ("rank", "0")
+# what it puts in place of what it was given, and the fields of what the seek gave back that this is
+PUT = {"hand": "cursor", "rank": "rank"}
 TURNS = (tree.If, tree.Match, tree.Loop, tree.For, tree.Leave)
 # functions that take each of their steps once
 STRAIGHT = [SEEK, SEEK_IN]
@@ -84,18 +88,20 @@ def steps_once(program):
 
 
 def cursor_kept(program):
-    """`seek_in` gives the cursor in hand to the seek, and puts in its place what the seek gave back."""
+    """`seek_in` gives the cursor in hand to the seek, and puts in its place the cursor that the seek gave back, with
+    its rank; it changes nothing else."""
     f = program.function(SEEK_IN)
     changes = tree.every(tree.Assign, f.body)
     seeks = [call for callee, call in program.calls(f) if callee == SEEK]
-    if len(changes) != 1 or len(seeks) != 1:
-        yield f"{f.path}: {len(changes)} changes and {len(seeks)} seeks"
+    if len(seeks) != 1:
+        yield f"{f.path}: {len(seeks)} seeks"
         return
-    change, given = changes[0], str(seeks[0].arguments[2])
-    if change.sign != "=" or flow.origin(program, f, change.value) != f"{SEEK}()":
-        yield f"{f.path}: `{change}` is not what the seek gave back"
-    if given != str(change.target) or str(f.body.value) != flow.root(change.target):
-        yield f"{f.path}: the seek is given `{given}`, `{change.target}` is changed, `{f.body.value}` given back"
+    back, given = str(f.body.value), str(seeks[0].arguments[2])
+    told = [(change.sign, str(change.target), flow.origin(program, f, change.value)) for change in changes]
+    if told != [("=", f"{back}.{place}", f"{SEEK}().{field}") for place, field in PUT.items()]:
+        yield f"{f.path}: what the seek gave back is put by {', '.join(f'`{change}`' for change in changes)}"
+    if given != f"{back}.{IN_HAND[1]}":
+        yield f"{f.path}: the seek is given `{given}`, and `{back}` is given back"
 
 
 def query_kept(program):
@@ -141,7 +147,7 @@ def between_wrong(program, f, store, changes):
             yield f"{f.path}: `{step}` between a seek and the storing of its cursor"
     given = [[(node.name, str(node.value)) for node in tree.every(tree.Given, step)] for step in steps
              if flow.origin(program, f, getattr(step, "value", step)) == f"{SEEK_IN}()"]
-    if given != [list(zip(IN_HAND, (flow.root(store.target), steps[0].name)))]:
+    if given != [[*zip(IN_HAND, (flow.root(store.target), steps[0].name)), NO_RANK]]:
         yield f"{f.path}: the seek in that round is not given the query and the cursor of `{store.target}`"
 
 

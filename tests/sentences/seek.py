@@ -3,7 +3,7 @@ from reading import flow, tree
 from sentences.names import FRESH, LOOK, LOW_PART, OF_SEEK, POINTER, RUN_WORD, SEEK, of_seek
 
 NUMBERS = {
-    "walklaws::Cursor": {"mark": "u32", "rank": "u32", "seeks": "u32", "looks": "u32"},
+    "walklaws::Cursor": {"mark": "u32", "bit": "u32", "seeks": "u32", "looks": "u32"},
     "shape::Shape": dict.fromkeys(["u", "n", "w", "bits", "lower", "upper", "end"], "usize"),
 }
 # what other crates call of the seek's
@@ -115,7 +115,9 @@ def seek_lends_one_counter(program):
     around = [str(node) for node, _ in flow.mentions(name, f.body)]
     if sorted(around) != [f"&mut {name}", f"looks: {name}"]:
         yield f"{f.path}: the counter stands in {', '.join(f'`{text}`' for text in around)}"
-    if f"looks: {name}" not in map(str, getattr(f.body.value, "given", [])):
+    moved = flow.followed(f.body.value, flow.named(f))
+    cursors = [node.value for node in getattr(moved, "given", []) if node.name == "cursor"]
+    if [f"looks: {name}" in map(str, getattr(cursor, "given", [])) for cursor in cursors] != [True]:
         yield f"{f.path}: what it gives back is not the cursor with that count"
 
 

@@ -27,7 +27,7 @@ pub fn totals(q: Query, found: usize) -> Listed {
 PAGES = """
 pub fn list_common(card: &[u8], shapes: &[u32], k: usize, room: &mut [u32]) -> Listed {
     let q = Query::new();
-    let mut s = Turn { q, mark: 0, found: 0 };
+    let mut s = Turn { q, mark: 0, rank: 0, found: 0 };
     if 0 < room.len() {
         s = batch(card, shapes, q, k, 0, room);
     }

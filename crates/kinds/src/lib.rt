@@ -49,7 +49,7 @@ fn open_alone(pages: &[u8]) -> [u32; 8]
     openlists::numbers_at(pages, 0, pages.len())
 }
 
-// Kind 2: the first page at or above the bound, and its rank; or how many pages there are, all of them below it.
+// Kind 2: the first page at or above the bound, and its rank; or the number of all pages where there is none.
 pub fn by_bound(card: &[u8], t: u32, bound: usize, room: &mut [u32]) -> usize
     requires { ⌜ (indexRefusal (now card) ≡ Accepted) × (t < indexT (now card)) ⌝ }
     ensures { λ r. ⌜ Wrote (byBound (pagesIn (now (card .entry)) t) bound) (now (room .entry)) r (now (room .exit)) ⌝ }
@@ -58,9 +58,8 @@ pub fn by_bound(card: &[u8], t: u32, bound: usize, room: &mut [u32]) -> usize
     let shapes = open_alone(pages);
     let mut page = [0u32; 1];
     let turn = query::batch(pages, &shapes, Query::new(), 1, bound, &mut page);
-    let rank = rows::rank_in(turn.q, 0);
     if turn.mark == SPENT {
-        return replies::put(&[1, rank], room);
+        return replies::put(&[1, turn.rank], room);
     }
-    replies::put(&[2, turn.mark - 1, rank], room)
+    replies::put(&[2, turn.mark - 1, turn.rank], room)
 }

@@ -14,13 +14,14 @@ use walklaws::Landing;
 use walklaws::Ones;
 use walklaws::SPENT;
 
-// The end where there is no element at or above the bound, of a list of n.
+// The end where there is no element at or above the bound, in a list of n.
 pub fn none(n: usize) -> Landing
     requires { ⌜ n < 2 ^ 32 ⌝ }
-    ensures { λ r. ⌜ (r .mark ≡ spentMark) × (r .rank ≡ n) ⌝ }
+    ensures { λ r. ⌜ (r .mark ≡ spentMark) × (r .bit ≡ 0) × (r .rank ≡ n) ⌝ }
 {
     Landing {
         mark: SPENT,
+        bit: 0,
         rank: n as u32,
     }
 }
@@ -70,6 +71,7 @@ pub fn land(s: &[u8], g: Shape, b: usize, from: Ones, looks: &mut u32) -> Landin
         if b <= page {
             return Landing {
                 mark: (page + 1) as u32,
+                bit: bit as u32,
                 rank: one.rank as u32,
             };
         }

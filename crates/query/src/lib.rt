@@ -5,7 +5,7 @@ ghost use mathlib.Core.Path.{_≡_};
 ghost use Prim.Native.Nat.{_<_};
 ghost use lib.ListN.{length};
 ghost use Rattle.querylaws.specs.Lists.{Lists};
-ghost use Rattle.querylaws.specs.Queries.{movedIn, Seekable, Running};
+ghost use Rattle.querylaws.specs.Queries.{movedIn, toldIn, Seekable, Running};
 ghost use Rattle.querylaws.specs.Batches.{Batched};
 ghost use Rattle.querylaws.specs.Listings.{wholeIn, laidWithin, Tells};
 use querylaws::FROM;
@@ -16,21 +16,25 @@ use querylaws::Turn;
 use walklaws::Cursor;
 use walklaws::SPENT;
 
-// The query, and the cursor of it that is in hand.
+// The query, the cursor of it that is in hand, and the rank that the last seek by it told.
 struct InHand {
     q: Query,
     hand: Cursor,
+    rank: u32,
 }
 
-// A seek for b on list i, by the cursor in hand: the query comes back as it was, and the hand moved.
+// A seek for b on list i, by the cursor in hand: the query comes back as it was, the hand moved, and the rank told.
 fn seek_in(card: &[u8], shapes: &[u32], mut s: InHand, i: usize, b: usize) -> InHand
     requires { ⌜ Seekable (now card) (now shapes) i (s .hand) ⌝ }
-    ensures { λ r. ⌜ (r .q ≡ s .q) × (r .hand ≡ movedIn (now (card .entry)) (now (shapes .entry)) i (s .hand) b) ⌝ }
+    ensures { λ r. ⌜ (r .q ≡ s .q) × (r .hand ≡ movedIn (now (card .entry)) (now (shapes .entry)) i (s .hand) b)
+        × (r .rank ≡ toldIn (now (card .entry)) (now (shapes .entry)) i (s .hand) b) ⌝ }
 {
     let from = rows::number(shapes, i, FROM);
     let to = rows::number(shapes, i, TO);
-    let c = seek::seek(&card[from..to], rows::shape_in(shapes, i), s.hand, b);
-    s.hand = c;
+    let moved = seek::seek(&card[from..to], rows::shape_in(shapes, i), s.hand, b);
+    let hand = moved.cursor;
+    s.hand = hand;
+    s.rank = moved.rank;
     s
 }
 
@@ -47,14 +51,20 @@ pub fn batch(card: &[u8], shapes: &[u32], q0: Query, k: usize, b0: usize, room: 
     let mut found = 0;
     loop {
         let hand = q.cursors[i];
-        let s = seek_in(card, shapes, InHand { q, hand }, i, b);
+        let s = seek_in(card, shapes, InHand { q, hand, rank: 0 }, i, b);
         let back = s.q;
         q = back;
         let c = s.hand;
         q.cursors[i] = c;
         let mark = c.mark;
+        let rank = s.rank;
         if mark == SPENT {
-            return Turn { q, mark, found };
+            return Turn {
+                q,
+                mark,
+                rank,
+                found,
+            };
         }
         let page = mark as usize - 1;
         if 0 < i && b < page {
@@ -68,7 +78,12 @@ pub fn batch(card: &[u8], shapes: &[u32], q0: Query, k: usize, b0: usize, room: 
             room[found] = mark - 1;
             found += 1;
             if room.len() <= found {
-                return Turn { q, mark, found };
+                return Turn {
+                    q,
+                    mark,
+                    rank,
+                    found,
+                };
             }
             i = 0;
             b = mark as usize;
@@ -88,6 +103,7 @@ pub fn list_common(card: &[u8], shapes: &[u32], k: usize, room: &mut [u32]) -> L
     let mut s = Turn {
         q,
         mark: 0,
+        rank: 0,
         found: 0,
     };
     if 0 < room.len() {

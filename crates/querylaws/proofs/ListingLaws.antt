@@ -149,13 +149,13 @@ module _ (s sh : List ℕ) (k : ℕ) where
   abbrev pub Reached : Query → ℕ → ℕ → List ℕ → Type 0
   Reached q b found ps = ((b ≡ spentMark) × Ended q found ps) ⊎ ((b < spentMark) × Partway q b found ps)
 
-  pub reached-more : (n : ℕ) (q : Query) (b found : ℕ) (ps qs : List ℕ) (t : Turn) → b < spentMark
-      → Partway q b found ps → Turns s sh k n q b qs t → Reached (t .q) (t .mark) (found + length qs) (ps ++ qs)
+  pub reached-more : (n : ℕ) (q : Query) (b m found : ℕ) (ps qs : List ℕ) (t : Turn) → b < spentMark
+      → Partway q b found ps → Turns s sh k n q b m qs t → Reached (t .q) (t .mark) (found + length qs) (ps ++ qs)
   unfolding Turns
-  reached-more zero q b found ps qs t h p x =
+  reached-more zero q b m found ps qs t h p x =
       let none : found + 0 ≡ found = omega arith in
       rw (x .0, x .1, x .2, append-nil ps, none) (inr (h, p))
-  reached-more (suc n) q b found ps [] t h p x =
+  reached-more (suc n) q b m found ps [] t h p x =
       let none : found + 0 ≡ found = omega arith in
       rw (append-nil ps, none)
       (inl (
@@ -167,26 +167,26 @@ module _ (s sh : List ℕ) (k : ℕ) where
           tells = partway-end q b found ps p t (x .0) (x .1);
         },
       ))
-  reached-more (suc n) q b found ps (c ∷ qs) t h p x =
+  reached-more (suc n) q b m found ps (c ∷ qs) t h p x =
       let u = x .0 in
       let e : u .mark - 1 ≡ c = omega (arith, x .2) in
       let one : found + 1 + length qs ≡ found + suc (length qs) = omega arith in
       let next = rw e at (partway-step q b found ps p u (x .1) (x .3)) in
       let later = turned-later s sh k q b (p .running .apt) u (x .1) (x .3) in
-      let rest = reached-more n (u .q) (u .mark) (found + 1) (ps ++ c ∷ []) qs t (later .1) next (x .4) in
+      let rest = reached-more n (u .q) (u .mark) (u .rank) (found + 1) (ps ++ c ∷ []) qs t (later .1) next (x .4) in
       rw (append-snoc ps c qs, one) at rest
 
   -- the bound grows
-  pub reached-later : (n : ℕ) (q : Query) (b found : ℕ) (ps qs : List ℕ) (t : Turn) → b < spentMark
-      → Partway q b found ps → Turns s sh k n q b qs t → (b ≤ t .mark) × (0 < n → b < t .mark)
+  pub reached-later : (n : ℕ) (q : Query) (b m found : ℕ) (ps qs : List ℕ) (t : Turn) → b < spentMark
+      → Partway q b found ps → Turns s sh k n q b m qs t → (b ≤ t .mark) × (0 < n → b < t .mark)
   unfolding Turns
-  reached-later zero q b found ps qs t h p x = (omega (arith, x .2), λ z. absurd (omega arith))
-  reached-later (suc n) q b found ps [] t h p x = (omega (arith, x .1), λ z. omega (arith, x .1))
-  reached-later (suc n) q b found ps (c ∷ qs) t h p x =
+  reached-later zero q b m found ps qs t h p x = (omega (arith, x .2), λ z. absurd (omega arith))
+  reached-later (suc n) q b m found ps [] t h p x = (omega (arith, x .1), λ z. omega (arith, x .1))
+  reached-later (suc n) q b m found ps (c ∷ qs) t h p x =
       let u = x .0 in
       let next = partway-step q b found ps p u (x .1) (x .3) in
       let later = turned-later s sh k q b (p .running .apt) u (x .1) (x .3) in
-      let rest = reached-later n (u .q) (u .mark) (found + 1) (ps ++ (u .mark - 1) ∷ []) qs t (later .1) next (x .4) in
+      let rest = reached-later n (u .q) (u .mark) (u .rank) (found + 1) (ps ++ (u .mark - 1) ∷ []) qs t (later .1) next (x .4) in
       (omega (arith, later .0, rest .0), λ z. omega (arith, later .0, rest .0))
 
 -- ---- the pages so far in the room
@@ -214,13 +214,13 @@ module _ (s sh : List ℕ) (k : ℕ) (room₀ : List ℕ) where
   pub listing-first : Lists s sh k → (r : Turn) (room : List ℕ) → Batched s sh k newQuery 0 room₀ r room
       → Listing (r .q) (r .mark) (r .found) room
   listing-first l r room x =
-      let size = turns-size s sh k (length room₀) newQuery 0 (x .pages) r (x .turns) in
+      let size = turns-size s sh k (length room₀) newQuery 0 0 (x .pages) r (x .turns) in
       record {
         ps = x .pages;
         reached =
             rw (x .found)
             (rw (zero-add (length (x .pages)))
-            at (reached-more s sh k (length room₀) newQuery 0 0 [] (x .pages) r (omega arith) (partway-start s sh k l)
+            at (reached-more s sh k (length room₀) newQuery 0 0 0 [] (x .pages) r (omega arith) (partway-start s sh k l)
             (x .turns)));
         full = size .1;
         room-is = x .laid-out ∙ sym (laid-within-all (x .pages) room₀ (size .0));
@@ -242,7 +242,7 @@ module _ (s sh : List ℕ) (k : ℕ) (room₀ : List ℕ) where
               ps = g .ps ++ x .pages;
               reached =
                   rw (x .found)
-                  (reached-more s sh k (length rest) q b found (g .ps) (x .pages) r (listing-on .0) (listing-on .1)
+                  (reached-more s sh k (length rest) q b 0 found (g .ps) (x .pages) r (listing-on .0) (listing-on .1)
                   (x .turns));
               full = λ z. omega (arith, full, length-append (g .ps) (x .pages));
               room-is = g .room-is ∙ sym (laid-within-full (g .ps) (x .pages) room₀ full);
@@ -252,7 +252,7 @@ module _ (s sh : List ℕ) (k : ℕ) (room₀ : List ℕ) where
         pub listing-less : 0 < length rest → spentMark - r .mark < spentMark - b
         listing-less z =
             let later =
-            reached-later s sh k (length rest) q b found (g .ps) (x .pages) r (listing-on .0) (listing-on .1)
+            reached-later s sh k (length rest) q b 0 found (g .ps) (x .pages) r (listing-on .0) (listing-on .1)
             (x .turns) in
             omega (arith, later .1 z, listing-on .0)
 

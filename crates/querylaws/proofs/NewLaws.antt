@@ -51,7 +51,7 @@ module _ (s sh : List ℕ) where
     new-apt b = record {
       lists = l;
       eight = unfold newQuery in refl;
-      held = λ i h. rw (new-cursor i (omega (arith, l .few))) (unused-held (pagesAt s sh i));
+      held = λ i h. rw (new-cursor i (omega (arith, l .few))) (unused-held (boundIn sh) (pagesAt s sh i));
       ready = λ i h. rw (new-reader i (omega (arith, l .few)))
           (fresh-ready (boundIn sh) b (pagesAt s sh i) (list-rises s sh i (l .each i h)));
     }

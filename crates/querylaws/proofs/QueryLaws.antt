@@ -8,22 +8,21 @@ use native.Mathlib.Omega.{arith}
 use borrow.Author.Tests.{eq-eqb, ne-eqb}
 use lib.ListN.{length, getD, set, drop, length-set, length-drop}
 use lib.Seq.{drop-cons, getD-set-same, getD-set-other}
-use Rattle.rules.specs.Seek.{none, page, rankOf, Sought, seek}
-use Rattle.rules.specs.Questions.{firstFrom}
+use Rattle.rules.specs.Seek.{none, page, Sought, seek}
 use Rattle.seeklaws.specs.Cursors.{firstAt, cursorAt, floor}
 use Rattle.seeklaws.proofs.SeekLaws.{seek-answered}
 use Rattle.commonlaws.specs.Readers.{moved}
 use Rattle.commonlaws.specs.Next.{Next, stop, plus}
-use Rattle.commonlaws.proofs.AgreeLaws.{moved-ready, ready-more, seek-plain, sought-least}
+use Rattle.commonlaws.proofs.AgreeLaws.{moved-ready, ready-more, sought-least}
 use Rattle.commonlaws.proofs.LoopLaws.{plus-plus}
 use Rattle.walklaws.specs.declared.Cursor.{Cursor}
-use Rattle.walklaws.specs.Cursors.{spentMark, unused, markOf, held, ruleCursor, Held, movedTo, foundBy}
+use Rattle.walklaws.specs.Cursors.{spentMark, unused, markOf, held, rankIn, ruleCursor, Held, movedTo, foundBy}
 use Rattle.walklaws.proofs.CursorLaws.{held-rule}
-use Rattle.walklaws.proofs.MoveLaws.{moved-held, moved-rule, moved-seeks, moved-looks, moved-found, found-rank}
+use Rattle.walklaws.proofs.MoveLaws.{moved-held, moved-rule, moved-seeks, moved-looks, moved-found}
 use Rattle.querylaws.specs.declared.Query.{Query}
 use Rattle.querylaws.specs.Lists.{pagesAt, boundIn, ListAt}
-use Rattle.querylaws.specs.Queries.{cursorIn, withCursor, readerAt, leadIn, othersIn, movedIn, total, seeksOf}
-use Rattle.querylaws.specs.Queries.{looksOf, listAfter, seekOn, Apt}
+use Rattle.querylaws.specs.Queries.{cursorIn, withCursor, readerAt, leadIn, othersIn, movedIn, toldIn, total}
+use Rattle.querylaws.specs.Queries.{seeksOf, looksOf, listAfter, seekOn, toldOn, Apt}
 use Rattle.querylaws.proofs.PendingLaws.{pending, Moves, pending-end, pending-none, pending-page}
 use Rattle.querylaws.proofs.ListLaws.{list-within, list-rises}
 
@@ -77,12 +76,17 @@ left s sh k q i b = plus (seeksOf q) (looksOf q) (toCome s sh k q i b)
 abbrev pub endOf : List ℕ → List ℕ → ℕ → Query → ℕ → ℕ → Query
 endOf s sh k q i b = seekOn s sh (toCome s sh k q i b .seeks) q i b
 
--- which is the query itself where all lists are sought
+-- and the number that the last of them answers
+abbrev pub toldOf : List ℕ → List ℕ → ℕ → Query → ℕ → ℕ → ℕ
+toldOf s sh k q i b = toldOn s sh (toCome s sh k q i b .seeks) q i b
+
+-- where all lists are sought nothing is left
+none-left : (s sh : List ℕ) (k : ℕ) (q : Query) (b : ℕ) → 0 < k → toCome s sh k q k b .seeks ≡ 0
+none-left s sh k q b h =
+    ap (λ (n : Next). n .seeks) (pending-end (boundIn sh) k b (readerAt s sh q) h) ∙ (unfold stop in refl)
+
 pub end-all : (s sh : List ℕ) (k : ℕ) (q : Query) (b : ℕ) → 0 < k → endOf s sh k q k b ≡ q
-end-all s sh k q b h =
-    let p = pending-end (boundIn sh) k b (readerAt s sh q) h in
-    let none-left : toCome s sh k q k b .seeks ≡ 0 = ap (λ (n : Next). n .seeks) p ∙ (unfold stop in refl) in
-    rw none-left (unfold seekOn in refl)
+end-all s sh k q b h = rw (none-left s sh k q b h) (unfold seekOn in refl)
 
 module _ (s sh : List ℕ) (k : ℕ) (q : Query) (b : ℕ) (a : Apt s sh k q b) (i : ℕ) (h : i < k) where
   list : ListAt s sh i
@@ -100,7 +104,7 @@ module _ (s sh : List ℕ) (k : ℕ) (q : Query) (b : ℕ) (a : Apt s sh k q b) 
   abbrev this : Sought
   this = seek (boundIn sh) (readerAt s sh q i .pages) (readerAt s sh q i .cursor) b
 
-  next-held : Held (pagesAt s sh i) next
+  next-held : Held (boundIn sh) (pagesAt s sh i) next
   next-held = moved-held (boundIn sh) (pagesAt s sh i) (list-rises s sh i list)
       (list-within s sh i list) (cursorIn q i) (a .held i h) b
 
@@ -148,23 +152,16 @@ module _ (s sh : List ℕ) (k : ℕ) (q : Query) (b : ℕ) (a : Apt s sh k q b) 
   )
 
   -- what the mark of the cursor says of the rule's seek
-  found : this .found ≡ foundBy next
+  found : this .found ≡ foundBy (boundIn sh) (pagesAt s sh i) next
   unfolding readerAt
   found = sym (moved-found (boundIn sh) (pagesAt s sh i) (list-rises s sh i list)
       (list-within s sh i list) (cursorIn q i) (a .held i h) b)
 
-  -- and its rank is the number that the answer of plain reading carries
-  pub next-rank : next .rank ≡ rankOf (firstFrom b 0 (pagesAt s sh i))
-  next-rank =
-      let plain : this .found ≡ firstFrom b 0 (pagesAt s sh i) =
-      unfold readerAt in seek-plain (boundIn sh) b (readerAt s sh q i) (a .ready i h) in
-      sym (found-rank next) ∙ ap rankOf (sym found ∙ plain)
-
-  found-none : next .mark ≡ spentMark → this .found ≡ none (next .rank)
+  found-none : next .mark ≡ spentMark → this .found ≡ none (length (pagesAt s sh i))
   found-none e = found ∙ (unfold foundBy in rw (eq-eqb (next .mark) spentMark e))
 
   found-page : (next .mark ≡ spentMark → ⊥)
-      → this .found ≡ page (next .mark - 1) (next .rank)
+      → this .found ≡ page (next .mark - 1) (rankIn (boundIn sh) (pagesAt s sh i) next)
   found-page e = found ∙ (unfold foundBy in rw (ne-eqb (next .mark) spentMark e))
 
   -- after a seek the cursor is not fresh
@@ -175,9 +172,9 @@ module _ (s sh : List ℕ) (k : ℕ) (q : Query) (b : ℕ) (a : Apt s sh k q b) 
       let rises = list-rises s sh i list in
       let e = held-rule (boundIn sh) (pagesAt s sh i) rises (list-within s sh i list) (cursorIn q i) p in
       rw (seek-answered (boundIn sh) (pagesAt s sh i) rises
-      (ruleCursor (cursorIn q i)) b (rw e (p .placed)) .cursor)
+      (ruleCursor (boundIn sh) (pagesAt s sh i) (cursorIn q i)) b (rw e (p .placed)) .cursor)
       (at-some (pagesAt s sh i)
-      (firstAt (max (floor (boundIn sh) (pagesAt s sh i) (ruleCursor (cursorIn q i))) b)
+      (firstAt (max (floor (boundIn sh) (pagesAt s sh i) (ruleCursor (boundIn sh) (pagesAt s sh i) (cursorIn q i))) b)
       (pagesAt s sh i)))
 
   -- what is left after it
@@ -192,12 +189,12 @@ module _ (s sh : List ℕ) (k : ℕ) (q : Query) (b : ℕ) (a : Apt s sh k q b) 
   unfolding readerAt
   here-none e =
       pending-none (boundIn sh) k b (readerAt s sh q) (readerAt s sh after) (a .ready) i h seek-moves
-      (next .rank) (found-none e)
+      (length (pagesAt s sh i)) (found-none e)
 
   here-page : (next .mark ≡ spentMark → ⊥)
       → toCome s sh k q i b ≡ plus 1 (this .looks) (toCome s sh k after (listAfter i b then) then)
   here-page e = pending-page (boundIn sh) k b (readerAt s sh q) (readerAt s sh after) (a .ready) i h seek-moves then
-      (next .rank) (found-page e)
+      (rankIn (boundIn sh) (pagesAt s sh i) next) (found-page e)
 
   pub left-none : next .mark ≡ spentMark → left s sh k q i b ≡ plus (seeksOf after) (looksOf after)
       (stop (none (length (pagesAt s sh 0))) (leadIn s sh after) (othersIn s sh k after))
@@ -222,6 +219,41 @@ module _ (s sh : List ℕ) (k : ℕ) (q : Query) (b : ℕ) (a : Apt s sh k q b) 
       let m : toCome s sh k q i b .seeks ≡ suc n = ap (λ (n : Next). n .seeks) (here-page e) ∙ omega arith in
       rw m (unfold seekOn in refl)
 
+  -- and what the last of them answers
+  abbrev told : ℕ
+  told = toldIn s sh i (cursorIn q i) b
+
+  pub some-left : 0 < toCome s sh k q i b .seeks
+  unfolding plus
+  some-left = elim (ℕ-discrete (next .mark) spentMark) [
+    | yes e ↦ omega (arith, ap (λ (n : Next). n .seeks) (here-none e))
+    | no e ↦ omega (arith, ap (λ (n : Next). n .seeks) (here-page e))
+  ]
+
+  pub told-none : next .mark ≡ spentMark → toldOf s sh k q i b ≡ told
+  unfolding plus stop
+  told-none e = rw (ap (λ (n : Next). n .seeks) (here-none e)) (unfold toldOn in refl)
+
+  pub told-last : (next .mark ≡ spentMark → ⊥) → listAfter i b then ≡ k → toldOf s sh k q i b ≡ told
+  unfolding plus
+  told-last e j =
+      let z = none-left s sh k after then (a .lists .some) in
+      let m : toCome s sh k q i b .seeks ≡ 1 =
+      ap (λ (n : Next). n .seeks) (here-page e) ∙ rw j (omega (arith, z)) in
+      rw m (unfold toldOn in refl)
+
+  pub told-page : (next .mark ≡ spentMark → ⊥) → 0 < toCome s sh k after (listAfter i b then) then .seeks
+      → toldOf s sh k q i b ≡ toldOf s sh k after (listAfter i b then) then
+  unfolding plus
+  told-page e l =
+      let j : ℕ = listAfter i b then in
+      let n : ℕ = toCome s sh k after j then .seeks in
+      let m : toCome s sh k q i b .seeks ≡ suc (suc (n - 1)) =
+      ap (λ (x : Next). x .seeks) (here-page e) ∙ omega arith in
+      let p : suc (n - 1) ≡ n = omega arith in
+      let first : toldOn s sh (suc (suc (n - 1))) q i b ≡ toldOn s sh (suc (n - 1)) after j then = unfold toldOn in refl in
+      ap (λ (x : ℕ). toldOn s sh x q i b) m ∙ first ∙ ap (λ (x : ℕ). toldOn s sh x after j then) p
+
   pub page-least : (next .mark ≡ spentMark → ⊥) → b ≤ next .mark - 1
   page-least e = sought-least (boundIn sh) b (readerAt s sh q i) (a .ready i h) (next .mark - 1)
-      (next .rank) (found-page e)
+      (rankIn (boundIn sh) (pagesAt s sh i) next) (found-page e)

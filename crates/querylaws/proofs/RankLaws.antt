@@ -1,45 +1,66 @@
--- After the next common page each cursor is on it, and tells its rank; of one list alone, also where there is none.
-use mathlib.Core.Path.{_≡_, sym, ap, _∙_}
+-- After the next common page each cursor is on it, and tells its rank; of one list alone, what its last seek answers.
+use mathlib.Core.Path.{_≡_, sym, ap, ap₂, _∙_}
 use mathlib.Core.List.{List}
-use Prim.Native.Nat.{ℕ, zero, suc, _+_, _-_, _≤_, _<_}
+use Prim.Native.Nat.{ℕ, zero, suc, _+_, _-_, _/_, _^_, _≤_, _<_}
 use native.Mathlib.Decide.{ℕ-discrete}
 use native.Mathlib.Omega.{arith}
 use lib.ListN.{length, getD}
-use lib.Seq.{getD-set-same}
-use Rattle.rules.specs.Seek.{on, rankOf}
-use Rattle.rules.specs.Questions.{firstFrom}
+use Rattle.rules.specs.ReadList.{decode}
+use Rattle.rules.specs.Seek.{on, rankOf, widthOf, placeOf, cursorBit}
 use Rattle.rules.specs.Common.{Reader}
+use Rattle.rules.specs.Questions.{firstFrom}
 use Rattle.commonlaws.specs.Readers.{OnPage, AllOnPage}
+use Rattle.commonlaws.proofs.AgreeLaws.{seek-plain}
+use Rattle.readlaws.proofs.ReadLaws.{open-reads}
 use Rattle.walklaws.specs.declared.Cursor.{Cursor}
-use Rattle.walklaws.specs.Cursors.{spentMark, unused, rankAt, Held}
+use Rattle.walklaws.specs.Cursors.{spentMark, markOf, Held, rankFor}
 use Rattle.walklaws.proofs.CursorLaws.{held-rule}
+use Rattle.walklaws.proofs.OpenLaws.{open-length, open-ruled}
 use Rattle.querylaws.specs.declared.Query.{Query}
 use Rattle.querylaws.specs.declared.Turn.{Turn}
-use Rattle.querylaws.specs.Lists.{span, pagesAt, boundIn, ListAt}
-use Rattle.querylaws.specs.Queries.{cursorIn, rankIn, withCursor, readerAt, movedIn, listAfter, Apt, Turned}
+use Rattle.querylaws.specs.Lists.{span, numberOf, partAt, shapeIn, pagesAt, boundIn, ListAt}
+use Rattle.querylaws.specs.Queries.{cursorIn, readerAt, movedIn, toldIn, Apt, Turned}
 use Rattle.querylaws.proofs.ListLaws.{list-rises, list-within}
 use Rattle.querylaws.proofs.PendingLaws.{pending, listAfter-same}
-use Rattle.querylaws.proofs.QueryLaws.{endOf, end-all, next-rank, end-none, end-page}
+use Rattle.querylaws.proofs.QueryLaws.{toldOf, told-none, told-last}
 use Rattle.querylaws.proofs.RunLaws.{came}
 use Rattle.querylaws.proofs.SpanLaws.{span-cons}
 use Rattle.querylaws.proofs.TurnLaws.{turned-page}
+use Rattle.querylaws.specs.Ranks.{rankBy, OnElement}
 
 -- ---- one cursor on a page
 
 -- cursor i is on page c, of that rank in its list
 pub record Ranked (s sh : List ℕ) (q : Query) (i c : ℕ) : Type 0 where
-  pub within : rankIn q i < length (pagesAt s sh i)
-  pub there : getD (pagesAt s sh i) (rankIn q i) 0 ≡ c
+  pub on-element : OnElement sh q i
+  pub within : rankBy sh q i < length (pagesAt s sh i)
+  pub there : getD (pagesAt s sh i) (rankBy sh q i) 0 ≡ c
 
-pub ranked : (s sh : List ℕ) (q : Query) (i c : ℕ) → ListAt s sh i → Held (pagesAt s sh i) (cursorIn q i)
+pub ranked : (s sh : List ℕ) (q : Query) (i c : ℕ) → ListAt s sh i → Held (boundIn sh) (pagesAt s sh i) (cursorIn q i)
     → OnPage c (readerAt s sh q i) → Ranked s sh q i c
-unfolding readerAt rankAt
+unfolding readerAt rankBy markOf cursorBit placeOf pagesAt shapeIn
 ranked s sh q i c l h p =
-    let xs = pagesAt s sh i in
+    let U = boundIn sh in
+    let xs = decode (partAt s sh i) in
+    let cu = cursorIn q i in
+    let o = l .opened in
     let e : h .place ≡ on (p .rank) =
-    sym (held-rule (boundIn sh) xs (list-rises s sh i l) (list-within s sh i l) (cursorIn q i) h) ∙ p .stands in
-    let r : rankIn q i ≡ p .rank = h .rank-is ∙ ap (rankAt xs) e in
-    record { within = rw r (p .within); there = rw r (p .there) }
+    sym (held-rule U xs (list-rises s sh i l) (list-within s sh i l) cu h) ∙ p .stands in
+    let m : cu .mark ≡ getD xs (p .rank) 0 + 1 = h .mark-is ∙ ap (markOf xs) e in
+    let b : cu .bit ≡ getD xs (p .rank) 0 / 2 ^ widthOf U xs + p .rank = h .bit-is ∙ ap (cursorBit U xs) e in
+    let n = open-length (partAt s sh i) (shapeIn sh i) o in
+    let z = open-reads (partAt s sh i) (shapeIn sh i) o in
+    let w : widthOf U xs ≡ numberOf sh i 3 =
+    rw (l .bound) at (open-ruled (partAt s sh i) (shapeIn sh i) o (omega (arith, p .within)) .wide) in
+    let x : cu .mark - 1 ≡ getD xs (p .rank) 0 = omega arith in
+    let y : (cu .mark - 1) / 2 ^ numberOf sh i 3 ≡ getD xs (p .rank) 0 / 2 ^ widthOf U xs =
+    ap₂ (λ (a v : ℕ). a / 2 ^ v) x (sym w) in
+    let r : cu .bit - (cu .mark - 1) / 2 ^ numberOf sh i 3 ≡ p .rank = omega arith in
+    record {
+      on-element = record { marked = omega arith; narrow = omega (arith, z .narrow); high = omega arith };
+      within = rw r (p .within);
+      there = rw r (p .there);
+    }
 
 -- ---- all of them
 
@@ -70,22 +91,15 @@ turned-ranked s sh k q b a t u m i h =
 
 -- ---- one list alone
 
--- its cursor's rank is the number that the answer of plain reading carries, found or none
-pub alone-rank : (s sh : List ℕ) (q : Query) (b : ℕ) → Apt s sh 1 q b → (t : Turn) → Turned s sh 1 q b t
-    → rankIn (t .q) 0 ≡ rankOf (firstFrom b 0 (pagesAt s sh 0))
-unfolding pending
-alone-rank s sh q b a t u =
-    let next : Cursor = movedIn s sh 0 (cursorIn q 0) b in
-    let after : Query = withCursor q 0 next in
+-- what the last seek answers is the number of plain reading's answer, found or none
+pub alone-told : (s sh : List ℕ) (q : Query) (b : ℕ) → Apt s sh 1 q b → (t : Turn) → Turned s sh 1 q b t
+    → t .rank ≡ rankOf (firstFrom b 0 (pagesAt s sh 0))
+unfolding pending rankFor readerAt
+alone-told s sh q b a t u =
     let h : 0 < 1 = omega arith in
-    let end : endOf s sh 1 q 0 b ≡ after = elim (ℕ-discrete (next .mark) spentMark) [
-      | yes e ↦ end-none s sh 1 q b a 0 h e
-      | no e ↦
-          let d : ℕ = next .mark - 1 in
-          let j : listAfter 0 b d ≡ 1 = listAfter-same 0 b d (λ g _. absurd (omega arith)) in
-          end-page s sh 1 q b a 0 h e ∙ rw j (end-all s sh 1 after d h)
+    let c : Cursor = movedIn s sh 0 (cursorIn q 0) b in
+    let told : toldOf s sh 1 q 0 b ≡ toldIn s sh 0 (cursorIn q 0) b = elim (ℕ-discrete (c .mark) spentMark) [
+      | yes e ↦ told-none s sh 1 q b a 0 h e
+      | no e ↦ told-last s sh 1 q b a 0 h e (listAfter-same 0 b (c .mark - 1) (λ g _. absurd (omega arith)))
     ] in
-    let is : t .q ≡ after = u .query ∙ end in
-    ap (λ (r : Query). rankIn r 0) is
-    ∙ ap (λ (c : Cursor). c .rank) (getD-set-same (q .cursors) 0 next unused (omega (arith, a .eight)))
-    ∙ next-rank s sh 1 q b a 0 h
+    u .rank ∙ told ∙ ap rankOf (seek-plain (boundIn sh) b (readerAt s sh q 0) (a .ready 0 h))

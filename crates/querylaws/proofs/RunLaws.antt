@@ -17,15 +17,15 @@ use Rattle.walklaws.specs.Cursors.{spentMark}
 use Rattle.querylaws.specs.declared.Query.{Query}
 use Rattle.querylaws.specs.declared.Turn.{Turn}
 use Rattle.querylaws.specs.Lists.{pagesAt, boundIn}
-use Rattle.querylaws.specs.Queries.{cursorIn, withCursor, readerAt, leadIn, othersIn, movedIn, seeksOf, looksOf}
-use Rattle.querylaws.specs.Queries.{markFound, nextFor, listAfter, seekOn, Seekable, Apt, Running}
-use Rattle.querylaws.specs.Queries.{Turned}
+use Rattle.querylaws.specs.Queries.{cursorIn, withCursor, readerAt, leadIn, othersIn, movedIn, toldIn, seeksOf}
+use Rattle.querylaws.specs.Queries.{looksOf, markFound, nextFor, listAfter, Seekable, Apt, Running, Turned}
 use Rattle.querylaws.proofs.SpanLaws.{length-span, span-cons, span-ready, span-pages}
 use Rattle.querylaws.proofs.PendingLaws.{cursorRank, listAfter-larger, listAfter-same, listAfter-le, pending}
 use Rattle.querylaws.proofs.PendingLaws.{pending-end}
 use Rattle.querylaws.proofs.ListLaws.{list-within, list-length, span-words}
 use Rattle.querylaws.proofs.QueryLaws.{total-at, left, seek-apt, seek-seeks, mark-some, left-none, left-page}
-use Rattle.querylaws.proofs.QueryLaws.{toCome, endOf, end-all, end-none, end-page, page-least}
+use Rattle.querylaws.proofs.QueryLaws.{endOf, toldOf, end-all, end-none, end-page, told-none, told-last, told-page}
+use Rattle.querylaws.proofs.QueryLaws.{some-left, page-least}
 
 apt-more : (s sh : List ℕ) (k : ℕ) (q : Query) (b d : ℕ) → Apt s sh k q b → b ≤ d → Apt s sh k q d
 apt-more s sh k q b d a l = record {
@@ -97,9 +97,10 @@ module _ (s sh : List ℕ) (k : ℕ) (q₀ : Query) (b₀ : ℕ) where
     pub within : i ≤ k
     pub same : left s sh k q i b ≡ left s sh k q₀ 0 b₀
     pub ends : endOf s sh k q i b ≡ endOf s sh k q₀ 0 b₀
+    pub told : i < k → toldOf s sh k q i b ≡ toldOf s sh k q₀ 0 b₀
 
   pub midst-start : Running s sh k q₀ b₀ → Midst q₀ b₀ 0
-  midst-start r = record { running = r; apt = r .apt; within = omega arith; same = refl; ends = refl }
+  midst-start r = record { running = r; apt = r .apt; within = omega arith; same = refl; ends = refl; told = λ h. refl }
 
   -- where it ends with the answer f
   module _ (f : Found) (t : Turn) (b : ℕ) (r : Running s sh k q₀ b₀) (a : Apt s sh k (t .q) b)
@@ -141,13 +142,15 @@ module _ (s sh : List ℕ) (k : ℕ) (q₀ : Query) (b₀ : ℕ) where
             looks = rw (lead-is, others-are) (omega (arith, seeks-are, looks-are, n .carried .paid, r .looks));
           }
 
-      turned-from : t .q ≡ endOf s sh k q₀ 0 b₀ → t .mark ≡ markFound f → ((c j : ℕ) → f ≡ page c j → b ≤ c)
+      turned-from : t .q ≡ endOf s sh k q₀ 0 b₀ → t .rank ≡ toldOf s sh k q₀ 0 b₀ → t .mark ≡ markFound f
+          → ((c j : ℕ) → f ≡ page c j → b ≤ c)
           → Turned s sh k q₀ b₀ t
-      turned-from p e h =
+      turned-from p i e h =
           let n = next-narrow s sh k q₀ b₀ r in record {
             query = unfold pending in p;
             eight = a .eight;
             mark = e ∙ ap markFound found-is;
+            rank = unfold pending in i;
             lead = lead-is;
             others = others-are;
             seeks = seeks-are;
@@ -170,14 +173,15 @@ module _ (s sh : List ℕ) (k : ℕ) (q₀ : Query) (b₀ : ℕ) where
     omega (arith, ap (λ (n : Next). n .looks) (m .same)),
   )
 
-  midst-end : (n : ℕ) (q : Query) (b i : ℕ) → Midst q b i → k ≤ i
-      → Turned s sh k q₀ b₀ (record { q = q; mark = b + 1; found = n })
-  midst-end n q b i m h =
+  midst-end : (n r : ℕ) (q : Query) (b i : ℕ) → Midst q b i → k ≤ i → r ≡ toldOf s sh k q₀ 0 b₀
+      → Turned s sh k q₀ b₀ (record { q = q; mark = b + 1; rank = r; found = n })
+  midst-end n r q b i m h x =
       let e : i ≡ k = omega (arith, m .within) in
       let p = pending-end (boundIn sh) k b (readerAt s sh q) (m .apt .lists .some) in
       let end = ap (plus (seeksOf q) (looksOf q)) p in
-      turned-from (page b (cursorRank (leadIn s sh q .cursor))) (record { q = q; mark = b + 1; found = n }) b (m .running) (m .apt)
-      (sym end ∙ rw e at (m .same)) (sym (end-all s sh k q b (m .apt .lists .some)) ∙ rw e at (m .ends)) (unfold markFound in refl)
+      turned-from (page b (cursorRank (leadIn s sh q .cursor))) (record { q = q; mark = b + 1; rank = r; found = n }) b
+      (m .running) (m .apt) (sym end ∙ rw e at (m .same)) (sym (end-all s sh k q b (m .apt .lists .some)) ∙ rw e at (m .ends))
+      x (unfold markFound in refl)
       (λ c j z. let x : b ≡ c = cc in omega arith)
 
   module _ (q : Query) (b i : ℕ) (m : Midst q b i) where
@@ -195,33 +199,45 @@ module _ (s sh : List ℕ) (k : ℕ) (q₀ : Query) (b₀ : ℕ) where
         }
 
     module _ (h : i < k) (c : Cursor) (w : c ≡ movedIn s sh i (cursorIn q i) b) where
-      pub midst-none : (n : ℕ) → c .mark ≡ spentMark
-          → Turned s sh k q₀ b₀ (record { q = withCursor q i c; mark = c .mark; found = n })
-      midst-none n =
+      pub midst-none : (n r : ℕ) → r ≡ toldIn s sh i (cursorIn q i) b → c .mark ≡ spentMark
+          → Turned s sh k q₀ b₀ (record { q = withCursor q i c; mark = c .mark; rank = r; found = n })
+      midst-none n r x =
           rw w
           (λ e.
           turned-from (none (length (pagesAt s sh 0))) (record {
             q = withCursor q i (movedIn s sh i (cursorIn q i) b);
             mark = movedIn s sh i (cursorIn q i) b .mark;
+            rank = r;
             found = n;
           }) b (m .running)
           (seek-apt s sh k q b (m .apt) i h b (omega arith)) (sym (left-none s sh k q b (m .apt) i h e) ∙ m .same)
-          (sym (end-none s sh k q b (m .apt) i h e) ∙ m .ends) (e ∙ (unfold markFound in refl))
+          (sym (end-none s sh k q b (m .apt) i h e) ∙ m .ends)
+          (x ∙ sym (told-none s sh k q b (m .apt) i h e) ∙ m .told h) (e ∙ (unfold markFound in refl))
           (λ c j z. let x : _≡_ {A = ℕ} 0 1 = cc in absurd (omega arith)))
 
       pub midst-some : 0 < c .mark
       midst-some = rw w (mark-some s sh k q b (m .apt) i h)
 
+      abbrev next : Cursor
+      next = movedIn s sh i (cursorIn q i) b
+
+      abbrev then : ℕ
+      then = next .mark - 1
+
+      next-apt : (next .mark ≡ spentMark → ⊥) → Apt s sh k (withCursor q i next) then
+      next-apt e = seek-apt s sh k q b (m .apt) i h then (page-least s sh k q b (m .apt) i h e)
+
       step-to : (c .mark ≡ spentMark → ⊥) → (j : ℕ) → listAfter i b (c .mark - 1) ≡ j → j ≤ k
           → Midst (withCursor q i c) (c .mark - 1) j
       step-to = rw w (λ e j a l. record {
         running = m .running;
-        apt =
-            seek-apt s sh k q b (m .apt) i h (movedIn s sh i (cursorIn q i) b .mark - 1)
-            (page-least s sh k q b (m .apt) i h e);
+        apt = next-apt e;
         within = l;
         same = rw (← a) (sym (left-page s sh k q b (m .apt) i h e) ∙ m .same);
         ends = rw (← a) (sym (end-page s sh k q b (m .apt) i h e) ∙ m .ends);
+        told = λ g.
+            rw (← a) (sym (told-page s sh k q b (m .apt) i h e
+            (some-left s sh k (withCursor q i next) then (next-apt e) (listAfter i b then) (rw a g))) ∙ m .told h);
       })
 
       -- the seeks that may follow are fewer
@@ -244,11 +260,14 @@ module _ (s sh : List ℕ) (k : ℕ) (q₀ : Query) (b₀ : ℕ) where
         midst-same g = step-to e (i + 1) (listAfter-same i b (c .mark - 1) g) (omega arith)
 
         -- of which there is none where all share the page
-        pub midst-page : (n : ℕ) → (0 < i → b < c .mark - 1 → ⊥) → k ≤ i + 1 → Turned s sh k q₀ b₀ (record {
-          q = withCursor q i c;
-          mark = c .mark;
-          found = n;
-        })
-        midst-page n g l =
+        told-here : (0 < i → b < c .mark - 1 → ⊥) → k ≤ i + 1 → toldIn s sh i (cursorIn q i) b ≡ toldOf s sh k q₀ 0 b₀
+        told-here g l =
+            let j : listAfter i b (movedIn s sh i (cursorIn q i) b .mark - 1) ≡ k =
+            listAfter-same i b _ (rw w at g) ∙ omega arith in
+            sym (told-last s sh k q b (m .apt) i h (rw w at e) j) ∙ m .told h
+
+        pub midst-page : (n r : ℕ) → r ≡ toldIn s sh i (cursorIn q i) b → (0 < i → b < c .mark - 1 → ⊥) → k ≤ i + 1
+            → Turned s sh k q₀ b₀ (record { q = withCursor q i c; mark = c .mark; rank = r; found = n })
+        midst-page n r x g l =
             let some : c .mark - 1 + 1 ≡ c .mark = omega (arith, midst-some) in
-            rw some at (midst-end n (withCursor q i c) (c .mark - 1) (i + 1) (midst-same g) l)
+            rw some at (midst-end n r (withCursor q i c) (c .mark - 1) (i + 1) (midst-same g) l (x ∙ told-here g l))

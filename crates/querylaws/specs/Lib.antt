@@ -2,3 +2,4 @@ pub mod Lists
 pub mod Queries
 pub mod Batches
 pub mod Listings
+pub mod Ranks

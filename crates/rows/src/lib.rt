@@ -4,7 +4,8 @@ ghost use mathlib.Core.Path.{_≡_};
 ghost use Prim.Native.Nat.{_+_, _*_, _^_, _≤_, _<_};
 ghost use lib.ListN.{length};
 ghost use Rattle.querylaws.specs.Lists.{numberOf, shapeIn};
-ghost use Rattle.querylaws.specs.Queries.{rankIn, seeksOf, looksOf};
+ghost use Rattle.querylaws.specs.Queries.{seeksOf, looksOf};
+ghost use Rattle.querylaws.specs.Ranks.{rankBy, OnElement};
 use querylaws::BITS;
 use querylaws::BOUND;
 use querylaws::FROM;
@@ -41,13 +42,13 @@ pub fn shape_in(shapes: &[u32], i: usize) -> Shape
     }
 }
 
-// The rank of the page that cursor i of a query is on, or its list's n where it is spent.
-pub fn rank_in(q: Query, i: usize) -> u32
-    requires { ⌜ (i < 8) × (length (q .cursors) ≡ 8) ⌝ }
-    ensures { λ r. ⌜ r ≡ rankIn q i ⌝ }
+// The rank of the page that cursor i of a query is on, in its list.
+pub fn rank_in(shapes: &[u32], q: Query, i: usize) -> usize
+    requires { ⌜ (8 * i + 8 ≤ length (now shapes)) × (i < 8) × (length (q .cursors) ≡ 8) × OnElement (now shapes) q i ⌝ }
+    ensures { λ r. ⌜ r ≡ rankBy (now (shapes .entry)) q i ⌝ }
 {
-    let cursor = q.cursors[i];
-    cursor.rank
+    let c = q.cursors[i];
+    c.bit as usize - ((c.mark as usize - 1) >> number(shapes, i, WIDTH))
 }
 
 // The seeks and looks of all cursors.

@@ -10,7 +10,7 @@ use walklaws::Cursor;
 use walklaws::StartPlace;
 
 // The high part of the element that the cursor is on; 0 if fresh.
-fn high_of(g: Shape, c: Cursor) -> usize
+pub fn high_of(g: Shape, c: Cursor) -> usize
     requires { ⌜ g .w < 64 ⌝ }
     ensures { λ r. ⌜ r ≡ (c .mark - 1) / 2 ^ g .w ⌝ }
 {
@@ -35,7 +35,7 @@ pub fn start(s: &[u8], g: Shape, c: Cursor, b: usize) -> StartPlace
         };
     }
     StartPlace {
-        bit: high + c.rank as usize,
+        bit: c.bit as usize,
         zeros: high,
         own: (c.mark != 0) as u32,
     }

@@ -44,7 +44,7 @@ pub fn page_starts(
         (now (words .exit)) ⌝ }
 {
     if terms.len() == 1 {
-        let rank = rows::rank_in(turn.q, 0) as usize;
+        let rank = rows::rank_in(&lists[0..COUNTS], turn.q, 0);
         let x = turning::ranks_at(card, &lists[COUNTS..POSITIONS], 0, rank, words);
         return x.to - x.from;
     }

@@ -16,7 +16,7 @@ use Rattle.walklaws.specs.Cursors.{spentMark}
 use Rattle.querylaws.specs.declared.Query.{Query}
 use Rattle.querylaws.specs.declared.Turn.{Turn}
 use Rattle.querylaws.specs.Lists.{partAt, shapeIn}
-use Rattle.querylaws.specs.Queries.{rankIn, readerAt, leadIn, othersIn, Apt, Turned}
+use Rattle.querylaws.specs.Queries.{readerAt, leadIn, othersIn, Apt, Turned}
 use Rattle.querylaws.proofs.RunLaws.{came}
 use Rattle.querylaws.proofs.TurnLaws.{turned-page}
 use Rattle.span.specs.declared.Walk.{Walk}
@@ -25,6 +25,7 @@ use Rattle.span.proofs.WalkLaws.{walk-new}
 use Rattle.turning.specs.declared.Ranks.{Ranks}
 use Rattle.turning.specs.Words.{elementsAt, walkAt, countWalk, positionWalk, ranksOf, Walked}
 use Rattle.openlists.specs.Places.{slotOf}
+use Rattle.querylaws.specs.Ranks.{rankBy}
 use Rattle.querylaws.proofs.RankLaws.{all-on}
 use Rattle.triallaws.specs.Asked.{termAt, newWords, Asked, OnAll, Ahead}
 use Rattle.triallaws.proofs.WordLaws.{counts-rest}
@@ -116,14 +117,14 @@ module _ (s ts : List ℕ) (lead : ℕ) (pg ct ps : List ℕ) (a : Asked s ts le
   -- ---- a word alone
 
   pub lone-counted : (q : Query) → OnAll s ts pg q p → length ts ≡ 1 → (ws : List ℕ) → Ahead s ts ct ps ws p
-      → (x : Ranks) → x ≡ ranksOf (elementsAt s ct 0) (rankIn q (slotOf lead 0)) → (after : List ℕ)
-      → Walked s ct ws 0 0 (rankIn q (slotOf lead 0) + 1) after
+      → (x : Ranks) → x ≡ ranksOf (elementsAt s ct 0) (rankBy pg q (slotOf lead 0)) → (after : List ℕ)
+      → Walked s ct ws 0 0 (rankBy pg q (slotOf lead 0) + 1) after
       → (x .from ≤ x .to) × (x .to - x .from ≡ starts (wordsIn s ts) p) × (x .to - x .from < 2 ^ 32)
       × Ahead s ts ct ps after (p + 1)
   lone-counted q o one ws f x is after w =
       let h : 0 < length ts = a .pages .lists .some in
       let t : List ℕ = termAt s ts 0 in
-      let rank : ℕ = rankIn q (slotOf lead 0) in
+      let rank : ℕ = rankBy pg q (slotOf lead 0) in
       let r = is-ranked s ts lead pg ct ps a q p o 0 h in
       let e = page-there s ts lead pg ct ps a q p o 0 h in
       let from = from-is s ts lead pg ct ps a q p o 0 h x is in

@@ -14,7 +14,6 @@ use Rattle.termlaws.proofs.PassedLaws.{accepted-passed}
 use Rattle.termlaws.proofs.Theorems.{accepted-lists}
 use Rattle.readlaws.proofs.ReadLaws.{open-reads}
 use Rattle.walklaws.proofs.OpenLaws.{open-n, open-length}
-use Rattle.querylaws.specs.Queries.{rankIn}
 use Rattle.querylaws.specs.declared.Query.{Query}
 use Rattle.querylaws.specs.Lists.{numberOf, partAt, shapeIn, pagesAt, ListAt}
 use Rattle.span.specs.declared.Walk.{Walk}
@@ -25,6 +24,7 @@ use Rattle.openlists.specs.Places.{sourceOf, slotOf}
 use Rattle.openlists.proofs.SourceLaws.{slot-lt, source-slot}
 use Rattle.wordlists.specs.Lying.{listOf}
 use Rattle.wordlists.proofs.OpenLaws.{lead-within, slot-pages}
+use Rattle.querylaws.specs.Ranks.{rankBy}
 use Rattle.querylaws.proofs.RankLaws.{Ranked, ranked}
 use Rattle.trial.specs.declared.Trial.{Trial}
 use Rattle.triallaws.specs.Spans.{positionsBefore, PageIn, TermAt}
@@ -74,7 +74,7 @@ module _ (s ts : List ℕ) (lead : ℕ) (pg ct ps : List ℕ) (a : Asked s ts le
       pub asked-rank : Ranked s pg q slot p
       asked-rank = ranked s pg q slot p asked-list (o .held slot slot-within) (o .on-page slot slot-within)
 
-      rank-counted : rankIn q slot < numberOf ct i 7
+      rank-counted : rankBy pg q slot < numberOf ct i 7
       rank-counted = rw (← same-count) (asked-rank .within)
 
   -- ---- one word more is turned
@@ -84,7 +84,7 @@ module _ (s ts : List ℕ) (lead : ℕ) (pg ct ps : List ℕ) (a : Asked s ts le
     t = termAt s ts i
 
     abbrev rank : ℕ
-    rank = rankIn q (slotOf lead i)
+    rank = rankBy pg q (slotOf lead i)
 
     pub is-ranked : rank < length (decode (pagesOf t))
     is-ranked =

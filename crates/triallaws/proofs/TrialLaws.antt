@@ -13,7 +13,6 @@ use Rattle.rules.specs.ReadTerm.{positionsOf}
 use Rattle.rules.specs.Limits.{limit}
 use Rattle.rules.specs.Questions.{member, positionsOn, starts, wordsIn}
 use Rattle.walklaws.proofs.OpenLaws.{open-within}
-use Rattle.querylaws.specs.Queries.{rankIn}
 use Rattle.querylaws.specs.declared.Query.{Query}
 use Rattle.querylaws.specs.Lists.{span, partAt, shapeIn}
 use Rattle.querylaws.proofs.SpanLaws.{span-cons}
@@ -23,6 +22,7 @@ use Rattle.phrase.specs.Pages.{pageAt, Ready, Sought}
 use Rattle.openlists.specs.Places.{sourceOf, slotOf}
 use Rattle.openlists.proofs.SourceLaws.{slot-lt, source-lt, source-slot, slot-source}
 use Rattle.wordlists.proofs.OpenLaws.{lead-within}
+use Rattle.querylaws.specs.Ranks.{rankBy}
 use Rattle.trial.specs.declared.Trial.{Trial}
 use Rattle.triallaws.specs.Spans.{TermAt}
 use Rattle.triallaws.specs.Starts.{standsIn, startsIn, startsBelow}
@@ -258,7 +258,7 @@ module _ (s ts : List ℕ) (lead : ℕ) (pg ct ps : List ℕ) (a : Asked s ts le
             words-map s (positionsOn p) f ts 0 (λ j l. ap f (zero-add j)) in
             let rises : Rises 0 (at .start + U) (f 0) =
             rises-more 0 U (at .start + U) (f 0) (omega arith)
-            (positions-rise (termAt s ts 0) (a .accepts 0 h) (rankIn q (slotOf lead 0))
+            (positions-rise (termAt s ts 0) (a .accepts 0 h) (rankBy pg q (slotOf lead 0))
             (is-ranked s ts lead pg ct ps a q p o 0 h) p (page-there s ts lead pg ct ps a q p o 0 h)) in
             sym (starts-in p (wordsIn s ts) ∙ ap startsIn (sym words ∙ cons)
             ∙ starts-below (f 0) (span f 1 (k - 1)) (at .start + U) rises

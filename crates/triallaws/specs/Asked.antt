@@ -37,7 +37,7 @@ use Rattle.rules.specs.Write.{laid}
 use Rattle.commonlaws.specs.Readers.{OnPage}
 use Rattle.querylaws.specs.declared.Query.{Query}
 use Rattle.querylaws.specs.declared.Turn.{Turn}
-use Rattle.querylaws.specs.Lists.{span, partAt, shapeIn, pagesAt}
+use Rattle.querylaws.specs.Lists.{span, partAt, shapeIn, pagesAt, boundIn}
 use Rattle.querylaws.specs.Queries.{cursorIn, readerAt}
 use Rattle.walklaws.specs.Cursors.{Held}
 use Rattle.span.specs.Walks.{WalkOn, PassedTo}
@@ -84,7 +84,7 @@ pub record AskedIn (s ts ls : List ℕ) : Type 0 where
 
 pub record OnAll (s ts pg : List ℕ) (q : Query) (p : ℕ) : Type 0 where
   pub eight : length (q .cursors) ≡ 8
-  pub held : (i : ℕ) → i < length ts → Held (pagesAt s pg i) (cursorIn q i)
+  pub held : (i : ℕ) → i < length ts → Held (boundIn pg) (pagesAt s pg i) (cursorIn q i)
   pub on-page : (i : ℕ) → i < length ts → OnPage p (readerAt s pg q i)
 
 pub record AheadOf (s ts ct ps ws : List ℕ) (b i : ℕ) : Type 0 where

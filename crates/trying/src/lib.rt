@@ -29,7 +29,7 @@ pub fn turn_next(
         return at;
     }
     let i = openlists::source_of(lists[LEAD] as usize, at.standing);
-    let rank = rows::rank_in(turn.q, at.standing) as usize;
+    let rank = rows::rank_in(&lists[0..COUNTS], turn.q, at.standing);
     let x = turning::ranks_at(card, &lists[COUNTS..POSITIONS], i, rank, words);
     turning::turn_to(card, &lists[POSITIONS..LEAD], i, x, words);
     Trial {

@@ -24,7 +24,7 @@ use Rattle.seeklaws.proofs.JumpLaws.{start-ahead, cursor-lt}
 use Rattle.walklaws.specs.declared.Cursor.{Cursor}
 use Rattle.walklaws.specs.declared.StartPlace.{StartPlace}
 use Rattle.walklaws.specs.declared.Ones.{Ones}
-use Rattle.walklaws.specs.Cursors.{markOf, rankAt, startIn, Moving}
+use Rattle.walklaws.specs.Cursors.{markOf, startIn, Moving}
 use Rattle.walklaws.specs.Walks.{Before, Started, Skipping, Skipped, Passed}
 use Rattle.walklaws.proofs.OpenLaws.{Ruled, open-U, open-within, open-n, open-some, open-length, open-rising}
 use Rattle.walklaws.proofs.OpenLaws.{open-ruled, before-place, before-zeros}
@@ -144,23 +144,6 @@ module _ (s : List ℕ) (g : Shape) (o : Open s g) where
       ruled .zeros-is b (omega (arith, m .below, open-U s g o)),
     )
 
-    -- the cursor's bit, by its page and rank
-    abbrev bit : ℕ
-    bit = high + c .rank
-
-    placing-bit : (a : Placing) → markOf xs a ≤ b → (markOf xs a - 1) / 2 ^ g .w + rankAt xs a ≡ cursorBit U xs a
-    unfolding markOf rankAt cursorBit
-    placing-bit fresh l = omega (arith, zero-div (2 ^ g .w))
-    placing-bit spent l = absurd (omega (arith, m .below, open-within s g o))
-    placing-bit (on i) l =
-        let e : getD xs i 0 + 1 - 1 ≡ getD xs i 0 = omega arith in
-        rw (ruled .place-is i, e)
-
-    bit-is : bit ≡ cursorBit U xs (m .cursor .place)
-    bit-is =
-        let h = m .cursor in
-        rw (h .mark-is, h .rank-is) (placing-bit (h .place) (rw (h .mark-is) at (m .ahead)))
-
     -- the zeros before the cursor's bit are its high part
     placing-counted : (a : Placing) → Placed xs a → markOf xs a ≤ b
         → onesBelow s (g .upper) (cursorBit U xs a) + (markOf xs a - 1) / 2 ^ g .w ≡ cursorBit U xs a
@@ -172,16 +155,16 @@ module _ (s : List ℕ) (g : Shape) (o : Open s g) where
         let e : getD xs i 0 + 1 - 1 ≡ getD xs i 0 = omega arith in
         rw (ruled .place-is i, e) (omega (arith, ruled .ranked i h))
 
-    cursor-counted : onesBelow s (g .upper) bit + high ≡ bit
+    cursor-counted : onesBelow s (g .upper) (c .bit) + (c .mark - 1) / 2 ^ g .w ≡ c .bit
     cursor-counted =
         let h = m .cursor in
-        rw (bit-is, h .mark-is) (placing-counted (h .place) (h .placed) (rw (h .mark-is) at (m .ahead)))
+        rw (h .mark-is, h .bit-is) (placing-counted (h .place) (h .placed) (rw (h .mark-is) at (m .ahead)))
 
-    start-is : startIn s c b ≡ max bit (pointerOf s g number)
+    start-is : startIn s c b ≡ max (c .bit) (pointerOf s g number)
     unfolding startOf
     start-is = rw (
       held-rule U xs (open-rising s g o) (open-within s g o) c (m .cursor),
-      ← bit-is,
+      ← m .cursor .bit-is,
       ruled .wide,
       ruled .bits-is,
     )
@@ -215,11 +198,11 @@ module _ (s : List ℕ) (g : Shape) (o : Open s g) where
               ],
         )
 
-    cursor-own : (own : ℕ) → own ≤ 1 → own ≤ c .mark → Before s b (onesBelow s (g .upper) bit)
-        → (own ≤ runBit s (g .upper) bit) × Before s b (onesBelow s (g .upper) bit + own)
+    cursor-own : (own : ℕ) → own ≤ 1 → own ≤ c .mark → Before s b (onesBelow s (g .upper) (c .bit))
+        → (own ≤ runBit s (g .upper) (c .bit)) × Before s b (onesBelow s (g .upper) (c .bit) + own)
     cursor-own own h q =
         let a = m .cursor in
-        rw bit-is (placing-own (a .place) (a .placed) (rw (a .mark-is) at (m .ahead)) own h (rw (a .mark-is) at q))
+        rw (a .bit-is) (placing-own (a .place) (a .placed) (rw (a .mark-is) at (m .ahead)) own h (rw (a .mark-is) at q))
 
     -- the start is the larger of the cursor's bit and the pointer
     pub started-jump : (r : StartPlace) → PointerAt s g number (r .bit) → r .zeros ≡ 256 * number → r .own ≡ 0
@@ -227,9 +210,9 @@ module _ (s : List ℕ) (g : Shape) (o : Open s g) where
         → Started s g b r × (r .bit ≡ startIn s c b)
     started-jump r p z n l =
         let q =
-        after-lt (onesBelow s (g .upper)) (run-steps s (g .upper)) (256 * number) (r .bit) (p .after) bit
+        after-lt (onesBelow s (g .upper)) (run-steps s (g .upper)) (256 * number) (r .bit) (p .after) (c .bit)
         (omega (arith, cursor-counted)) in
-        let e : r .bit ≡ max bit (pointerOf s g number) = omega (arith, p .defined) in
+        let e : r .bit ≡ max (c .bit) (pointerOf s g number) = omega (arith, p .defined) in
         let d : r .bit ≡ startIn s c b = e ∙ sym start-is in (
           record {
             within = p .inside;
@@ -240,21 +223,21 @@ module _ (s : List ℕ) (g : Shape) (o : Open s g) where
           d,
         )
 
-    pub started-here : (r : StartPlace) → r .bit ≡ high + c .rank → r .zeros ≡ high → r .own ≤ 1 → r .own ≤ c .mark
+    pub started-here : (r : StartPlace) → r .bit ≡ c .bit → r .zeros ≡ high → r .own ≤ 1 → r .own ≤ c .mark
         → number ≤ high / 256
         → Started s g b r × (r .bit ≡ startIn s c b)
     started-here r e z h w l =
         let p = read-pointer number pointer-inside in
         let q =
-        after-le (onesBelow s (g .upper)) (run-steps s (g .upper)) (256 * number) (p .0) (p .1 .after) bit
+        after-le (onesBelow s (g .upper)) (run-steps s (g .upper)) (256 * number) (p .0) (p .1 .after) (c .bit)
         (omega (arith, cursor-counted)) in
         let k =
         cursor-lt U xs (open-rising s g o) (m .cursor .place) (m .cursor .placed) (rw (open-length s g o) some) in
-        let f : r .bit ≡ max bit (pointerOf s g number) = omega (arith, p .1 .defined) in
+        let f : r .bit ≡ max (c .bit) (pointerOf s g number) = omega (arith, p .1 .defined) in
         let d : r .bit ≡ startIn s c b = f ∙ sym start-is in
         let own = cursor-own (r .own) h w (rw e at (start-before (r .bit) d)) in (
           record {
-            within = omega (arith, k, bit-is, ruled .bits-is);
+            within = omega (arith, k, m .cursor .bit-is, ruled .bits-is);
             counted = rw e (omega (arith, cursor-counted));
             own-set = rw e (own .0);
             passed = rw e (own .1);

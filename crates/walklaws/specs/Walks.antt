@@ -13,7 +13,7 @@
 --   Skipped s g h r   a walk that stands just after zero number h
 --   Passed s g b r    a walk that has passed no element at least b
 --   AtOne s g x r     a walk of the same rank that has a one left in its word
---   Landed s b r      the mark and rank of the first element at least b
+--   Landed s b r      the mark, bit and rank of the first element at least b; where there is none, the list's n
 use mathlib.Core.Bool.{cond}
 use mathlib.Core.Path.{_≡_}
 use mathlib.Core.List.{List}
@@ -24,7 +24,7 @@ use lib.ListN.{length, getD}
 use Rattle.rules.specs.Runs.{bit, runWord, runBit, wordsFor}
 use Rattle.rules.specs.Counts.{onesBelow}
 use Rattle.rules.specs.ReadList.{listU, decode}
-use Rattle.rules.specs.Seek.{placeOf, upperWords}
+use Rattle.rules.specs.Seek.{placeOf, upperWords, cursorBit}
 use Rattle.fields.specs.Words.{placeOfOne}
 use Rattle.listlaws.specs.Sound.{After}
 use Rattle.shape.specs.declared.Shape.{Shape}
@@ -32,7 +32,7 @@ use Rattle.seeklaws.specs.Cursors.{firstAt, cursorAt}
 use Rattle.walklaws.specs.declared.StartPlace.{StartPlace}
 use Rattle.walklaws.specs.declared.Ones.{Ones}
 use Rattle.walklaws.specs.declared.Landing.{Landing}
-use Rattle.walklaws.specs.Cursors.{markOf, rankAt}
+use Rattle.walklaws.specs.Cursors.{markOf}
 
 pub record Rest (x y i : ℕ) : Type 0 where
   pub whole : x < 2 ^ 64
@@ -102,4 +102,5 @@ pub record AtOne (s : List ℕ) (g : Shape) (x r : Ones) : Type 0 where
 
 pub record Landed (s : List ℕ) (b : ℕ) (r : Landing) : Type 0 where
   pub mark-is : r .mark ≡ markOf (decode s) (cursorAt (decode s) (firstAt b (decode s)))
-  pub rank-is : r .rank ≡ rankAt (decode s) (cursorAt (decode s) (firstAt b (decode s)))
+  pub bit-is : r .bit ≡ cursorBit (listU s) (decode s) (cursorAt (decode s) (firstAt b (decode s)))
+  pub rank-is : r .rank ≡ firstAt b (decode s)

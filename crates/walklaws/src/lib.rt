@@ -3,11 +3,10 @@
 ghost use mathlib.Core.Path.{_≡_};
 ghost use Rattle.walklaws.specs.Cursors.{unused};
 
-// A cursor on a list: its mark is 0 where fresh, page + 1 on an element, or SPENT; the element's rank, or the list's n
-// where it is spent; and its counts.
+// A cursor on a list: its mark is 0 where fresh, page + 1 on an element, or SPENT; the element's bit; and its counts.
 pub struct Cursor {
     pub mark: u32,
-    pub rank: u32,
+    pub bit: u32,
     pub seeks: u32,
     pub looks: u32,
 }
@@ -22,7 +21,7 @@ impl Cursor {
     {
         Cursor {
             mark: 0,
-            rank: 0,
+            bit: 0,
             seeks: 0,
             looks: 0,
         }
@@ -43,8 +42,16 @@ pub struct Ones {
     pub rank: usize,
 }
 
-// Where a search ends: the cursor's mark and rank.
+// Where a search ends: the cursor's mark and bit, and the rank of the element there, or the list's n where there is none.
 pub struct Landing {
     pub mark: u32,
+    pub bit: u32,
+    pub rank: u32,
+}
+
+// What a seek hands back: the cursor that it moved, and the rank of the page that it found, or the list's n where it
+// found none.
+pub struct Moved {
+    pub cursor: Cursor,
     pub rank: u32,
 }

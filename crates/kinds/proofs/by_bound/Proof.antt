@@ -46,12 +46,9 @@ word-pages c =
     let a = p .before .before .before .args in
     rw (p .pages-in .ensures) (pages-are (a .card .now) (a .t))
 
-rank-in-requires : tie.Need-rank-in-requires
-rank-in-requires c κs = (omega arith, next (c .before) .eight)
-
 returns : tie.Need-returns
 returns c =
-    let n = c .before .before .before .before .before .before .before .before .before in
+    let n = c .before .before .before .before .before .before .before .before in
     let o = opened n in
     let a = o .before .before .before .before .args in
     rw (
@@ -59,13 +56,12 @@ returns c =
       bound-none (o .before .pages-in .result .now) (o .open-alone .result)
           (o .open-alone .ensures) (a .bound) (n .batch .result) (next n)
           (c .before .before .before .before .before .if1 .taken),
-      ← (c .before .before .before .before .before .before .before .rank-in .ensures),
     )
     (c .before .before .put .ensures)
 
-sub-t24 : tie.Need-sub-t24
-sub-t24 c =
-    let n = c .before .before .before .before .before in
+sub-t23 : tie.Need-sub-t23
+sub-t23 c =
+    let n = c .before .before .before .before in
     let o = opened n in
     let a = o .before .before .before .before .args in
     bound-marked (o .before .pages-in .result .now) (o .open-alone .result) (o .open-alone .ensures)
@@ -73,7 +69,7 @@ sub-t24 c =
 
 returns-2 : tie.Need-returns-2
 returns-2 c =
-    let n = c .before .before .before .before .before .before .before .before .before .before in
+    let n = c .before .before .before .before .before .before .before .before .before in
     let o = opened n in
     let a = o .before .before .before .before .args in
     rw (
@@ -81,7 +77,6 @@ returns-2 c =
       bound-some (o .before .pages-in .result .now) (o .open-alone .result) (o .open-alone .ensures)
           (a .bound) (n .batch .result) (next n)
           (c .before .before .before .before .before .before .if1 .left),
-      ← (c .before .before .before .before .before .before .before .before .rank-in .ensures),
     ) (c .before .before .put2 .ensures)
 
 pub by-bound-spec : {M : Type 1} → statement M
@@ -94,12 +89,11 @@ by-bound-spec =
     (λ c κs. search needs)
     (λ c. search needs)
     batch-requires
-    rank-in-requires
     (λ c. search needs)
     (λ c κs. search needs)
     (λ c. search needs)
     returns
-    sub-t24
+    sub-t23
     (λ c. search needs)
     (λ c κs. search needs)
     (λ c. search needs)

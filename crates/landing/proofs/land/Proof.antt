@@ -90,7 +90,10 @@ cast-t17 : tie.Need-cast-t17 Inv-loop μ-loop
 cast-t17 c = record { fits = omega (arith, turn (c .before .before .before .before) .low, c .before .page-at .ensures) }
 
 cast-t18 : tie.Need-cast-t18 Inv-loop μ-loop
-cast-t18 c =
+cast-t18 c = record { fits = omega (arith, turn (c .before .before .before .before) .inside) }
+
+cast-t19 : tie.Need-cast-t19 Inv-loop μ-loop
+cast-t19 c =
     let t = turn (c .before .before .before .before .before) in
     record { fits = omega (arith, t .number, t .few) }
 
@@ -103,11 +106,11 @@ returns c =
     let v = c .before .before .page-at .ensures in
     let l = landed-on (start .args .s .now) (start .args .g) (start .pre .0) (start .args .b) (one .to-one .result)
     (t .0 .at) (λ j h. at .inv .1 j (omega (arith, t .0 .rank-kept))) _ (t .0 .some)
-    (omega (arith, v, c .before .if2 .taken)) (ap (λ (x : ℕ). x + 1) v) refl in
+    (omega (arith, v, c .before .if2 .taken)) (ap (λ (x : ℕ). x + 1) v) refl refl in
     (l .0, omega (arith, l .1, at .inv .2, t .1))
 
-sub-t19 : tie.Need-sub-t19 Inv-loop μ-loop
-sub-t19 c = omega (arith, c .before .before .before .before .before .to-one .ensures .0 .some)
+sub-t20 : tie.Need-sub-t20 Inv-loop μ-loop
+sub-t20 c = omega (arith, c .before .before .before .before .before .to-one .ensures .0 .some)
 
 add-t15 : tie.Need-add-t15 Inv-loop μ-loop
 add-t15 c =
@@ -150,7 +153,7 @@ returns-2 c =
     let start = c .before .before .before .before .before .before .before .before in
     let n = c .none .ensures in
     let l = landed-none (start .args .s .now) (start .args .g) (start .pre .0) (start .args .b) (at .at) (at .inv .0)
-    (at .inv .1) _ (omega (arith, c .before .before .before .if1 .left)) (n .0) (n .1) in
+    (at .inv .1) _ (omega (arith, c .before .before .before .if1 .left)) (n .0) (n .1) (n .2) in
     (l .0, omega (arith, l .1, at .inv .2, c .before .to-end .ensures))
 
 pub land-spec : {M : Type 1} → statement M
@@ -168,8 +171,9 @@ land-spec =
     add-t16
     cast-t17
     cast-t18
+    cast-t19
     returns
-    sub-t19
+    sub-t20
     add-t15
     loop-less
     loop-again

@@ -50,6 +50,7 @@ returns c =
     let s = k .seek-in in
     rw (s .ensures .0)
     (amid-none _ _ _ _ _ _ (l .q) (l .b) (l .i) (l .found) (l .room) (l .inv) (s .result .hand) (s .ensures .1)
+    (s .result .rank) (s .ensures .2)
     (c .if1 .taken))
 
 -- the mark that a seek leaves
@@ -85,6 +86,7 @@ loop-again c =
     let s = k .seek-in in
     rw (s .ensures .0)
     (amid-larger _ _ _ _ _ _ (l .q) (l .b) (l .i) (l .found) (l .room) (l .inv) (s .result .hand) (s .ensures .1)
+    (s .result .rank) (s .ensures .2)
     (c .before .before .if1 .left) (omega (arith, c .before .if2 .taken))
     (ltb-true (l .b) (s .result .hand .mark - 1) (c .if3 .taken)))
 
@@ -117,6 +119,7 @@ returns-2 c =
     let s = k .seek-in in
     rw (s .ensures .0)
     (amid-full _ _ _ _ _ _ (l .q) (l .b) (l .i) (l .found) (l .room) (l .inv) (s .result .hand) (s .ensures .1)
+    (s .result .rank) (s .ensures .2)
     (c .before .before .before .if1 .left) (no-larger (c .before .before)) (c .before .if4 .taken)
     (omega (arith, c .if5 .taken, length-set (l .room) (l .found) (s .result .hand .mark - 1), l .inv .behind .long)))
 
@@ -133,6 +136,7 @@ loop-again-2 c =
     let s = k .seek-in in
     rw (s .ensures .0)
     (amid-page _ _ _ _ _ _ (l .q) (l .b) (l .i) (l .found) (l .room) (l .inv) (s .result .hand) (s .ensures .1)
+    (s .result .rank) (s .ensures .2)
     (c .before .before .before .if1 .left) (no-larger (c .before .before)) (c .before .if4 .taken)
     (omega (arith, c .if5 .left, length-set (l .room) (l .found) (s .result .hand .mark - 1), l .inv .behind .long)))
 
@@ -149,6 +153,7 @@ loop-again-3 c =
     let s = k .seek-in in
     rw (s .ensures .0)
     (amid-same _ _ _ _ _ _ (l .q) (l .b) (l .i) (l .found) (l .room) (l .inv) (s .result .hand) (s .ensures .1)
+    (s .result .rank) (s .ensures .2)
     (c .before .before .if1 .left) (no-larger (c .before)) (c .if4 .left))
 
 pub batch-spec : {M : Type 1} → statement M

@@ -11,15 +11,19 @@ seek-requires c κs =
     let p = c .before .before .before .before .before .before .pre in
     let from = c .before .before .before .number .ensures in
     let to = c .before .before .number2 .ensures in
-    rw (from, to, c .shape-in .ensures) (p .list .opened, p .held, p .seeks, p .looks)
+    rw (from, to, c .shape-in .ensures) (p .list .opened, rw (p .list .bound) (p .held), p .seeks, p .looks)
 
 returns : tie.Need-returns
 unfolding partAt pagesAt
 returns c =
-    let p = c .before .before .before .before .before .before .before .pre in
-    let from = c .before .before .before .before .number .ensures in
-    let to = c .before .before .before .number2 .ensures in
-    (refl, rw (c .seek .ensures, from, to, p .list .bound))
+    let k = c .before in
+    let p = k .before .before .before .before .before .before .before .pre in
+    let from = k .before .before .before .before .number .ensures in
+    let to = k .before .before .before .number2 .ensures in (
+      refl,
+      rw (k .seek .ensures, from, to, p .list .bound),
+      rw (k .seek .ensures, from, to, p .list .bound),
+    )
 
 pub seek-in-spec : {M : Type 1} → statement M
 seek-in-spec =

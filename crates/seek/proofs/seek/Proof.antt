@@ -1,11 +1,11 @@
 -- `seek` is the search with one seek more.
 use borrow.Author.Needs.{needs}
-use Rattle.walklaws.specs.Cursors.{held, landing, looksFor, movedTo}
+use Rattle.walklaws.specs.Cursors.{held, landing, looksFor, rankFor, movedTo}
 use Rattle.seek.proofs.seek.Statement.{statement}
 use Rattle.seek.proofs.seek.Tie as tie
 
 returns : tie.Need-returns
-unfolding movedTo held landing looksFor
+unfolding movedTo rankFor held landing looksFor
 returns c =
     let f = c .before .find .ensures in
     rw (f .0, f .1)

@@ -1,6 +1,6 @@
 -- `start` gives the larger of the cursor's bit and the pointer: which it is shows in the cursor's high part.
-use mathlib.Core.Path.{refl, ap}
-use Prim.Native.Nat.{ℕ, _+_, _-_, _^_, _<_}
+use mathlib.Core.Path.{refl}
+use Prim.Native.Nat.{_-_, _^_, _<_}
 use native.Mathlib.Nat.{div-le-self}
 use native.Mathlib.Omega.{arith}
 use borrow.Author.Needs.{needs}
@@ -57,17 +57,14 @@ returns c =
     started-jump (a .s .now) (a .g) (start .pre .0) (a .c) (a .b) (start .pre .1) _ (c .pointer-at .ensures) refl refl
     (omega (arith, c .before .before .before .high-of .ensures))
 
-add-t9 : tie.Need-add-t9
-add-t9 c = record { fits = omega (arith, high-small (c .before .before .before)) }
-
 returns-2 : tie.Need-returns-2
 returns-2 c =
     let start = c .before .before .before .before .before .before in
     let a = start .args in
     let e = c .before .before .before .before .high-of .ensures in
     let own = own-of (a .c .mark) in
-    started-here (a .s .now) (a .g) (start .pre .0) (a .c) (a .b) (start .pre .1) _
-    (ap (λ (x : ℕ). x + a .c .rank) e) e (own .few) (own .marked) (omega (arith, e))
+    started-here (a .s .now) (a .g) (start .pre .0) (a .c) (a .b) (start .pre .1) _ refl e (own .few) (own .marked)
+    (omega (arith, e))
 
 pub start-spec : {M : Type 1} → statement M
 start-spec =
@@ -81,6 +78,5 @@ start-spec =
     (λ c. search needs)
     returns
     (λ c. search needs)
-    add-t9
     (λ c. search needs)
     returns-2)

@@ -2,15 +2,14 @@
 use mathlib.Core.Path.{_≡_, refl, sym, ap, _∙_}
 use Prim.Native.Nat.{ℕ, _+_, _≤_, _<_}
 use native.Mathlib.Omega.{arith}
-use borrow.Author.Needs.{needs}
 use lib.Dec.{lit≤}
 use lib.ListN.{length}
 use mir.Syntax.{w64}
 use mir.Val.{Fits}
-use Rattle.querylaws.specs.Queries.{rankIn}
+use Rattle.querylaws.specs.Ranks.{rankBy}
 use Rattle.openlists.specs.Places.{slotOf}
-use Rattle.triallaws.specs.Asked.{leadIn}
-use Rattle.triallaws.proofs.RankLaws.{lead-few, asked-list, rank-ready, turn-ready, trying-turned}
+use Rattle.triallaws.specs.Asked.{pagesIn, leadIn}
+use Rattle.triallaws.proofs.RankLaws.{lead-few, asked-list, asked-rank, rank-ready, turn-ready, trying-turned}
 use Rattle.triallaws.proofs.TrialLaws.{next-within, next-slot}
 use Rattle.trying.proofs.turn_next.Statement.{statement}
 use Rattle.trying.proofs.turn_next.Tie as tie
@@ -28,7 +27,7 @@ start c = c .before .before .before .before .before .before .before .before
 
 -- where the source was found, and where the rank was read
 abbrev source : tie.After-ranks-at → tie.After-source-of
-source c = c .before .before .before .before
+source c = c .before .before .before .before .before
 
 abbrev rank : tie.After-ranks-at → tie.After-rank-in
 rank c = c .before .before .before
@@ -49,21 +48,25 @@ next c =
 
 rank-in-requires : tie.Need-rank-in-requires
 rank-in-requires c κs =
-    let b = start c in
-    let n = next c in
+    let b = start (c .before) in
+    let n = next (c .before) in
+    let r = asked-rank _ _ _ _ _ _ (b .pre .0 .asked) _ (n .0) _ _ (b .pre .1) in
     let l = asked-list _ _ _ _ _ _ (b .pre .0 .asked) _ (n .0) in
-    (omega (arith, l .few, n .1), b .pre .1 .eight)
+    (omega (arith, l .room, n .1), omega (arith, l .few, n .1), b .pre .1 .eight, rw (n .1) at (r .on-element))
 
 -- the rank that was read
 ranked : (c : tie.After-rank-in)
-    → let a = start (c .before) .args in
-    c .rank-in .result ≡ rankIn (a .turn .q) (slotOf (leadIn (a .lists .now)) (c .before .source-of .result))
-ranked c = c .rank-in .ensures ∙ ap (rankIn (start (c .before) .args .turn .q)) (sym (next (c .before) .1))
+    → let a = start (c .before .before) .args in
+    c .rank-in .result
+    ≡ rankBy (pagesIn (a .lists .now)) (a .turn .q) (slotOf (leadIn (a .lists .now)) (c .before .before .source-of .result))
+ranked c =
+    let a = start (c .before .before) .args in
+    c .rank-in .ensures ∙ ap (rankBy (pagesIn (a .lists .now)) (a .turn .q)) (sym (next (c .before .before) .1))
 
 ranks-at-requires : tie.Need-ranks-at-requires
 ranks-at-requires c κs =
-    let b = start (c .before .before .before) in
-    let n = next (c .before .before .before) in
+    let b = start (c .before .before .before .before) in
+    let n = next (c .before .before .before .before) in
     let y = b .pre .2 in
     rw (ranked (c .before .before))
     (rank-ready _ _ _ _ _ _ (b .pre .0 .asked) _ _ (b .pre .1) _ (n .0) _ (y .room)
@@ -105,11 +108,13 @@ turn-next-spec =
     (λ c. in-row (c .before .before .before .before .before .before .before .pre .0 .row) (lit≤ tt))
     (λ c. omega (arith, lead-few _ _ _ _ _ _ (c .before .before .before .before .before .before .before .pre .0 .asked)))
     (λ c κs. tt)
+    (λ c. lit≤ tt)
+    (λ c. lit≤ tt)
+    (λ c. in-row (start c .pre .0 .row) (lit≤ tt))
     rank-in-requires
-    (λ c. search needs)
     (λ c. lit≤ tt)
     (λ c. lit≤ tt)
-    (λ c. in-row (start (c .before) .pre .0 .row) (lit≤ tt))
+    (λ c. in-row (start (c .before .before) .pre .0 .row) (lit≤ tt))
     ranks-at-requires
     (λ c. lit≤ tt)
     (λ c. lit≤ tt)
