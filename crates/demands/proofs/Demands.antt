@@ -40,8 +40,8 @@ use Rattle.demands.proofs.WriteLaws.{close-size, list-writes, list-wrot
 use Rattle.demands.proofs.WriteLaws.{told-refused, told-success}
 use Rattle.demands.proofs.AskLaws.{Reads, fits, reply-nothing, reply-room, reply-all, all-reply, reads}
 use Rattle.demands.proofs.AskLaws.{written-formed}
-use Rattle.demands.proofs.KindLaws.{length-lists, states-T, pages-rise, may-ask, plain-answers, length-plain, common-told}
-use Rattle.demands.proofs.KindLaws.{common-lists, seeks-most, seeks-same, looks-most, counts-fit}
+use Rattle.demands.proofs.KindLaws.{length-lists, states-T, pages-rise, may-ask, plain-answers, length-plain}
+use Rattle.demands.proofs.KindLaws.{common-told, common-lists, seeks-most, seeks-same, looks-most, counts-fit}
 use Rattle.demands.proofs.SameLaws.{begins-length, begins-times, times-twice, runs-twice}
 use Rattle.demands.proofs.PlainLaws.{rank-in, rank-past, bound-at, bound-none, bound-last, rank-length}
 use Rattle.demands.proofs.PlainLaws.{bound-length}

@@ -41,7 +41,8 @@ module _ (b : ℕ) where
       rw (lt-leb b x (a 0 (omega arith)), firstFrom, e)
       (first-at xs (k + 1) i (omega arith) l (λ j m. a (suc j) (omega arith)))
 
-  first-none : (xs : List ℕ) (k : ℕ) → ((j : ℕ) → j < length xs → getD xs j 0 < b) → firstFrom b k xs ≡ none (k + length xs)
+  first-none : (xs : List ℕ) (k : ℕ) → ((j : ℕ) → j < length xs → getD xs j 0 < b)
+      → firstFrom b k xs ≡ none (k + length xs)
   unfolding firstFrom
   first-none [] k a = ap none (sym (add-zero k))
   first-none (x ∷ xs) k a =

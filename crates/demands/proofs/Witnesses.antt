@@ -25,8 +25,8 @@ use Rattle.rules.specs.Index.{termsRefusal, indexRefusal, closeRefusal, closeIn
 use Rattle.rules.specs.Seek.{placeOf, bitsOf, cursorBit, startOf, looksTo, walk, gone, arrived, walked, walkFrom, move}
 use Rattle.rules.specs.Seek.{fresh, rankOf, seek}
 use Rattle.rules.specs.Common.{leadFrom, leadOf, readersOf, before, stopped, agree, counted, nothing, rounds, common}
-use Rattle.rules.specs.Questions.{firstFrom, below, member, inAll, sharedBy, commonPages, positionsAmong, positionsOn, stands}
-use Rattle.rules.specs.Questions.{startsAmong, starts, withStarts, numbered, pagesIn, listsIn, wordsIn, byRank, byBound}
+use Rattle.rules.specs.Questions.{firstFrom, below, member, inAll, sharedBy, commonPages, positionsAmong, positionsOn}
+use Rattle.rules.specs.Questions.{stands, startsAmong, starts, withStarts, numbered, pagesIn, listsIn, wordsIn, byRank, byBound}
 use Rattle.rules.specs.Questions.{byCommon, byPhrase, answer, allBelow, goodQuestion, kindOf, countOf, argsOf, behind}
 use Rattle.rules.specs.Questions.{wellFormed, replies}
 use Rattle.rules.specs.Ask.{fitting, fitted, reply, joined, put, ask}

@@ -227,8 +227,7 @@ module _ (s sh : List ℕ) (k : ℕ) (q₀ : Query) (b₀ : ℕ) (room₀ : List
 
             -- or the room is full
             pub amid-full : length room₀ ≤ found + 1
-                → Batched s sh k q₀ b₀ room₀ (record { q = withCursor q i c; mark = c .mark; rank = r; found = found + 1 })
-                (set room found (c .mark - 1))
+                → Batched s sh k q₀ b₀ room₀ turn (set room found (c .mark - 1))
             unfolding Turns
             amid-full m =
                 let none-left : length room₀ - (found + 1) ≡ 0 = omega arith in

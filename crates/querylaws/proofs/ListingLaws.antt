@@ -186,7 +186,8 @@ module _ (s sh : List ℕ) (k : ℕ) where
       let u = x .0 in
       let next = partway-step q b found ps p u (x .1) (x .3) in
       let later = turned-later s sh k q b (p .running .apt) u (x .1) (x .3) in
-      let rest = reached-later n (u .q) (u .mark) (u .rank) (found + 1) (ps ++ (u .mark - 1) ∷ []) qs t (later .1) next (x .4) in
+      let rest =
+      reached-later n (u .q) (u .mark) (u .rank) (found + 1) (ps ++ (u .mark - 1) ∷ []) qs t (later .1) next (x .4) in
       (omega (arith, later .0, rest .0), λ z. omega (arith, later .0, rest .0))
 
 -- ---- the pages so far in the room

@@ -108,8 +108,8 @@ module _ (U k b : ℕ) (f g : ℕ → Reader) where
         ∙ rw (others-same m, m .here) (unfold moved in refl)
     pending-none (suc j) h m n e =
         rw (span-cons f (suc j) k h)
-        (midway-none U (f 0) b (cursorRank (f 0 .cursor)) (span f 1 j) (f (suc j)) (span f (suc j + 1) (k - (suc j + 1)))
-        n e
+        (midway-none U (f 0) b (cursorRank (f 0 .cursor)) (span f 1 j) (f (suc j))
+        (span f (suc j + 1) (k - (suc j + 1))) n e
         ∙ rw (others-parts j h m, lead-same j h m))
 
     -- the rank of a page is the cursor's

@@ -251,7 +251,8 @@ module _ (s sh : List ℕ) (k : ℕ) (q : Query) (b : ℕ) (a : Apt s sh k q b) 
       let m : toCome s sh k q i b .seeks ≡ suc (suc (n - 1)) =
       ap (λ (x : Next). x .seeks) (here-page e) ∙ omega arith in
       let p : suc (n - 1) ≡ n = omega arith in
-      let first : toldOn s sh (suc (suc (n - 1))) q i b ≡ toldOn s sh (suc (n - 1)) after j then = unfold toldOn in refl in
+      let first : toldOn s sh (suc (suc (n - 1))) q i b ≡ toldOn s sh (suc (n - 1)) after j then =
+      unfold toldOn in refl in
       ap (λ (x : ℕ). toldOn s sh x q i b) m ∙ first ∙ ap (λ (x : ℕ). toldOn s sh x after j then) p
 
   pub page-least : (next .mark ≡ spentMark → ⊥) → b ≤ next .mark - 1

@@ -24,8 +24,8 @@ use Rattle.querylaws.proofs.PendingLaws.{cursorRank, listAfter-larger, 
 use Rattle.querylaws.proofs.PendingLaws.{pending-end}
 use Rattle.querylaws.proofs.ListLaws.{list-within, list-length, span-words}
 use Rattle.querylaws.proofs.QueryLaws.{total-at, left, seek-apt, seek-seeks, mark-some, left-none, left-page}
-use Rattle.querylaws.proofs.QueryLaws.{endOf, toldOf, end-all, end-none, end-page, told-none, told-last, told-page}
-use Rattle.querylaws.proofs.QueryLaws.{some-left, page-least}
+use Rattle.querylaws.proofs.QueryLaws.{endOf, toldOf, end-all, end-none, end-page, told-none, told-last}
+use Rattle.querylaws.proofs.QueryLaws.{told-page, some-left, page-least}
 
 apt-more : (s sh : List ℕ) (k : ℕ) (q : Query) (b d : ℕ) → Apt s sh k q b → b ≤ d → Apt s sh k q d
 apt-more s sh k q b d a l = record {
@@ -180,8 +180,8 @@ module _ (s sh : List ℕ) (k : ℕ) (q₀ : Query) (b₀ : ℕ) where
       let p = pending-end (boundIn sh) k b (readerAt s sh q) (m .apt .lists .some) in
       let end = ap (plus (seeksOf q) (looksOf q)) p in
       turned-from (page b (cursorRank (leadIn s sh q .cursor))) (record { q = q; mark = b + 1; rank = r; found = n }) b
-      (m .running) (m .apt) (sym end ∙ rw e at (m .same)) (sym (end-all s sh k q b (m .apt .lists .some)) ∙ rw e at (m .ends))
-      x (unfold markFound in refl)
+      (m .running) (m .apt) (sym end ∙ rw e at (m .same))
+      (sym (end-all s sh k q b (m .apt .lists .some)) ∙ rw e at (m .ends)) x (unfold markFound in refl)
       (λ c j z. let x : b ≡ c = cc in omega arith)
 
   module _ (q : Query) (b i : ℕ) (m : Midst q b i) where

@@ -81,7 +81,8 @@ module _ (s sh : List ℕ) (k : ℕ) (q : Query) (b : ℕ) where
       → Turned s sh k q b t′
   turned-like t t′ e m i u =
       subst (λ (r : Query). Turned s sh k q b (record { q = r; mark = t′ .mark; rank = t′ .rank; found = t′ .found })) e
-      (subst (λ (n : ℕ). Turned s sh k q b (record { q = t .q; mark = n; rank = t′ .rank; found = t′ .found })) m (record {
+      (subst (λ (n : ℕ). Turned s sh k q b (record { q = t .q; mark = n; rank = t′ .rank; found = t′ .found })) m
+      (record {
         query = u .query;
         eight = u .eight;
         mark = u .mark;

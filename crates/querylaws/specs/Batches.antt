@@ -3,8 +3,8 @@
 --   Turns s sh k n q b m ps t         ps are the next pages from b on that the k lists share, n of them, or fewer where
 --                                     none is left; t is the query behind them, with the mark of the last (b where n is
 --                                     0), or spentMark where none is left, and the last number told (m where n is 0)
---   Batched s sh k q b room r room′   r is that query, mark and number for as many pages as the room has places, with how many
---                                     were found; room′ is the room with them at its front
+--   Batched s sh k q b room r room′   r is that query, mark and number for as many pages as the room has places, with
+--                                     how many were found; room′ is the room with them at its front
 use mathlib.Core.Path.{_≡_}
 use mathlib.Core.List.{List, [], _∷_}
 use Prim.Native.Nat.{ℕ, zero, suc, _+_}

@@ -19,9 +19,9 @@
 --   Seekable s sh i c   c is a cursor that seeks on list i have made, and its counts have room for one more
 --   Apt s sh k q b      the k lists are there, seeks on them made their cursors, and none has passed a page from b on
 --   Running s sh k q b  so, and no count will wrap
---   Turned s sh k q b t t is the query after the seeks for its next page at or above b, with the mark of that page and the
---                       last number told: its readers and totals are the rule's, and from behind a page that was found
---                       it is Running
+--   Turned s sh k q b t t is the query after the seeks for its next page at or above b, with the mark of that page and
+--                       the number that the last of them answers: its readers and totals are the rule's, and from
+--                       behind a page that was found it is Running
 use mathlib.Core.Bool.{cond, _&&_}
 use mathlib.Core.Path.{_≡_}
 use mathlib.Core.List.{List, [], _∷_}

@@ -3,7 +3,7 @@
 --
 --   firstFrom b i xs       the first element at least b with its number, xs those from number i on; or none, with the
 --                          number of all
---   below b xs             how many of xs are below b
+--   below b xs             how many of xs are below b [02 a]
 --   inAll x ls             whether x is in every list
 --   commonPages ls         the pages that all the lists hold
 --   positionsOn p t        the positions of word t on page p

@@ -1,8 +1,8 @@
 -- How a seek moves, and what it counts: the step rule on one list [01 How a seek moves].
 --
 --   Cursor          fresh, on element number i, or spent
---   Found           none with the list's n, or a page with its rank
---   rankOf f        the number that either carries: the page's rank, or n
+--   Found           none with the list's n [02 a], or a page with its rank
+--   rankOf f        the number that either carries [02 a]: the page's rank, or n
 --   Sought          what a seek answers: found, the next cursor, looks
 --   placeOf U xs i  the bit of element number i in the upper run
 --   bitsOf U xs     the bits of the upper run; 0 for the empty list

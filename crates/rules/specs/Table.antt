@@ -105,7 +105,8 @@ samples =
     ∷ (notList (set (set s8 15 1) 16 0xFF) Runs
     ∷ (asked s9 (3 ∷ (9 ∷ replicate 9 0)) 40 Question 0 []
     ∷ (asked s9 (3 ∷ (1 ∷ (1 ∷ []))) 40 Question 0 []
-    -- kinds 1 and 2 on S12, both ends; none of a word, and of an empty one; room one short; parts that disagree; the writer's refusals
+    -- kinds 1 and 2 on S12, both ends; none [02 a] of a word and of an empty one; room one short; parts that disagree;
+    -- the writer's refusals
     ∷ (asked s12 (1 ∷ (2 ∷ (0 ∷ (7 ∷ (1 ∷ (2 ∷ (0 ∷ (8 ∷ [])))))))) 40 Accepted 2 (1 ∷ (43 ∷ (0 ∷ [])))
     ∷ (asked s12 (2 ∷ (2 ∷ (0 ∷ (16 ∷ (2 ∷ (2 ∷ (0 ∷ (44 ∷ [])))))))) 40 Accepted 2 (2 ∷ (21 ∷ (6 ∷ (1 ∷ (8 ∷ [])))))
     ∷ (asked s12 (2 ∷ (2 ∷ (1 ∷ (4294967295 ∷ [])))) 2 Accepted 1 (1 ∷ (2 ∷ []))

@@ -32,7 +32,8 @@ module _ (U : ℕ) (xs : List ℕ) (rises : rising 0 U xs ≡ true) (within : U 
       ap₂ _∷_ (moved-found U xs rises within c h b)
       (rest ∙ ap (λ (a : Placing). answers U xs a bs) (moved-rule U xs rises within c h b))
 
-  ranks-rule : (c : Cursor) → Held U xs c → (bs : List ℕ) → ranksBy U xs c bs ≡ ranks (answers U xs (ruleCursor U xs c) bs)
+  ranks-rule : (c : Cursor) → Held U xs c → (bs : List ℕ)
+      → ranksBy U xs c bs ≡ ranks (answers U xs (ruleCursor U xs c) bs)
   unfolding ranksBy rankFor answers ranks
   ranks-rule c h [] = refl
   ranks-rule c h (b ∷ bs) =

@@ -63,7 +63,8 @@ module _ (U : ℕ) (xs : List ℕ) where
           walk-ahead U xs (startOf U xs c b) b (start-ahead U xs r c b p (floor-le c m)),
         )
 
-        pub seek-none : firstAt b xs ≡ length xs → seek U xs c b ≡ gone xs (looksTo (startOf U xs c b) (bitsOf U xs - 1))
+        pub seek-none : firstAt b xs ≡ length xs
+            → seek U xs c b ≡ gone xs (looksTo (startOf U xs c b) (bitsOf U xs - 1))
         unfolding walked
         seek-none e = seek-walked ∙ rw (eq-eqb (firstAt b xs) (length xs) e)
 

@@ -1,4 +1,5 @@
--- Laws of order in a rising list, of its first element at least b, read plainly or by a walk, and of how many are below b.
+-- Laws of order in a rising list, of its first element at least b, read plainly or by a walk, and of how many are below
+-- b.
 use mathlib.Core.Bool.{Bool, true, false, cond, and-false}
 use mathlib.Core.Path.{_≡_, refl, sym, ap, _∙_}
 use mathlib.Core.List.{List, [], _∷_}
@@ -112,7 +113,8 @@ walk-first w start b i (x ∷ xs) a =
 -- ---- by plain reading
 
 firstFrom-is : (b i : ℕ) (xs : List ℕ)
-    → firstFrom b i xs ≡ cond (eqb (firstAt b xs) (length xs)) (none (i + firstAt b xs)) (page (getD xs (firstAt b xs) 0) (i + firstAt b xs))
+    → firstFrom b i xs
+    ≡ cond (eqb (firstAt b xs) (length xs)) (none (i + firstAt b xs)) (page (getD xs (firstAt b xs) 0) (i + firstAt b xs))
 unfolding firstFrom firstAt
 firstFrom-is b i [] = ap none (sym (add-zero i))
 firstFrom-is b i (x ∷ xs) =

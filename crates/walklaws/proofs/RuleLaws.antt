@@ -148,7 +148,8 @@ module _ (U : ℕ) (xs : List ℕ)
       -- the walk ends at the first element at least b, or at the run's last word
       pub landing-walked : (r : Landing) (before after : ℕ) → startOf U xs (ruleCursor U xs c) b < bitsOf U xs
           → r .mark ≡ markOf xs (cursorAt xs (firstAt b xs)) → r .bit ≡ cursorBit U xs (cursorAt xs (firstAt b xs))
-          → r .rank ≡ firstAt b xs → after + startOf U xs (ruleCursor U xs c) b / 64 ≡ before + 1 + lastWord U xs (firstAt b xs)
+          → r .rank ≡ firstAt b xs
+          → after + startOf U xs (ruleCursor U xs c) b / 64 ≡ before + 1 + lastWord U xs (firstAt b xs)
           → Ends U xs c b r before after
       unfolding gone arrived rankOf looksTo upperWords wordsFor
       landing-walked r before after l m p k n =

@@ -42,7 +42,8 @@ pub struct Ones {
     pub rank: usize,
 }
 
-// Where a search ends: the cursor's mark and bit, and the rank of the element there, or the list's n where there is none.
+// Where a search ends: the cursor's mark and bit, and the rank of the element there, or the list's n where there is
+// none.
 pub struct Landing {
     pub mark: u32,
     pub bit: u32,

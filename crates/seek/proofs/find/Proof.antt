@@ -41,7 +41,8 @@ high-of-requires c κs =
 -- where a cursor stays on an element, the high part that was read, and the rank by it
 staying : (c : tie.After-high-of) →
     let a = c .before .before .before .before .before .before .args in
-    (c .high-of .result ≤ a .c .bit) × (a .c .bit - c .high-of .result ≡ rankIn (listU (a .s .now)) (decode (a .s .now)) (a .c))
+    (c .high-of .result ≤ a .c .bit)
+    × (a .c .bit - c .high-of .result ≡ rankIn (listU (a .s .now)) (decode (a .s .now)) (a .c))
 unfolding rankIn
 staying c =
     let start = c .before .before .before .before .before .before in
@@ -110,7 +111,8 @@ start-requires c κs = (c .before .before .before .before .before .before .befor
 
 none-requires-3 : tie.Need-none-requires-3
 none-requires-3 c κs =
-    let start = c .before .before .before .before .before .before .before .before .before .before .before .before .before in
+    let there = c .before .before .before .before .before in
+    let start = there .before .before .before .before .before .before .before .before in
     open-few (start .args .s .now) (start .args .g) (start .pre .0)
 
 returns-4 : tie.Need-returns-4
