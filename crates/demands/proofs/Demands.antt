@@ -21,7 +21,7 @@ use Rattle.rules.specs.ReadTerm.{termRefusal}
 use Rattle.rules.specs.Index.{validCard, card, indexN, indexT, indexRefusal, closeIndex}
 use Rattle.rules.specs.Seek.{upperWords}
 use Rattle.rules.specs.Common.{rounds, common}
-use Rattle.rules.specs.Questions.{below, commonPages, byCommon, byPhrase, allBelow, goodQuestion, wellFormed, replies}
+use Rattle.rules.specs.Questions.{below, commonPages, byBound, byCommon, byPhrase, allBelow, goodQuestion, wellFormed, replies}
 use Rattle.rules.specs.Ask.{Replied, fitting, joined, reply}
 use Rattle.laws.proofs.RefusalLaws.{number-inj}
 use Rattle.listlaws.proofs.Theorems as lists
@@ -274,6 +274,15 @@ module _ (N : ℕ) (ts : List Word) (v : validCard N ts ≡ true) (room : List �
         λ k. a .2 ∙ ap (λ (c : List ℕ). laid c room) (rank-past xs rank k),
       )
 
+  -- The answer c of a question for a bound.
+  bound-answered : (t b : ℕ) → t < length ts → HostAnswered (card N ts) (2 ∷ (2 ∷ (t ∷ (b ∷ [])))) room r after
+      → (c : List ℕ) → byBound (pagesAt ts t) b ≡ c → length c ≤ length room → (r .refusal ≡ 0) × (after ≡ laid c room)
+  unfolding plain goodQuestion
+  bound-answered t b h p c e l =
+      let q : Query = record { kind = 2; numbers = t ∷ (b ∷ []) } in
+      let a = one-answered q (rw (lt-ltb t (length ts) h)) p (rw e l) in
+      (a .0, a .2 ∙ ap (λ (c : List ℕ). laid c room) e)
+
   -- Kind 2: the first page at or after the bound with its rank; or the number of all pages where there is none, for
   -- which two numbers of room are enough.
   pub by-bound : (t b : ℕ) → t < length ts → HostAnswered (card N ts) (2 ∷ (2 ∷ (t ∷ (b ∷ [])))) room r after
@@ -282,29 +291,19 @@ module _ (N : ℕ) (ts : List Word) (v : validCard N ts ≡ true) (room : List �
       → (r .refusal ≡ 0) × (after ≡ laid (2 ∷ (getD (pagesAt ts t) i 0 ∷ (i ∷ []))) room))
       × (((j : ℕ) → j < length (pagesAt ts t) → getD (pagesAt ts t) j 0 < b) → 2 ≤ length room
       → (r .refusal ≡ 0) × (after ≡ laid (1 ∷ (length (pagesAt ts t) ∷ [])) room))
-  unfolding plain goodQuestion
   by-bound t b h p =
-      let xs = pagesAt ts t in
-      let q : Query = record { kind = 2; numbers = t ∷ (b ∷ []) } in (
-        λ i k m n l.
-            let e = bound-at b xs i k m n in
-            let a = one-answered q (rw (lt-ltb t (length ts) h)) p (omega (arith, ap length e)) in
-            (a .0, a .2 ∙ ap (λ (c : List ℕ). laid c room) e),
-        λ n l.
-            let e = bound-none b xs n in
-            let a = one-answered q (rw (lt-ltb t (length ts) h)) p (omega (arith, ap length e)) in
-            (a .0, a .2 ∙ ap (λ (c : List ℕ). laid c room) e),
+      let xs = pagesAt ts t in (
+        λ i k m n. bound-answered t b h p (2 ∷ (getD xs i 0 ∷ (i ∷ []))) (bound-at b xs i k m n),
+        λ n. bound-answered t b h p (1 ∷ (length xs ∷ [])) (bound-none b xs n),
       )
 
   -- Found or not, the last number of its answer is how many pages of the word lie below the bound.
   pub pages-below : (t b : ℕ) → t < length ts → HostAnswered (card N ts) (2 ∷ (2 ∷ (t ∷ (b ∷ [])))) room r after
       → 3 ≤ length room → lastOf after ≡ below b (pagesAt ts t)
-  unfolding plain goodQuestion
   pages-below t b h p l =
       let xs = pagesAt ts t in
-      let q : Query = record { kind = 2; numbers = t ∷ (b ∷ []) } in
-      let a = one-answered q (rw (lt-ltb t (length ts) h)) p (omega (arith, bound-length xs b)) in
-      ap lastOf (a .2) ∙ bound-last b N xs (pages-rise N ts v t h) room
+      let a = bound-answered t b h p (byBound xs b) refl (omega (arith, bound-length xs b)) in
+      ap lastOf (a .1) ∙ bound-last b N xs (pages-rise N ts v t h) room
 
   -- One to eight words, each by its number.
   module _ (terms : List ℕ) (some : 1 ≤ length terms) (few : length terms ≤ 8)

@@ -131,109 +131,119 @@ module _ (s sh : List ℕ) (k : ℕ) (q₀ : Query) (b₀ : ℕ) (room₀ : List
         within = r .apt .lists .some;
       }
 
-  module _ (q : Query) (b i found : ℕ) (room : List ℕ) (a : Amid q b i found room) (c : Cursor)
-      (w : c ≡ movedIn s sh i (cursorIn q i) b) (r : ℕ) (told : r ≡ toldIn s sh i (cursorIn q i) b)
-    where
-      more-left : length room₀ - found ≡ suc (length room₀ - (found + 1))
-      more-left = omega (arith, a .behind .space)
+  -- list i was sought for b, which moved its cursor to c and told r
+  pub record Step (q : Query) (b i found : ℕ) (room : List ℕ) (c : Cursor) (r : ℕ) : Type 0 where
+    pub amid : Amid q b i found room
+    pub moved : c ≡ movedIn s sh i (cursorIn q i) b
+    pub told : r ≡ toldIn s sh i (cursorIn q i) b
 
-      -- no page is left
-      pub amid-none : c .mark ≡ spentMark
-          → Batched s sh k q₀ b₀ room₀ (record { q = withCursor q i c; mark = c .mark; rank = r; found = found }) room
-      unfolding Turns
-      amid-none e =
-          let t : Turn = record { q = withCursor q i c; mark = c .mark; rank = r; found = found } in
-          let u = midst-none s sh k (a .from) (a .bound) q b i (a .midst) (a .within) c w found r told e in record {
-            pages = a .pages;
-            turns = rw append-nil at (a .behind .goes-on [] t (rw more-left (u, e)));
-            found = sym (a .behind .sized);
-            laid-out = a .behind .laid-out;
-          }
+  module _ (q : Query) (b i found : ℕ) (room : List ℕ) (c : Cursor) (r : ℕ) (x : Step q b i found room c r) where
+    abbrev a : Amid q b i found room
+    a = x .amid
 
-      module _ (e : c .mark ≡ spentMark → ⊥) where
-        -- behind a larger page the lead is next
-        pub amid-larger : 0 < i → b < c .mark - 1 → Amid (withCursor q i c) (c .mark - 1) 0 found room
-        amid-larger g l = record {
+    abbrev w : c ≡ movedIn s sh i (cursorIn q i) b
+    w = x .moved
+
+    more-left : length room₀ - found ≡ suc (length room₀ - (found + 1))
+    more-left = omega (arith, a .behind .space)
+
+    -- no page is left
+    pub amid-none : c .mark ≡ spentMark
+        → Batched s sh k q₀ b₀ room₀ (record { q = withCursor q i c; mark = c .mark; rank = r; found = found }) room
+    unfolding Turns
+    amid-none e =
+        let t : Turn = record { q = withCursor q i c; mark = c .mark; rank = r; found = found } in
+        let u = midst-none s sh k (a .from) (a .bound) q b i (a .midst) (a .within) c w found r (x .told) e in record {
+          pages = a .pages;
+          turns = rw append-nil at (a .behind .goes-on [] t (rw more-left (u, e)));
+          found = sym (a .behind .sized);
+          laid-out = a .behind .laid-out;
+        }
+
+    module _ (e : c .mark ≡ spentMark → ⊥) where
+      -- behind a larger page the lead is next
+      pub amid-larger : 0 < i → b < c .mark - 1 → Amid (withCursor q i c) (c .mark - 1) 0 found room
+      amid-larger g l = record {
+        pages = a .pages;
+        from = a .from;
+        bound = a .bound;
+        last = a .last;
+        behind = a .behind;
+        midst = midst-larger s sh k (a .from) (a .bound) q b i (a .midst) (a .within) c w e g l;
+        within = a .midst .apt .lists .some;
+      }
+
+      module _ (g : 0 < i → b < c .mark - 1 → ⊥) where
+        -- else the list behind this one
+        pub amid-same : i + 1 < k → Amid (withCursor q i c) (c .mark - 1) (i + 1) found room
+        amid-same l = record {
           pages = a .pages;
           from = a .from;
           bound = a .bound;
           last = a .last;
           behind = a .behind;
-          midst = midst-larger s sh k (a .from) (a .bound) q b i (a .midst) (a .within) c w e g l;
-          within = a .midst .apt .lists .some;
+          midst = midst-same s sh k (a .from) (a .bound) q b i (a .midst) (a .within) c w e g;
+          within = l;
         }
 
-        module _ (g : 0 < i → b < c .mark - 1 → ⊥) where
-          -- else the list behind this one
-          pub amid-same : i + 1 < k → Amid (withCursor q i c) (c .mark - 1) (i + 1) found room
-          amid-same l = record {
-            pages = a .pages;
-            from = a .from;
-            bound = a .bound;
-            last = a .last;
-            behind = a .behind;
-            midst = midst-same s sh k (a .from) (a .bound) q b i (a .midst) (a .within) c w e g;
-            within = l;
+        -- where there is none, all share the page
+        module _ (l : k ≤ i + 1) where
+          abbrev turn : Turn
+          turn = record { q = withCursor q i c; mark = c .mark; rank = r; found = found + 1 }
+
+          abbrev more : List ℕ
+          more = a .pages ++ (c .mark - 1) ∷ []
+
+          turned : Turned s sh k (a .from) (a .bound) turn
+          turned = midst-page s sh k (a .from) (a .bound) q b i (a .midst) (a .within) c w e (found + 1) r (x .told) g l
+
+          room-more : set room found (c .mark - 1) ≡ laid more room₀
+          room-more =
+              let h = a .behind in
+              ap₂ (λ (l : List ℕ) (n : ℕ). set l n (c .mark - 1)) (h .laid-out) (sym (h .sized))
+              ∙ laid-more (a .pages) room₀ (c .mark - 1) (omega (arith, h .sized, h .space))
+
+          sized-more : length more ≡ found + 1
+          sized-more = length-append (a .pages) ((c .mark - 1) ∷ []) ∙ omega (arith, a .behind .sized)
+
+          turns-more : (qs : List ℕ) (t : Turn)
+              → Turns s sh k (length room₀ - (found + 1)) (turn .q) (turn .mark) (turn .rank) qs t
+              → Turns s sh k (length room₀) q₀ b₀ 0 (more ++ qs) t
+          unfolding Turns
+          turns-more qs t x =
+              let some : c .mark ≡ c .mark - 1 + 1 =
+              omega (arith, midst-some s sh k (a .from) (a .bound) q b i (a .midst) (a .within) c w) in
+              rw (append-snoc (a .pages) (c .mark - 1) qs)
+              (a .behind .goes-on ((c .mark - 1) ∷ qs) t (rw more-left (turn, turned, some, e, x)))
+
+          -- it is listed, and the lead is next, for a page behind it
+          pub amid-page : found + 1 < length room₀
+              → Amid (withCursor q i c) (c .mark) 0 (found + 1) (set room found (c .mark - 1))
+          amid-page m = record {
+            pages = more;
+            from = turn .q;
+            bound = turn .mark;
+            last = turn .rank;
+            behind = record {
+              sized = sized-more;
+              space = m;
+              long = length-set room found (c .mark - 1) ∙ a .behind .long;
+              laid-out = room-more;
+              goes-on = turns-more;
+            };
+            midst = midst-start s sh k (turn .q) (turn .mark) (turned .running (turn .mark) e (omega arith));
+            within = a .midst .apt .lists .some;
           }
 
-          -- where there is none, all share the page
-          module _ (l : k ≤ i + 1) where
-            abbrev turn : Turn
-            turn = record { q = withCursor q i c; mark = c .mark; rank = r; found = found + 1 }
-
-            abbrev more : List ℕ
-            more = a .pages ++ (c .mark - 1) ∷ []
-
-            turned : Turned s sh k (a .from) (a .bound) turn
-            turned = midst-page s sh k (a .from) (a .bound) q b i (a .midst) (a .within) c w e (found + 1) r told g l
-
-            room-more : set room found (c .mark - 1) ≡ laid more room₀
-            room-more =
-                let h = a .behind in
-                rw (h .laid-out, ← h .sized)
-                (laid-more (a .pages) room₀ (c .mark - 1) (omega (arith, h .sized, h .space)))
-
-            sized-more : length more ≡ found + 1
-            sized-more = length-append (a .pages) ((c .mark - 1) ∷ []) ∙ omega (arith, a .behind .sized)
-
-            turns-more : (qs : List ℕ) (t : Turn)
-                → Turns s sh k (length room₀ - (found + 1)) (turn .q) (turn .mark) (turn .rank) qs t
-                → Turns s sh k (length room₀) q₀ b₀ 0 (more ++ qs) t
-            unfolding Turns
-            turns-more qs t x =
-                let some : c .mark ≡ c .mark - 1 + 1 =
-                omega (arith, midst-some s sh k (a .from) (a .bound) q b i (a .midst) (a .within) c w) in
-                rw (append-snoc (a .pages) (c .mark - 1) qs)
-                (a .behind .goes-on ((c .mark - 1) ∷ qs) t (rw more-left (turn, turned, some, e, x)))
-
-            -- it is listed, and the lead is next, for a page behind it
-            pub amid-page : found + 1 < length room₀
-                → Amid (withCursor q i c) (c .mark) 0 (found + 1) (set room found (c .mark - 1))
-            amid-page m = record {
-              pages = more;
-              from = turn .q;
-              bound = turn .mark;
-              last = turn .rank;
-              behind = record {
-                sized = sized-more;
-                space = m;
-                long = length-set room found (c .mark - 1) ∙ a .behind .long;
+          -- or the room is full
+          pub amid-full : length room₀ ≤ found + 1
+              → Batched s sh k q₀ b₀ room₀ turn (set room found (c .mark - 1))
+          unfolding Turns
+          amid-full m =
+              let none-left : length room₀ - (found + 1) ≡ 0 = omega arith in
+              let whole = turns-more [] turn (rw none-left (refl, refl, refl, refl)) in record {
+                pages = more;
+                turns = rw append-nil at whole;
+                found = sym sized-more;
                 laid-out = room-more;
-                goes-on = turns-more;
-              };
-              midst = midst-start s sh k (turn .q) (turn .mark) (turned .running (turn .mark) e (omega arith));
-              within = a .midst .apt .lists .some;
-            }
-
-            -- or the room is full
-            pub amid-full : length room₀ ≤ found + 1
-                → Batched s sh k q₀ b₀ room₀ turn (set room found (c .mark - 1))
-            unfolding Turns
-            amid-full m =
-                let none-left : length room₀ - (found + 1) ≡ 0 = omega arith in
-                let whole = turns-more [] turn (rw none-left (refl, refl, refl, refl)) in record {
-                  pages = more;
-                  turns = rw append-nil at whole;
-                  found = sym sized-more;
-                  laid-out = room-more;
-                }
+              }

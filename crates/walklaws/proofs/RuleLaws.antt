@@ -10,8 +10,11 @@ use lib.ListN.{length, getD}
 use Rattle.rules.specs.Limits.{limit}
 use Rattle.rules.specs.Runs.{wordsFor}
 use Rattle.rules.specs.List.{rising}
+use Rattle.rules.specs.ReadList.{listU, decode}
 use Rattle.rules.specs.Seek.{Cursor as Placing, fresh, on, spent, rankOf, Sought, widthOf, placeOf, bitsOf}
 use Rattle.rules.specs.Seek.{upperWords, cursorBit, startOf, looksTo, gone, arrived, seek}
+use Rattle.shape.specs.declared.Shape.{Shape}
+use Rattle.readlaws.specs.Open.{Open}
 use Rattle.seeklaws.specs.Cursors.{firstAt, cursorAt, Placed, Moves}
 use Rattle.seeklaws.proofs.FirstLaws.{rising-below, firstAt-le, firstAt-at}
 use Rattle.seeklaws.proofs.JumpLaws.{start-ahead}
@@ -19,9 +22,11 @@ use Rattle.seeklaws.proofs.SeekLaws.{cursorAt-spent, cursorAt-on}
 use Rattle.seeklaws.proofs.ArmLaws.{seek-stays, seek-spent, seek-empty, seek-past, seek-end, seek-none, seek-finds}
 use Rattle.walklaws.specs.declared.Cursor.{Cursor}
 use Rattle.walklaws.specs.declared.Landing.{Landing}
-use Rattle.walklaws.specs.Cursors.{spentMark, markOf, rankIn, ruleCursor, Held, landing, looksFor}
-use Rattle.walklaws.specs.Walks.{lastWord}
+use Rattle.walklaws.specs.Cursors.{spentMark, markOf, rankIn, ruleCursor, Held, Moving, startIn, landing}
+use Rattle.walklaws.specs.Cursors.{looksFor}
+use Rattle.walklaws.specs.Walks.{lastWord, landingWord, Landed}
 use Rattle.walklaws.proofs.CursorLaws.{held-rule, held-floor}
+use Rattle.walklaws.proofs.OpenLaws.{open-U, open-within, open-n, open-length, open-rising, open-ruled}
 use Rattle.walklaws.proofs.LandLaws.{last-on, last-none}
 
 landing-ext : (r t : Landing) → r .mark ≡ t .mark → r .bit ≡ t .bit → r .rank ≡ t .rank → r ≡ t
@@ -79,7 +84,7 @@ module _ (U : ℕ) (xs : List ℕ)
   spent-place spent p e = refl
   spent-place (on i) p e = absurd (omega (arith, rising-below 0 U xs rises i p))
 
-  pub landing-spent : (r : Landing) (i : ℕ) → c .mark ≡ spentMark → Nowhere r → Ends U xs c b r i i
+  landing-spent : (r : Landing) (i : ℕ) → c .mark ≡ spentMark → Nowhere r → Ends U xs c b r i i
   landing-spent r i e =
       landing-gone r i (rw (spent-place (h .place) (h .placed) (sym (h .mark-is) ∙ e)) (seek-spent U xs b))
 
@@ -112,10 +117,10 @@ module _ (U : ℕ) (xs : List ℕ)
     stays = stays-at (h .place) (h .placed) (h .mark-is) (h .bit-is)
 
     -- its list is not empty, and its high part is no larger than its bit
-    pub stays-high : (0 < length xs) × ((c .mark - 1) / 2 ^ widthOf U xs ≤ c .bit)
+    stays-high : (0 < length xs) × ((c .mark - 1) / 2 ^ widthOf U xs ≤ c .bit)
     stays-high = (omega (arith, stays .number), stays .high)
 
-    pub landing-stays : (r : Landing) (i : ℕ) → r .mark ≡ c .mark → r .bit ≡ c .bit → r .rank ≡ rankIn U xs c
+    landing-stays : (r : Landing) (i : ℕ) → r .mark ≡ c .mark → r .bit ≡ c .bit → r .rank ≡ rankIn U xs c
         → Ends U xs c b r i i
     unfolding arrived rankOf
     landing-stays r i m p n =
@@ -127,7 +132,7 @@ module _ (U : ℕ) (xs : List ℕ)
     behind : markOf xs (h .place) ≤ b
     behind = rw (h .mark-is) at ahead
 
-    pub landing-none : (r : Landing) (i : ℕ) → (length xs ≡ 0) ⊎ (U ≤ b) → Nowhere r → Ends U xs c b r i i
+    landing-none : (r : Landing) (i : ℕ) → (length xs ≡ 0) ⊎ (U ≤ b) → Nowhere r → Ends U xs c b r i i
     landing-none r i n = landing-gone r i (seek-nothing U xs (h .place) b behind n)
 
     module _ (below : b < U) (some : 0 < length xs) where
@@ -141,12 +146,12 @@ module _ (U : ℕ) (xs : List ℕ)
       unfolding markOf
       goes = elim (moves xs (h .place) b behind) [ inl m ↦ m | inr e ↦ absurd (omega (arith, rw e at behind)) ]
 
-      pub landing-end : (r : Landing) (i : ℕ) → startOf U xs (ruleCursor U xs c) b ≡ bitsOf U xs → Nowhere r
+      landing-end : (r : Landing) (i : ℕ) → startOf U xs (ruleCursor U xs c) b ≡ bitsOf U xs → Nowhere r
           → Ends U xs c b r i i
       landing-end r i e = landing-gone r i (seek-end U xs (h .place) b goes some below (sym start-is ∙ e))
 
       -- the walk ends at the first element at least b, or at the run's last word
-      pub landing-walked : (r : Landing) (before after : ℕ) → startOf U xs (ruleCursor U xs c) b < bitsOf U xs
+      landing-walked : (r : Landing) (before after : ℕ) → startOf U xs (ruleCursor U xs c) b < bitsOf U xs
           → r .mark ≡ markOf xs (cursorAt xs (firstAt b xs)) → r .bit ≡ cursorBit U xs (cursorAt xs (firstAt b xs))
           → r .rank ≡ firstAt b xs
           → after + startOf U xs (ruleCursor U xs c) b / 64 ≡ before + 1 + lastWord U xs (firstAt b xs)
@@ -170,3 +175,62 @@ module _ (U : ℕ) (xs : List ℕ)
                 (rw (cursorAt-on xs i f) at m) (rw (cursorAt-on xs i f) at p) k
                 (omega (arith, rw (start-is, last-on U xs i f) at n, ahead-of i f (firstAt-at b xs f)))
           ]
+
+-- ---- the same of a block s of shape g, as a search reads it
+
+module _ (s : List ℕ) (g : Shape) (o : Open s g) (c : Cursor) (h : Held (listU s) (decode s) c) (b : ℕ) where
+  abbrev Over : Landing → ℕ → ℕ → Type 0
+  Over = Ends (listU s) (decode s) c b
+
+  -- the end where nothing is found, as a function makes it
+  abbrev pub Nothing : Landing → Type 0
+  Nothing r = (r .mark ≡ spentMark) × (r .bit ≡ 0) × (r .rank ≡ g .n)
+
+  nowhere : (r : Landing) → Nothing r
+      → Nowhere (listU s) (decode s) (open-rising s g o) (open-within s g o) c h b r
+  nowhere r n = (n .0, n .1, n .2 ∙ sym (open-length s g o))
+
+  pub ends-spent : (r : Landing) (i : ℕ) → c .mark ≡ spentMark → Nothing r → Over r i i
+  ends-spent r i e n =
+      landing-spent (listU s) (decode s) (open-rising s g o) (open-within s g o) c h b r i e (nowhere r n)
+
+  module _ (ahead : b < c .mark) (stands : c .mark ≡ spentMark → ⊥) where
+    high : (0 < length (decode s)) × ((c .mark - 1) / 2 ^ widthOf (listU s) (decode s) ≤ c .bit)
+    high = stays-high (listU s) (decode s) (open-rising s g o) (open-within s g o) c h b ahead stands
+
+    wide : widthOf (listU s) (decode s) ≡ g .w
+    wide = open-ruled s g o (omega (arith, high .0, open-length s g o)) .wide
+
+    -- its high part is no larger than its bit
+    pub ends-high : (c .mark - 1) / 2 ^ g .w ≤ c .bit
+    ends-high = rw wide at (high .1)
+
+    pub ends-stays : (r : Landing) (i : ℕ) → r .mark ≡ c .mark → r .bit ≡ c .bit
+        → r .rank ≡ c .bit - (c .mark - 1) / 2 ^ g .w → Over r i i
+    unfolding rankIn
+    ends-stays r i m p n =
+        landing-stays (listU s) (decode s) (open-rising s g o) (open-within s g o) c h b ahead stands r i m p
+        (n ∙ rw wide)
+
+  pub ends-none : (r : Landing) (i : ℕ) → c .mark ≤ b → (g .n ≡ 0) ⊎ (g .u ≤ b) → Nothing r → Over r i i
+  ends-none r i a e n =
+      landing-none (listU s) (decode s) (open-rising s g o) (open-within s g o) c h b a r i
+      (elim e [ inl z ↦ inl (open-length s g o ∙ z) | inr z ↦ inr (omega (arith, open-U s g o)) ]) (nowhere r n)
+
+  module _ (m : Moving s c b) where
+    some : 0 < g .n
+    some = omega (arith, m .some, open-n s g o)
+
+    long : 0 < length (decode s)
+    long = omega (arith, some, open-length s g o)
+
+    pub ends-at-end : (r : Landing) (i : ℕ) → startIn s c b ≡ g .bits → Nothing r → Over r i i
+    ends-at-end r i e n =
+        landing-end (listU s) (decode s) (open-rising s g o) (open-within s g o) c h b (m .ahead) (m .below) long r i
+        (e ∙ sym (open-ruled s g o some .bits-is)) (nowhere r n)
+
+    pub ends-walked : (r : Landing) (before after : ℕ) → startIn s c b < g .bits → Landed s b r
+        → after + startIn s c b / 64 ≡ before + 1 + landingWord s b → Over r before after
+    ends-walked r before after l d n =
+        landing-walked (listU s) (decode s) (open-rising s g o) (open-within s g o) c h b (m .ahead) (m .below) long
+        r before after (omega (arith, l, open-ruled s g o some .bits-is)) (d .mark-is) (d .bit-is) (d .rank-is) n

@@ -7,11 +7,12 @@ use Prim.Native.Nat.{_-_, _^_, _<_}
 use native.Mathlib.Omega.{arith}
 use borrow.Author.Needs.{needs}
 use borrow.Author.Tests.{ltb-true, lt-ltb}
-use lib.ListN.{length-set}
+use lib.ListN.{length, set, length-set}
 use Rattle.walklaws.specs.Cursors.{spentMark, unused}
 use Rattle.querylaws.specs.Queries.{withCursor, seeksOf}
 use Rattle.querylaws.proofs.RunLaws.{midst-seekable, midst-some, midst-less}
-use Rattle.querylaws.proofs.BatchLaws.{Amid, amid-start, amid-none, amid-larger, amid-same, amid-page, amid-full}
+use Rattle.querylaws.proofs.BatchLaws.{Amid, Step, amid-start, amid-none, amid-larger, amid-same, amid-page}
+use Rattle.querylaws.proofs.BatchLaws.{amid-full}
 use Rattle.query.proofs.batch.Statement.{statement}
 use Rattle.query.proofs.batch.Tie as tie
 
@@ -42,15 +43,23 @@ seek-in-requires c κs =
 same-length : tie.Need-same-length Inv-loop μ-loop
 same-length c = c .before .before .before .before .before .loop .inv .behind .long
 
-returns : tie.Need-returns Inv-loop μ-loop
+-- what the seek of a round made
+step : (k : tie.After-seek-in Inv-loop μ-loop) →
+    let l = k .before .before .loop in
+    let a = k .before .before .before .before .before .before .args in
+    let r = k .seek-in .result in
+    Step (a .card .now) (a .shapes .now) (a .k) (a .q0) (a .b0) (a .room .now)
+    (l .q) (l .b) (l .i) (l .found) (l .room) (r .hand) (r .rank)
 unfolding unused
+step k =
+    let e = k .seek-in .ensures in
+    record { amid = k .before .before .loop .inv; moved = e .1; told = e .2 }
+
+returns : tie.Need-returns Inv-loop μ-loop
 returns c =
     let k = c .before .before .before in
-    let l = k .before .before .loop in
-    let s = k .seek-in in
-    rw (s .ensures .0)
-    (amid-none _ _ _ _ _ _ (l .q) (l .b) (l .i) (l .found) (l .room) (l .inv) (s .result .hand) (s .ensures .1)
-    (s .result .rank) (s .ensures .2)
+    rw (k .seek-in .ensures .0)
+    (amid-none _ _ _ _ _ _ _ _ _ _ _ _ _ (step k)
     (c .if1 .taken))
 
 -- the mark that a seek leaves
@@ -82,13 +91,10 @@ loop-again : tie.Need-loop-again Inv-loop μ-loop
 unfolding unused
 loop-again c =
     let k = c .before .before .before .before .before in
-    let l = k .before .before .loop in
-    let s = k .seek-in in
-    rw (s .ensures .0)
-    (amid-larger _ _ _ _ _ _ (l .q) (l .b) (l .i) (l .found) (l .room) (l .inv) (s .result .hand) (s .ensures .1)
-    (s .result .rank) (s .ensures .2)
+    rw (k .seek-in .ensures .0)
+    (amid-larger _ _ _ _ _ _ _ _ _ _ _ _ _ (step k)
     (c .before .before .if1 .left) (omega (arith, c .before .if2 .taken))
-    (ltb-true (l .b) (s .result .hand .mark - 1) (c .if3 .taken)))
+    (ltb-true (k .before .before .loop .b) (k .seek-in .result .hand .mark - 1) (c .if3 .taken)))
 
 -- past that test the page is no larger one
 no-larger : (c : tie.Joined2 Inv-loop μ-loop) → 0 < c .before .before .before .before .before .before .loop .i
@@ -111,17 +117,22 @@ same-length-2 c =
     let l = c .before .before .before .before .before .before .before .before .loop in
     length-set (l .room) (l .found) _ ∙ l .inv .behind .long
 
+-- the room is as long with the page in it
+room-long : (k : tie.After-seek-in Inv-loop μ-loop) →
+    let l = k .before .before .loop in
+    length (set (l .room) (l .found) (k .seek-in .result .hand .mark - 1))
+    ≡ length (k .before .before .before .before .before .before .args .room .now)
+room-long k =
+    let l = k .before .before .loop in
+    length-set (l .room) (l .found) (k .seek-in .result .hand .mark - 1) ∙ l .inv .behind .long
+
 returns-2 : tie.Need-returns-2 Inv-loop μ-loop
-unfolding unused
 returns-2 c =
     let k = c .before .before .before .before .before .before in
-    let l = k .before .before .loop in
-    let s = k .seek-in in
-    rw (s .ensures .0)
-    (amid-full _ _ _ _ _ _ (l .q) (l .b) (l .i) (l .found) (l .room) (l .inv) (s .result .hand) (s .ensures .1)
-    (s .result .rank) (s .ensures .2)
+    rw (k .seek-in .ensures .0)
+    (amid-full _ _ _ _ _ _ _ _ _ _ _ _ _ (step k)
     (c .before .before .before .if1 .left) (no-larger (c .before .before)) (c .before .if4 .taken)
-    (omega (arith, c .if5 .taken, length-set (l .room) (l .found) (s .result .hand .mark - 1), l .inv .behind .long)))
+    (omega (arith, c .if5 .taken, room-long k)))
 
 loop-less-2 : tie.Need-loop-less-2 Inv-loop μ-loop
 loop-less-2 c =
@@ -129,16 +140,12 @@ loop-less-2 c =
     rw (k .seek-in .ensures .0) (fewer k (c .before .before .before .if1 .left))
 
 loop-again-2 : tie.Need-loop-again-2 Inv-loop μ-loop
-unfolding unused
 loop-again-2 c =
     let k = c .before .before .before .before .before .before in
-    let l = k .before .before .loop in
-    let s = k .seek-in in
-    rw (s .ensures .0)
-    (amid-page _ _ _ _ _ _ (l .q) (l .b) (l .i) (l .found) (l .room) (l .inv) (s .result .hand) (s .ensures .1)
-    (s .result .rank) (s .ensures .2)
+    rw (k .seek-in .ensures .0)
+    (amid-page _ _ _ _ _ _ _ _ _ _ _ _ _ (step k)
     (c .before .before .before .if1 .left) (no-larger (c .before .before)) (c .before .if4 .taken)
-    (omega (arith, c .if5 .left, length-set (l .room) (l .found) (s .result .hand .mark - 1), l .inv .behind .long)))
+    (omega (arith, c .if5 .left, room-long k)))
 
 loop-less-3 : tie.Need-loop-less-3 Inv-loop μ-loop
 loop-less-3 c =
@@ -149,11 +156,8 @@ loop-again-3 : tie.Need-loop-again-3 Inv-loop μ-loop
 unfolding unused
 loop-again-3 c =
     let k = c .before .before .before .before .before in
-    let l = k .before .before .loop in
-    let s = k .seek-in in
-    rw (s .ensures .0)
-    (amid-same _ _ _ _ _ _ (l .q) (l .b) (l .i) (l .found) (l .room) (l .inv) (s .result .hand) (s .ensures .1)
-    (s .result .rank) (s .ensures .2)
+    rw (k .seek-in .ensures .0)
+    (amid-same _ _ _ _ _ _ _ _ _ _ _ _ _ (step k)
     (c .before .before .if1 .left) (no-larger (c .before)) (c .if4 .left))
 
 pub batch-spec : {M : Type 1} → statement M
