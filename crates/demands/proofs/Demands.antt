@@ -21,7 +21,8 @@ use Rattle.rules.specs.ReadTerm.{termRefusal}
 use Rattle.rules.specs.Index.{validCard, card, indexN, indexT, indexRefusal, closeIndex}
 use Rattle.rules.specs.Seek.{upperWords}
 use Rattle.rules.specs.Common.{rounds, common}
-use Rattle.rules.specs.Questions.{below, commonPages, byBound, byCommon, byPhrase, allBelow, goodQuestion, wellFormed, replies}
+use Rattle.rules.specs.Questions.{below, commonPages, byBound, byCommon, byPhrase, allBelow, goodQuestion, wellFormed}
+use Rattle.rules.specs.Questions.{replies}
 use Rattle.rules.specs.Ask.{Replied, fitting, joined, reply}
 use Rattle.laws.proofs.RefusalLaws.{number-inj}
 use Rattle.listlaws.proofs.Theorems as lists

@@ -82,8 +82,8 @@ returns-4 c =
     let there = c .before .before .before .before .before .before in
     let b = begun there in
     let here : there .start .result .bit ≡ b .args .g .bits = eqb-true _ _ (c .before .if6 .taken) in
-    ends-at-end (b .args .s .now) (b .args .g) (b .pre .0) (b .args .c) (b .pre .1) (b .args .b) (moving (there .before))
-    _ _ (sym (there .start .ensures .1) ∙ here) (c .none3 .ensures)
+    ends-at-end (b .args .s .now) (b .args .g) (b .pre .0) (b .args .c) (b .pre .1) (b .args .b)
+    (moving (there .before)) _ _ (sym (there .start .ensures .1) ∙ here) (c .none3 .ensures)
 
 -- where the start is not the run's end
 inside : (c : tie.Joined5) → c .before .before .start .result .bit < begun (c .before .before) .args .g .bits
@@ -120,8 +120,8 @@ returns-5 c =
     let b = begun there in
     let e = there .start .ensures .1 in
     let l = c .land .ensures in
-    ends-walked (b .args .s .now) (b .args .g) (b .pre .0) (b .args .c) (b .pre .1) (b .args .b) (moving (there .before))
-    _ _ _ (omega (arith, e, inside (c .before .before .before .before))) (l .0)
+    ends-walked (b .args .s .now) (b .args .g) (b .pre .0) (b .args .c) (b .pre .1) (b .args .b)
+    (moving (there .before)) _ _ _ (omega (arith, e, inside (c .before .before .before .before))) (l .0)
     (rw (← e) (omega (arith, l .1, c .before .before .pass .ensures .1)))
 
 pub find-spec : {M : Type 1} → statement M
