@@ -18,7 +18,7 @@ MADE = {
     "walklaws::Moved": [SEEK],
     "querylaws::Query": ["querylaws::Query::new"],
     "query::InHand": [LOOP],
-    "querylaws::Turn": [LOOP, LOOP, "query::list_common"],
+    "querylaws::Turn": ["query::turn_of", "query::list_common"],
     "querylaws::Listed": ["rows::totals"],
 }
 # every place from which a function is called that looks, that makes, moves or sums up cursors, or that answers by them
@@ -29,6 +29,7 @@ CALLS = {
     "querylaws::Query::new": ["query::list_common", "kinds::by_bound", "pairs::list_starts"],
     SEEK_IN: [LOOP],
     LOOP: ["query::list_common", "query::list_common", "kinds::by_bound", "pairs::list_starts"],  # kinds 3, 2 and 4
+    "query::turn_of": [LOOP, LOOP],
     "rows::totals": ["query::list_common"],
     # pages are counted first where the room may be too small for them
     "query::list_common": ["bycommon::by_common", "bycommon::put_common"],

@@ -38,6 +38,18 @@ fn seek_in(card: &[u8], shapes: &[u32], mut s: InHand, i: usize, b: usize) -> In
     s
 }
 
+// What the loop gives back.
+fn turn_of(q: Query, mark: u32, rank: u32, found: usize) -> Turn
+    ensures { λ r. ⌜ r ≡ record { q = q; mark = mark; rank = rank; found = found } ⌝ }
+{
+    Turn {
+        q,
+        mark,
+        rank,
+        found,
+    }
+}
+
 // Lists the pages from b0 on that the first k lists share, until the room is full or none is left. It is the one loop
 // of seeks, and the query goes by value through each of them.
 pub fn batch(card: &[u8], shapes: &[u32], q0: Query, k: usize, b0: usize, room: &mut [u32]) -> Turn
@@ -57,14 +69,8 @@ pub fn batch(card: &[u8], shapes: &[u32], q0: Query, k: usize, b0: usize, room: 
         let c = s.hand;
         q.cursors[i] = c;
         let mark = c.mark;
-        let rank = s.rank;
         if mark == SPENT {
-            return Turn {
-                q,
-                mark,
-                rank,
-                found,
-            };
+            return turn_of(q, mark, s.rank, found);
         }
         let page = mark as usize - 1;
         if 0 < i && b < page {
@@ -78,12 +84,7 @@ pub fn batch(card: &[u8], shapes: &[u32], q0: Query, k: usize, b0: usize, room: 
             room[found] = mark - 1;
             found += 1;
             if room.len() <= found {
-                return Turn {
-                    q,
-                    mark,
-                    rank,
-                    found,
-                };
+                return turn_of(q, mark, s.rank, found);
             }
             i = 0;
             b = mark as usize;

@@ -41,7 +41,7 @@ seek-in-requires c κs =
     midst-seekable _ _ _ (a .from) (a .bound) (l .q) (l .b) (l .i) (a .midst) (a .within)
 
 same-length : tie.Need-same-length Inv-loop μ-loop
-same-length c = c .before .before .before .before .before .loop .inv .behind .long
+same-length c = c .before .before .before .before .before .before .loop .inv .behind .long
 
 -- what the seek of a round made
 step : (k : tie.After-seek-in Inv-loop μ-loop) →
@@ -57,10 +57,9 @@ step k =
 
 returns : tie.Need-returns Inv-loop μ-loop
 returns c =
-    let k = c .before .before .before in
-    rw (k .seek-in .ensures .0)
-    (amid-none _ _ _ _ _ _ _ _ _ _ _ _ _ (step k)
-    (c .if1 .taken))
+    let k = c .before .before .before .before in
+    rw (c .turn-of .ensures, k .seek-in .ensures .0)
+    (amid-none _ _ _ _ _ _ _ _ _ _ _ _ _ (step k) (c .before .if1 .taken))
 
 -- the mark that a seek leaves
 marked : (k : tie.After-seek-in Inv-loop μ-loop) → 0 < k .seek-in .result .hand .mark
@@ -114,7 +113,7 @@ slice-write-room c =
 
 same-length-2 : tie.Need-same-length-2 Inv-loop μ-loop
 same-length-2 c =
-    let l = c .before .before .before .before .before .before .before .before .loop in
+    let l = c .before .before .before .before .before .before .before .before .before .loop in
     length-set (l .room) (l .found) _ ∙ l .inv .behind .long
 
 -- the room is as long with the page in it
@@ -128,11 +127,11 @@ room-long k =
 
 returns-2 : tie.Need-returns-2 Inv-loop μ-loop
 returns-2 c =
-    let k = c .before .before .before .before .before .before in
-    rw (k .seek-in .ensures .0)
+    let k = c .before .before .before .before .before .before .before in
+    rw (c .turn-of2 .ensures, k .seek-in .ensures .0)
     (amid-full _ _ _ _ _ _ _ _ _ _ _ _ _ (step k)
-    (c .before .before .before .if1 .left) (no-larger (c .before .before)) (c .before .if4 .taken)
-    (omega (arith, c .if5 .taken, room-long k)))
+    (c .before .before .before .before .if1 .left) (no-larger (c .before .before .before)) (c .before .before .if4 .taken)
+    (omega (arith, c .before .if5 .taken, room-long k)))
 
 loop-less-2 : tie.Need-loop-less-2 Inv-loop μ-loop
 loop-less-2 c =
@@ -172,6 +171,7 @@ batch-spec =
     seek-in-requires
     (λ c. omega (arith, few (c .before .before .before .before)))
     (λ c. omega (arith, few (c .before .before .before .before)))
+    (λ c κs. tt)
     same-length
     returns
     (λ c. search needs)
@@ -183,6 +183,7 @@ batch-spec =
     (λ c. search needs)
     slice-write-room
     (λ c. search needs)
+    (λ c κs. tt)
     same-length-2
     returns-2
     (λ c. search needs)
