@@ -32,7 +32,7 @@ typedef enum jf_refusal {
     JF_LAYOUT = 5,   /* n above U, a length that U and n do not give, or bytes left after the last part */
     JF_RUNS = 6,     /* runs or pointers are not those of a valid list */
     JF_PARTS = 7,    /* the parts of a term or a card disagree */
-    JF_QUESTION = 8, /* a bad question: an unknown kind, a wrong count, a word not below T, or cut short */
+    JF_QUESTION = 8, /* a bad question: an unknown kind, a wrong count, word or offset, or cut short */
     JF_ROOM = 9,     /* the room lent is too small */
     JF_LISTS = 10    /* the lists handed to a writer are not valid */
 } jf_refusal;
@@ -42,13 +42,14 @@ typedef enum jf_kind {
     JF_KIND_RANK = 1,   /* the page at a rank */
     JF_KIND_BOUND = 2,  /* the first page at or above a bound, and how many lie below it */
     JF_KIND_COMMON = 3, /* the pages that all words share */
-    JF_KIND_PHRASE = 4  /* the pages where the words stand one after the other */
+    JF_KIND_PHRASE = 4  /* the pages where the words stand as in a phrase */
 } jf_kind;
 
 /* The limits of document 01. */
 #define JF_MAX_U 16777216u /* U of a list, and N, the pages of a card */
 #define JF_MAX_T 4096u     /* T, the words of a card */
 #define JF_MAX_WORDS 8u    /* the words in one question */
+#define JF_MAX_OFFSET 255u /* the offset of a word in a phrase */
 
 /* The bytes of a card before its first term block. */
 #define JF_CARD_HEADER ((size_t)11)
@@ -116,10 +117,14 @@ uint32_t jf_check_index(const uint8_t *card, size_t card_len);
  * 1, 2, word, rank           1, page; or 0 if the word has no such rank             2
  * 2, 2, word, bound          2, page, rank; or 1, n if no page is at or above it    3
  * 3, c, c words (1 to 8)     m + 2, seeks, looks, the m common pages                3 + the fewest pages of a word
- * 4, c, c words (1 to 8)     2 m, then page and number of starts, m times           1 + twice the fewest pages
+ * 4, 2 k, k pairs (1 to 8)   2 m, then page and number of starts, m times           1 + twice the fewest pages
  *
  * Ranks count from 0, and n is the number of the word's pages, so the last number of kind 2's answer, found or not, is
  * how many of the word's pages lie below the bound. Rank and bound may be any number.
+ *
+ * A pair of kind 4 is a word and its offset. The first offset is 0, offsets rise strictly, and none is above
+ * JF_MAX_OFFSET; all else is JF_QUESTION. A start is a position p of the page such that each word stands at p plus its
+ * offset: offsets 0, 1, 2 .. ask for words right behind one another, and a number left out is a word that was dropped.
  *
  * Each answer starts with the count of the numbers behind it. Where an answer does not fit whole, the refusal is
  * JF_ROOM: the answers before it stand, `answered` of them in `used` numbers, and the rest of the room is unchanged.

@@ -15,7 +15,7 @@ Questions mixed(Random &random, uint32_t n, uint32_t t, size_t count) {
         case 0: questions.add(JF_KIND_COMMON, {word, other}); break;
         case 1: questions.add(JF_KIND_RANK, {word, random.below(8)}); break;
         case 2: questions.add(JF_KIND_BOUND, {word, random.below(n)}); break;
-        default: questions.add(JF_KIND_PHRASE, {word, other}); break;
+        default: questions.add(JF_KIND_PHRASE, {word, 0, other, 1}); break;
         }
     }
     return questions;

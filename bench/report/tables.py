@@ -6,7 +6,7 @@ GROUPS = [
     ("One list", ["write a list", "check a list"]),
     ("Reading one list", ["element by rank", "fresh seek"]),
     ("Intersections", ["common pages", "seek in common pages", "pages of one word"]),
-    ("Phrases", ["phrase"]),
+    ("Phrases", ["phrase", "phrase with gaps"]),
     ("Word lookup", ["word lookup"]),
     ("Words and cards", ["write words", "check words", "close a card", "check a card"]),
     ("Runs of questions, the check included", ["run of questions"]),
@@ -30,6 +30,7 @@ which leaves out what other processes take of the core; for the program it is th
 again, large enough that no pages need counting beforehand. Lists and questions come from fixed seeds.
 - Each run of questions checks its card first. So one question is (a run of M questions, less a run of none on that \
 card) / M, where M is such that the questions take about as long as the check, or longer. The others have no check.
+- Phrases are drawn from the manual's text; those with gaps leave words out between, at the offsets 0, 2 and 0, 2, 3, 5.
 - CRoaring's seek is by its iterator, which is faster than rank and select, and finds no rank.\
 """
 

@@ -15,10 +15,10 @@ static const uint32_t torque_pages[] = {3, 4, 7, 13, 14, 15, 21, 43};
 static const uint32_t torque_counts[] = {1, 1, 1, 1, 1, 2, 1, 1};
 static const uint32_t torque_positions[] = {8, 0, 5, 2, 9, 2, 5, 1, 0};
 
-/* The same of the word "bolt". */
+/* The same of the word "bolt". Page 15 has "torque the bolt" at 5 and 7, where "the" has a position and is no word. */
 static const uint32_t bolt_pages[] = {4, 15};
 static const uint32_t bolt_counts[] = {1, 2};
-static const uint32_t bolt_positions[] = {1, 3, 6};
+static const uint32_t bolt_positions[] = {1, 3, 7};
 
 /* The words' numbers on the card. */
 enum { TORQUE, BOLT, WORDS };
@@ -123,13 +123,14 @@ static void ask_common(const uint8_t *card, size_t card_len)
     free(answer);
 }
 
-/* Prints the pages where "bolt" stands right behind "torque". */
-static void ask_phrase(const uint8_t *card, size_t card_len)
+/* Prints the pages where "bolt" stands so many positions behind "torque". */
+static void ask_phrase(const uint8_t *card, size_t card_len, uint32_t behind)
 {
-    const uint32_t question[] = {JF_KIND_PHRASE, 2, TORQUE, BOLT};
+    const uint32_t question[] = {JF_KIND_PHRASE, 4, TORQUE, 0, BOLT, behind};
     uint32_t *answer = ask(card, card_len, question, LENGTH(question));
     for (uint32_t i = 1; i < answer[0]; i += 2) {
-        printf("torque bolt: page %" PRIu32 ", starts %" PRIu32 "\n", answer[i], answer[i + 1]);
+        printf("bolt %" PRIu32 " behind torque: page %" PRIu32 ", starts %" PRIu32 "\n", behind, answer[i],
+               answer[i + 1]);
     }
     free(answer);
 }
@@ -146,6 +147,7 @@ int main(void)
     ask_bound(buffer, card_len, 16);
     ask_bound(buffer, card_len, PAGES);
     ask_common(buffer, card_len);
-    ask_phrase(buffer, card_len);
+    ask_phrase(buffer, card_len, 1);
+    ask_phrase(buffer, card_len, 2);
     return EXIT_SUCCESS;
 }

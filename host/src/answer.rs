@@ -39,7 +39,7 @@ pub enum Answer<'a> {
         /// The common pages, rising.
         pages: &'a [u32],
     },
-    /// The pages where the terms stand one after the other, rising.
+    /// The pages where the words of the phrase stand, rising.
     Phrase(Starts<'a>),
 }
 
@@ -166,7 +166,7 @@ mod tests {
             Question::Bound { term: 0, bound: 16 },
             Question::Bound { term: 0, bound: 44 },
             Question::Common(vec![0]),
-            Question::Phrase(vec![0]),
+            Question::phrase([0]),
         ];
         let numbers = vec![0, 2, 21, 6, 1, 8, 3, 2, 5, 1, 4, 1, 2, 8, 3];
         let answers = Answers::new(&questions, numbers);

@@ -3,29 +3,33 @@
 //! The work is done by the proved library, whose archive this crate links. Here are its calls on slices
 //! ([`write_list`], [`check_list`], [`write_term`], [`check_term`], [`close_index`], [`check_index`], [`ask`]),
 //! the same on vectors ([`list_block`], [`term_block`], [`CardWriter`], [`ask_all`]), and names for what they
-//! take and answer ([`Question`], [`Answer`], [`Refusal`]).
+//! take and answer ([`Question`], [`PhraseWord`], [`Answer`], [`Refusal`]).
 //!
 //! A card has N pages, numbered from 0, and T words, its terms, numbered from 0:
 //!
 //! ```
-//! use jundefola::{ask_all, Answer, CardWriter, PageStarts, Question};
+//! use jundefola::{ask_all, Answer, CardWriter, PageStarts, PhraseWord, Question};
 //!
 //! let mut writer = CardWriter::new(44);
 //! // "torque" is on page 4 at positions 0 and 7, and on page 15 at position 2
 //! writer.add(&[4, 15], &[2, 1], &[0, 7, 2])?;
-//! // "bolt" is on page 4 at position 1, and on page 21 at position 9
-//! writer.add(&[4, 21], &[1, 1], &[1, 9])?;
+//! // "bolt" is on page 4 at position 1, on page 15 at position 4, and on page 21 at position 9
+//! writer.add(&[4, 15, 21], &[1, 1, 1], &[1, 4, 9])?;
 //! let card = writer.close()?;
 //!
-//! let questions = [Question::Common(vec![0, 1]), Question::Phrase(vec![0, 1])];
-//! for answer in &ask_all(&card, &questions)? {
-//!     match answer {
-//!         Answer::Common { pages, .. } => assert_eq!(pages, [4]),
-//!         Answer::Phrase(pages) => {
-//!             assert_eq!(pages.collect::<Vec<_>>(), [PageStarts { page: 4, starts: 1 }])
-//!         }
-//!         _ => unreachable!("no other kind was asked"),
-//!     }
+//! // "torque the bolt": "the" has a position on its page, and is no term
+//! let with_gap = [(0, 0), (1, 2)].map(PhraseWord::from).to_vec();
+//! let questions = [
+//!     Question::Common(vec![0, 1]),
+//!     Question::phrase([0, 1]),
+//!     Question::Phrase(with_gap),
+//! ];
+//! let answers = ask_all(&card, &questions)?;
+//! let mut answers = answers.iter();
+//! assert!(matches!(answers.next(), Some(Answer::Common { pages: [4, 15], .. })));
+//! for page in [4, 15] {
+//!     let Some(Answer::Phrase(mut found)) = answers.next() else { panic!("a phrase was asked") };
+//!     assert!(found.eq([PageStarts { page, starts: 1 }]));
 //! }
 //! # Ok::<(), jundefola::Refusal>(())
 //! ```
@@ -48,6 +52,6 @@ pub use blocks::{list_block, term_block, CardWriter};
 pub use calls::{
     ask, check_index, check_list, check_term, close_index, write_list, write_term, Asked,
 };
-pub use question::{question_numbers, Question};
+pub use question::{question_numbers, PhraseWord, Question};
 pub use refusal::Refusal;
 pub use room::{list_room, term_room, CARD_HEADER};

@@ -19,8 +19,40 @@ pub enum Question {
     },
     /// Which pages do these terms share? 1 to 8 terms.
     Common(Vec<u32>),
-    /// On which pages do these terms stand one after the other? 1 to 8 terms.
-    Phrase(Vec<u32>),
+    /// On which pages do these words stand, each at its offset behind a start? 1 to 8 words; the first offset is 0,
+    /// offsets rise strictly, and none is above 255. [`Question::phrase`] is the phrase without gaps.
+    Phrase(Vec<PhraseWord>),
+}
+
+/// A word of a phrase; an offset that is left out between two words is that of a dropped one.
+///
+/// ```
+/// use jundefola::{question_numbers, PhraseWord, Question};
+/// // "torque the bolt", of which the card has no "the"
+/// let torque = PhraseWord { term: 0, offset: 0 };
+/// let bolt = PhraseWord { term: 1, offset: 2 };
+/// let question = Question::Phrase(vec![torque, bolt]);
+/// assert_eq!(question_numbers(&[question]), [4, 4, 0, 0, 1, 2]);
+/// ```
+#[derive(Clone, Copy, Debug, PartialEq, Eq, Hash)]
+pub struct PhraseWord {
+    /// The term's number.
+    pub term: u32,
+    /// How many positions behind the start it stands.
+    pub offset: u32,
+}
+
+impl PhraseWord {
+    fn pair(&self) -> [u32; 2] {
+        [self.term, self.offset]
+    }
+}
+
+/// A term and its offset.
+impl From<(u32, u32)> for PhraseWord {
+    fn from((term, offset): (u32, u32)) -> PhraseWord {
+        PhraseWord { term, offset }
+    }
 }
 
 /// The kinds of question, with their numbers.
@@ -33,6 +65,18 @@ pub(crate) enum Kind {
 }
 
 impl Question {
+    /// The phrase of these terms, each right behind the one before it; 1 to 8 terms.
+    ///
+    /// ```
+    /// use jundefola::{question_numbers, Question};
+    /// let questions = [Question::phrase([3, 1, 3])];
+    /// assert_eq!(question_numbers(&questions), [4, 6, 3, 0, 1, 1, 3, 2]);
+    /// ```
+    pub fn phrase(terms: impl IntoIterator<Item = u32>) -> Question {
+        let placed = terms.into_iter().zip(0..);
+        Question::Phrase(placed.map(PhraseWord::from).collect())
+    }
+
     /// Appends the question's numbers: kind, count, and that many numbers.
     ///
     /// ```
@@ -45,7 +89,11 @@ impl Question {
         match self {
             Question::Rank { term, rank } => self.write_with(&[*term, *rank], numbers),
             Question::Bound { term, bound } => self.write_with(&[*term, *bound], numbers),
-            Question::Common(terms) | Question::Phrase(terms) => self.write_with(terms, numbers),
+            Question::Common(terms) => self.write_with(terms, numbers),
+            Question::Phrase(words) => {
+                let pairs: Vec<u32> = words.iter().flat_map(PhraseWord::pair).collect();
+                self.write_with(&pairs, numbers);
+            }
         }
     }
 

@@ -185,7 +185,7 @@ fn the_room_for_answers_grows() {
     let questions = [
         Question::Common(vec![0]),
         Question::Rank { term: 0, rank: 1 },
-        Question::Phrase(vec![0]),
+        Question::phrase([0]),
         Question::Common(vec![0, 0]),
     ];
     let answers = ask_all(&card, &questions).unwrap();

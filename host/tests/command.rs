@@ -132,6 +132,56 @@ fn questions_among_the_arguments() {
 }
 
 #[test]
+fn phrases_with_dropped_words() {
+    let folder = Folder::with_card(
+        "dropped",
+        "pages 9\ntorque 3:8 4:0,31\nbolt 3:9 4:2,35\n7:6\n",
+    );
+    let input = "phrase 0 1\nphrase 0 _ 1\nphrase 0 _ _ _ 1\nphrase 0 _ _ 1\nphrase 1 _ _ _ 1\n";
+    let asked = folder.run_on(&["ask", "card"], input);
+    let expected = "phrase 0 1: page 3 (1 start)\n\
+                    phrase 0 _ 1: page 4 (1 start)\n\
+                    phrase 0 _ _ _ 1: page 4 (1 start)\n\
+                    phrase 0 _ _ 1: no page\n\
+                    phrase 1 _ _ _ 1: no page\n";
+    assert_eq!((asked.printed.as_str(), asked.status), (expected, 0));
+    let named = "phrase torque _ bolt: page 4 (1 start)\n";
+    let split = ["phrase", "torque", "_", "bolt"];
+    for question in [
+        &["phrase torque _ bolt"][..],
+        &split,
+        &["phrase torque", "_ 1"],
+    ] {
+        let arguments = [&["ask", "--names", "listing", "card"], question].concat();
+        assert_eq!(folder.run(&arguments).printed, named);
+    }
+}
+
+#[test]
+fn phrases_that_are_none_are_told() {
+    let folder = Folder::with_card("no_phrases", TWO_WORDS);
+    let between =
+        "a phrase begins and ends with a word; `_` is a dropped word between two others\n";
+    for question in ["phrase _", "phrase _ 0", "phrase 0 _", "phrase 0 1 _ _"] {
+        let asked = folder.run(&["ask", "card", "rank 0 0", question]);
+        assert_eq!(asked.errors, format!("jundefola: question 2: {between}"));
+        assert_eq!((asked.status, asked.printed.as_str()), (1, ""));
+    }
+    let far = |dropped: usize| format!("phrase 0{} 1", " _".repeat(dropped));
+    assert_eq!(folder.run(&["ask", "card", &far(254)]).status, 0);
+    for question in [
+        far(255),
+        "phrase".into(),
+        "phrase 0 1 0 1 0 1 0 1 _ 0".into(),
+    ] {
+        let asked = folder.run_on(&["ask", "card"], &question);
+        let expected = format!("jundefola: standard input:1: `{question}`: refused 8: ");
+        assert!(asked.errors.starts_with(&expected), "{}", asked.errors);
+        assert_eq!((asked.status, asked.printed.as_str()), (1, ""));
+    }
+}
+
+#[test]
 fn questions_on_standard_input() {
     let folder = Folder::with_card("input", TWO_WORDS);
     let input = "# ranks\nrank 0 5\nrank 0 8\n\nat 0 16 # and up\nat 0 44\nphrase 1 0\nrank 1 0";

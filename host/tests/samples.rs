@@ -155,8 +155,8 @@ fn s9_to_s11_a_card_of_one_word() {
     assert_eq!(check_term(&term), Ok(()));
     assert_eq!(card, [hex(S9_HEADER), hex(S9_TERM)].concat());
     assert_eq!(answer(&card, &[3, 1, 0]), [3, 2, 2, 1]);
-    assert_eq!(answer(&card, &[4, 2, 0, 0]), [0]);
-    assert_eq!(answer(&card, &[4, 1, 0]), [2, 1, 2]);
+    assert_eq!(answer(&card, &[4, 4, 0, 0, 0, 1]), [0]);
+    assert_eq!(answer(&card, &[4, 2, 0, 0]), [2, 1, 2]);
 }
 
 #[test]
@@ -278,7 +278,7 @@ fn s5_to_s12_as_typed_answers() {
     ];
     assert!(answers.iter().eq(expected));
 
-    let phrase = ask_all(&s9_card(), &[Question::Phrase(vec![0])]).unwrap();
+    let phrase = ask_all(&s9_card(), &[Question::phrase([0])]).unwrap();
     let Some(Answer::Phrase(starts)) = phrase.iter().next() else {
         panic!("a phrase was asked")
     };
@@ -332,8 +332,9 @@ fn edges_of_questions() {
     assert!(ask_all(&card, &[Question::Common(vec![0; 8])]).is_ok());
     let refused = |question| ask_all(&card, &[question]) == Err(Refusal::Question);
     assert!(refused(Question::Common(vec![0; 9])));
-    assert!(refused(Question::Phrase(vec![0; 9])));
+    assert!(refused(Question::phrase([0; 9])));
     assert!(refused(Question::Common(vec![])));
+    assert!(refused(Question::Phrase(vec![])));
     assert!(refused(Question::Rank { term: 1, rank: 0 }));
 }
 

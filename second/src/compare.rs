@@ -140,6 +140,7 @@ mod tests {
         CountsASeekMore,
         TellsNoPagesBelow,
         CountsAPageBelowMore,
+        ClosesGaps,
         AcceptsAnyPointer,
         WritesBehindTheBlock,
         TellsALengthOnRefusal,
@@ -222,10 +223,22 @@ mod tests {
                     room[0] = 0;
                     return Asked { used: 1, ..asked };
                 }
+                Slip::ClosesGaps if asked.answered > 0 && questions[0] == 4 => {
+                    room.copy_from_slice(&before);
+                    return Plain.ask(card, &without_gaps(questions), room);
+                }
                 _ => {}
             }
             asked
         }
+    }
+
+    /// The questions with the words of the first, a phrase, right behind one another.
+    fn without_gaps(questions: &[u32]) -> Vec<u32> {
+        let mut changed = questions.to_vec();
+        let pairs = changed[2..2 + questions[1] as usize].chunks_mut(2);
+        pairs.zip(0..).for_each(|(pair, offset)| pair[1] = offset);
+        changed
     }
 
     /// The number of differences on the edges and some seeded calls.
@@ -265,6 +278,7 @@ mod tests {
             Slip::CountsASeekMore,
             Slip::TellsNoPagesBelow,
             Slip::CountsAPageBelowMore,
+            Slip::ClosesGaps,
             Slip::AcceptsAnyPointer,
             Slip::WritesBehindTheBlock,
             Slip::TellsALengthOnRefusal,

@@ -8,6 +8,7 @@ pub mod full_size;
 pub mod gen;
 pub mod host_calls;
 pub mod long_closing;
+pub mod phrase_faults;
 pub mod plain;
 pub mod sights;
 pub mod stored;

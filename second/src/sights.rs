@@ -2,11 +2,13 @@
 
 use crate::case::{Case, Outcome};
 use crate::gen::full_size::LONG;
+use crate::phrase_faults::{phrase_fault, Fault};
 use crate::plain::bytes::{next_part, number_at};
+use crate::plain::form::{all_questions, PhraseWord, Question};
 use crate::plain::index::INDEX_HEADER;
 use crate::plain::list::{check_list, Shape, LIST_HEADER};
 use crate::plain::term::{TERM_HEADER, TERM_OPENING};
-use crate::plain::{refusal, GREATEST_BOUND, GREATEST_TERMS, GREATEST_WORDS};
+use crate::plain::{refusal, GREATEST_BOUND, GREATEST_OFFSET, GREATEST_TERMS, GREATEST_WORDS};
 
 /// The pointers of a list that has many of them.
 pub const MANY_POINTERS: usize = 256;
@@ -34,6 +36,16 @@ pub enum Sight {
     CommonOfEight,
     /// A question of kind 4 with eight words was answered.
     PhraseOfEight,
+    /// A phrase with a dropped word was found.
+    GapFound,
+    /// A phrase with a dropped word was not found.
+    GapNotFound,
+    /// A phrase with the greatest offset was found.
+    LargestOffset,
+    /// A phrase with a dropped word that names a word twice was found.
+    WordTwiceFound,
+    /// A phrase with this fault was refused.
+    Refused(Fault),
     /// A card with the greatest T answered a question.
     GreatestTerms,
     /// A card with the greatest N answered a question.
@@ -62,7 +74,7 @@ pub enum Sight {
 
 impl Sight {
     /// Every sight, in the order of the report.
-    pub const ALL: [Sight; 22] = [
+    pub const ALL: [Sight; 34] = [
         Sight::WrittenPointers,
         Sight::WrittenManyPointers,
         Sight::WrittenPointerAtEnd,
@@ -73,6 +85,18 @@ impl Sight {
         Sight::Phrase,
         Sight::CommonOfEight,
         Sight::PhraseOfEight,
+        Sight::GapFound,
+        Sight::GapNotFound,
+        Sight::LargestOffset,
+        Sight::WordTwiceFound,
+        Sight::Refused(Fault::NoPair),
+        Sight::Refused(Fault::OddCount),
+        Sight::Refused(Fault::CutShort),
+        Sight::Refused(Fault::NinePairs),
+        Sight::Refused(Fault::FirstOffset),
+        Sight::Refused(Fault::EqualOffsets),
+        Sight::Refused(Fault::FallingOffset),
+        Sight::Refused(Fault::OverLimit),
         Sight::GreatestTerms,
         Sight::GreatestPages,
         Sight::AskedManyPointers,
@@ -86,6 +110,12 @@ impl Sight {
         Sight::NoneInLastTwo,
         Sight::AskedLong,
     ];
+
+    /// Its place among all.
+    pub fn place(self) -> usize {
+        let place = Sight::ALL.iter().position(|sight| *sight == self);
+        place.expect("every sight is among all")
+    }
 
     /// What is counted, as the report names it.
     pub fn name(self) -> String {
@@ -102,6 +132,11 @@ impl Sight {
             Sight::Phrase => "questions of kind 4 answered".into(),
             Sight::CommonOfEight => "questions of kind 3 with 8 words answered".into(),
             Sight::PhraseOfEight => "questions of kind 4 with 8 words answered".into(),
+            Sight::GapFound => "phrases with a dropped word found".into(),
+            Sight::GapNotFound => "phrases with a dropped word not found".into(),
+            Sight::LargestOffset => format!("phrases with the offset {GREATEST_OFFSET} found"),
+            Sight::WordTwiceFound => "phrases with a dropped word and a word twice found".into(),
+            Sight::Refused(fault) => format!("phrases refused for {}", fault.name()),
             Sight::GreatestTerms => "questions answered on a card with T at its limit".into(),
             Sight::GreatestPages => "questions answered on a card with N at its limit".into(),
             Sight::AskedManyPointers => {
@@ -141,6 +176,18 @@ pub fn sights(case: &Case, plain: &Outcome) -> Vec<Sight> {
                 ..
             },
         ) => of_good_questions(card, questions, *answered, &after.room),
+        (
+            Case::Ask {
+                card, questions, ..
+            },
+            Outcome::Asked {
+                refusal: refusal::QUESTION,
+                ..
+            },
+        ) => {
+            let fault = phrase_fault(page_lists(card).len(), questions);
+            fault.map(Sight::Refused).into_iter().collect()
+        }
         _ => Vec::new(),
     }
 }
@@ -168,26 +215,44 @@ fn of_good_questions(card: &[u8], questions: &[u32], answered: usize, room: &[u3
     let pages = page_lists(card);
     let greatest_terms = pages.len() == GREATEST_TERMS as usize;
     let greatest_pages = number_at(card, 5) == GREATEST_BOUND;
+    let questions = all_questions(pages.len(), questions).expect("all are good");
     let mut sights = Vec::new();
-    let (mut rest, mut left) = (questions, room);
-    for _ in 0..answered {
-        let (question, after) = rest.split_at(2 + rest[1] as usize);
-        rest = after;
+    let mut left = room;
+    for question in &questions[..answered] {
+        let (answer, after) = left.split_at(1 + left[0] as usize);
+        let terms = question.terms();
+        let lists: Vec<&ListBlock> = terms.iter().map(|term| &pages[*term as usize]).collect();
         sights.extend(of_question(question));
-        let named = words_of(question).iter();
-        let lists: Vec<&ListBlock> = named.map(|word| &pages[*word as usize]).collect();
         sights.extend(of_asked(&lists));
-        if question[0] == 2 {
-            sights.extend(of_bound(lists[0], question[3], left));
+        match question {
+            Question::AtBound(_, bound) => sights.extend(of_bound(lists[0], *bound, left)),
+            Question::Phrase(words) => sights.extend(of_phrase(words, answer.len() > 1)),
+            _ => {}
         }
         sights.extend(holding(&[
             (greatest_terms, Sight::GreatestTerms),
             (greatest_pages, Sight::GreatestPages),
         ]));
-        left = &left[1 + left[0] as usize..];
+        left = after;
     }
-    sights.extend(of_refused(&pages, rest, left));
+    sights.extend(of_refused(&pages, questions.get(answered), left));
     sights
+}
+
+/// The sights of a phrase that stands somewhere, or does not.
+fn of_phrase(words: &[PhraseWord], found: bool) -> Vec<Sight> {
+    let last = words[words.len() - 1].offset;
+    let gap = last as usize >= words.len();
+    let mut terms: Vec<u32> = words.iter().map(|word| word.term).collect();
+    terms.sort_unstable();
+    let twice = terms.windows(2).any(|pair| pair[0] == pair[1]);
+    let sights = [
+        (gap && found, Sight::GapFound),
+        (gap && !found, Sight::GapNotFound),
+        (last == GREATEST_OFFSET && found, Sight::LargestOffset),
+        (gap && twice && found, Sight::WordTwiceFound),
+    ];
+    holding(&sights).collect()
 }
 
 /// The sights of a bound whose answer stands at the front of the room.
@@ -205,33 +270,25 @@ fn of_bound(list: &ListBlock, bound: u32, room: &[u32]) -> Vec<Sight> {
     holding(&sights).collect()
 }
 
-/// The sight of the first of these questions, which did not fit in the room.
-fn of_refused(pages: &[ListBlock], questions: &[u32], room: &[u32]) -> Option<Sight> {
-    match (questions, room) {
-        ([2, _, word, bound, ..], [_]) => pages[*word as usize]
+/// The sight of a question that did not fit in the room.
+fn of_refused(pages: &[ListBlock], question: Option<&Question>, room: &[u32]) -> Option<Sight> {
+    match (question, room) {
+        (Some(Question::AtBound(word, bound)), [_]) => pages[*word as usize]
             .lies_below(*bound)
             .then_some(Sight::NoneRefused),
         _ => None,
     }
 }
 
-/// The words that a good question names.
-fn words_of(question: &[u32]) -> &[u32] {
-    match question[0] {
-        1 | 2 => &question[2..3],
-        _ => &question[2..],
-    }
-}
-
-fn of_question(question: &[u32]) -> Vec<Sight> {
-    let eight_words = words_of(question).len() == GREATEST_WORDS;
-    match (question[0], eight_words) {
-        (1, _) => vec![Sight::AtRank],
-        (2, _) => vec![Sight::AtBound],
-        (3, false) => vec![Sight::Common],
-        (3, true) => vec![Sight::Common, Sight::CommonOfEight],
-        (_, false) => vec![Sight::Phrase],
-        (_, true) => vec![Sight::Phrase, Sight::PhraseOfEight],
+fn of_question(question: &Question) -> Vec<Sight> {
+    let eight_words = question.terms().len() == GREATEST_WORDS;
+    match (question, eight_words) {
+        (Question::AtRank(..), _) => vec![Sight::AtRank],
+        (Question::AtBound(..), _) => vec![Sight::AtBound],
+        (Question::Common(_), false) => vec![Sight::Common],
+        (Question::Common(_), true) => vec![Sight::Common, Sight::CommonOfEight],
+        (Question::Phrase(_), false) => vec![Sight::Phrase],
+        (Question::Phrase(_), true) => vec![Sight::Phrase, Sight::PhraseOfEight],
     }
 }
 
@@ -355,17 +412,58 @@ mod tests {
         assert_eq!(of_kind(&[1, 2, 0, 0]), [Sight::AtRank]);
         assert_eq!(of_kind(&[2, 2, 1, 3]), [Sight::AtBound]);
         assert_eq!(of_kind(&[3, 2, 1, 0]), [Sight::Common]);
-        assert_eq!(of_kind(&[4, 1, 1]), [Sight::Phrase]);
+        assert_eq!(of_kind(&[4, 2, 1, 0]), [Sight::Phrase]);
         let eight = [Sight::Common, Sight::CommonOfEight];
         assert_eq!(of_kind(&[3, 8, 0, 0, 0, 0, 0, 0, 0, 1]), eight);
         let eight = [Sight::Phrase, Sight::PhraseOfEight];
-        assert_eq!(of_kind(&[4, 8, 0, 0, 0, 0, 0, 0, 0, 1]), eight);
+        let pairs: Vec<u32> = (0..8).flat_map(|offset| [0, offset]).collect();
+        assert_eq!(of_kind(&[&[4, 16], &pairs[..]].concat()), eight);
         assert_eq!(of_kind(&[5, 1, 0]), []);
-        assert_eq!(asked(9, &[3], 1, &[4, 1, 0], 2), []);
+        assert_eq!(asked(9, &[3], 1, &[4, 2, 0, 0], 2), []);
         assert_eq!(
-            asked(9, &[3], 1, &[1, 2, 0, 0, 4, 1, 0], 2),
+            asked(9, &[3], 1, &[1, 2, 0, 0, 4, 2, 0, 0], 2),
             [Sight::AtRank]
         );
+    }
+
+    /// What a phrase shows over a card with word 0 at 0, 3 and 255 of a page, and word 1 at 4.
+    fn of_pairs(pairs: &[u32]) -> Vec<Sight> {
+        let word_at = |positions: &[u32]| {
+            let mut word = Word::nowhere();
+            word.stand(0, positions);
+            word
+        };
+        let words = vec![word_at(&[0, 3, 255]), word_at(&[4])];
+        shown(&Case::Ask {
+            card: RawCard::of(&Card { pages: 1, words }).bytes(),
+            questions: [&[4, pairs.len() as u32], pairs].concat(),
+            room: vec![0; 9],
+        })
+    }
+
+    #[test]
+    fn a_phrase_shows_its_gaps() {
+        assert_eq!(of_pairs(&[0, 0, 1, 1]), [Sight::Phrase]);
+        assert_eq!(of_pairs(&[0, 0, 1, 4]), [Sight::Phrase, Sight::GapFound]);
+        assert_eq!(of_pairs(&[0, 0, 1, 2]), [Sight::Phrase, Sight::GapNotFound]);
+        let twice = [Sight::Phrase, Sight::GapFound, Sight::WordTwiceFound];
+        assert_eq!(of_pairs(&[0, 0, 0, 3]), twice);
+        let greatest = [
+            Sight::Phrase,
+            Sight::GapFound,
+            Sight::LargestOffset,
+            Sight::WordTwiceFound,
+        ];
+        assert_eq!(of_pairs(&[0, 0, 0, 255]), greatest);
+        let not_found = [Sight::Phrase, Sight::GapNotFound];
+        assert_eq!(of_pairs(&[1, 0, 0, 255]), not_found);
+    }
+
+    #[test]
+    fn a_refused_phrase_shows_its_fault() {
+        assert_eq!(of_pairs(&[]), [Sight::Refused(Fault::NoPair)]);
+        assert_eq!(of_pairs(&[0, 1]), [Sight::Refused(Fault::FirstOffset)]);
+        assert_eq!(of_pairs(&[2, 0]), []);
     }
 
     #[test]

@@ -10,14 +10,29 @@ use std::fmt::Write;
 const REFUSALS: usize = 11;
 
 /// How often each refusal, each low width and each sight was seen.
-#[derive(Clone, Debug, Default, PartialEq, Eq)]
+#[derive(Clone, Debug, PartialEq, Eq)]
 pub struct Tally {
     seen: [[u64; REFUSALS]; Kind::ALL.len()],
     widths: [u64; GREATEST_WIDTH as usize + 1],
     sights: [u64; Sight::ALL.len()],
 }
 
+impl Default for Tally {
+    fn default() -> Tally {
+        Tally::of_each(0)
+    }
+}
+
 impl Tally {
+    /// A tally that has seen everything so many times.
+    fn of_each(times: u64) -> Tally {
+        Tally {
+            seen: [[times; REFUSALS]; Kind::ALL.len()],
+            widths: [times; GREATEST_WIDTH as usize + 1],
+            sights: [times; Sight::ALL.len()],
+        }
+    }
+
     /// Counts a case that has been compared.
     pub fn count(&mut self, case: &Case, plain: &Outcome) {
         self.count_kind(case.kind(), plain.refusal());
@@ -28,7 +43,7 @@ impl Tally {
             }
         }
         for sight in sights(case, plain) {
-            self.sights[sight as usize] += 1;
+            self.sights[sight.place()] += 1;
         }
     }
 
@@ -76,7 +91,7 @@ impl Tally {
             }
         }
         for sight in Sight::ALL {
-            if self.sights[sight as usize] == 0 {
+            if self.sights[sight.place()] == 0 {
                 lines.push(sight.name());
             }
         }
@@ -103,7 +118,7 @@ impl Tally {
             widths.join(" ")
         );
         for sight in Sight::ALL {
-            text += &format!("{}: {}\n", sight.name(), self.sights[sight as usize]);
+            text += &format!("{}: {}\n", sight.name(), self.sights[sight.place()]);
         }
         text
     }
@@ -134,25 +149,16 @@ fn put_row(text: &mut String, kind: Kind, compared: u64, seen: &[u64]) {
 mod tests {
     use super::*;
 
-    /// A tally that has seen everything once.
-    fn everything_once() -> Tally {
-        Tally {
-            seen: [[1; REFUSALS]; Kind::ALL.len()],
-            widths: [1; GREATEST_WIDTH as usize + 1],
-            sights: [1; Sight::ALL.len()],
-        }
-    }
-
     #[test]
     fn a_tally_that_has_seen_everything_lacks_nothing() {
-        assert_eq!(everything_once().unseen(true), Vec::<String>::new());
+        assert_eq!(Tally::of_each(1).unseen(true), Vec::<String>::new());
     }
 
     #[test]
     fn a_tally_without_one_sight_lacks_it() {
         for sight in Sight::ALL {
-            let mut tally = everything_once();
-            tally.sights[sight as usize] = 0;
+            let mut tally = Tally::of_each(1);
+            tally.sights[sight.place()] = 0;
             assert_eq!(tally.unseen(true), [sight.name()]);
         }
     }
@@ -160,7 +166,7 @@ mod tests {
     #[test]
     fn a_tally_without_one_width_lacks_it() {
         for width in 0..=GREATEST_WIDTH {
-            let mut tally = everything_once();
+            let mut tally = Tally::of_each(1);
             tally.widths[width as usize] = 0;
             let line = format!("no list of low width {width} was written");
             assert_eq!(tally.unseen(true), [line]);
@@ -171,7 +177,7 @@ mod tests {
     fn a_tally_without_one_refusal_that_can_occur_lacks_it() {
         for kind in Kind::ALL {
             for refusal in 0..REFUSALS as u32 {
-                let mut tally = everything_once();
+                let mut tally = Tally::of_each(1);
                 tally.seen[kind as usize][refusal as usize] = 0;
                 let lacks = kind.can_occur().contains(&refusal);
                 assert_eq!(tally.unseen(true).len(), usize::from(lacks));
@@ -196,13 +202,8 @@ mod tests {
 
     #[test]
     fn two_tallies_add_up() {
-        let mut tally = everything_once();
-        tally.add(&everything_once());
-        let everything_twice = Tally {
-            seen: [[2; REFUSALS]; Kind::ALL.len()],
-            widths: [2; GREATEST_WIDTH as usize + 1],
-            sights: [2; Sight::ALL.len()],
-        };
-        assert_eq!(tally, everything_twice);
+        let mut tally = Tally::of_each(1);
+        tally.add(&Tally::of_each(1));
+        assert_eq!(tally, Tally::of_each(2));
     }
 }

@@ -12,6 +12,9 @@ const BOUND: u32 = 2;
 const COMMON: u32 = 3;
 const PHRASE: u32 = 4;
 
+/// The greatest offset of a word in a phrase.
+const MOST_OFFSET: u32 = 255;
+
 /// Checks card and questions, then answers the questions into the room.
 pub fn ask(card: &[u8], questions: &[u32], room: &mut [u32]) -> Asked {
     let checked = check_index(card).and_then(|terms| check_questions(questions, terms));
@@ -54,14 +57,27 @@ fn behind_question(questions: &[u32], terms: u32) -> Option<&[u32]> {
     let [kind, count, rest @ ..] = questions else {
         return None;
     };
-    let words = match (*kind, *count) {
-        (RANK | BOUND, 2) => 1,
-        (COMMON | PHRASE, 1..=8) => *count as usize,
-        _ => return None,
-    };
+    let known = |term: &u32| *term < terms;
     let (numbers, after) = rest.split_at_checked(*count as usize)?;
-    let all_known = numbers[..words].iter().all(|term| *term < terms);
-    all_known.then_some(after)
+    let good = match (*kind, *count) {
+        (RANK | BOUND, 2) => known(&numbers[0]),
+        (COMMON, 1..=8) => numbers.iter().all(known),
+        (PHRASE, 2 | 4 | 6 | 8 | 10 | 12 | 14 | 16) => is_phrase(numbers, terms),
+        _ => false,
+    };
+    good.then_some(after)
+}
+
+/// Whether these pairs are of known terms and have offsets that rise from 0.
+#[inline(always)]
+fn is_phrase(pairs: &[u32], terms: u32) -> bool {
+    let mut next = 0;
+    let rising = pairs.chunks_exact(2).all(|pair| {
+        let good = pair[0] < terms && (next..=MOST_OFFSET).contains(&pair[1]);
+        next = pair[1].wrapping_add(1);
+        good
+    });
+    rising && pairs[1] == 0
 }
 
 /// Answers a good question; gives the answer's length, or `None` if it does not fit.
@@ -200,18 +216,40 @@ unsafe fn count_common(words: &Words) -> usize {
     count
 }
 
+/// The words of a phrase and the offset of each in the question's order.
+struct Phrase {
+    words: Words,
+    offsets: [u32; 8],
+}
+
+impl Phrase {
+    #[inline(always)]
+    unsafe fn open(card: *const u8, pairs: &[u32]) -> Phrase {
+        let (mut terms, mut offsets) = ([0; 8], [0; 8]);
+        for (i, pair) in pairs.chunks_exact(2).enumerate() {
+            terms[i] = pair[0];
+            offsets[i] = pair[1];
+        }
+        Phrase {
+            words: Words::open(card, &terms[..pairs.len() / 2]),
+            offsets,
+        }
+    }
+}
+
 /// Answers a question for a phrase.
-unsafe fn phrase(card: *const u8, numbers: &[u32], room: &mut [u32]) -> Option<usize> {
+unsafe fn phrase(card: *const u8, pairs: &[u32], room: &mut [u32]) -> Option<usize> {
     if room.is_empty() {
         return None;
     }
-    let words = Words::open(card, numbers);
-    if room.len() - 1 < 2 * words.most() && room.len() - 1 < 2 * count_phrase_pages(&words) {
+    let phrase = Phrase::open(card, pairs);
+    let most = 2 * phrase.words.most();
+    if room.len() - 1 < most && room.len() - 1 < 2 * count_phrase_pages(&phrase) {
         return None;
     }
     let begin = room.as_mut_ptr().add(1);
     let mut at = begin;
-    go_over_phrase(&words, |page, starts| {
+    go_over_phrase(&phrase, |page, starts| {
         at.write(page);
         at.add(1).write(starts);
         at = at.add(2);
@@ -223,18 +261,19 @@ unsafe fn phrase(card: *const u8, numbers: &[u32], room: &mut [u32]) -> Option<u
 
 #[cold]
 #[inline(never)]
-unsafe fn count_phrase_pages(words: &Words) -> usize {
+unsafe fn count_phrase_pages(phrase: &Phrase) -> usize {
     let mut count = 0;
-    go_over_phrase(words, |_, _| count += 1);
+    go_over_phrase(phrase, |_, _| count += 1);
     count
 }
 
 /// Goes over the pages with a start and tells each with the number of its starts.
 #[inline(always)]
-unsafe fn go_over_phrase(words: &Words, mut each: impl FnMut(u32, u32)) {
+unsafe fn go_over_phrase(phrase: &Phrase, mut each: impl FnMut(u32, u32)) {
+    let words = &phrase.words;
     let mut places = [Places::NOWHERE; 8];
     for (i, place) in places[..words.count].iter_mut().enumerate() {
-        *place = Places::of(words.terms[i], words.order[i] as u32);
+        *place = Places::of(words.terms[i], phrase.offsets[words.order[i]]);
     }
     if words.count == 1 {
         let word = &mut places[0];

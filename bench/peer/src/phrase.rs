@@ -14,7 +14,7 @@ pub struct Places {
     positions: Cursor,
     /// A place of the positions' cursor at or before this page's first position.
     before: Place,
-    /// The word's place in the phrase.
+    /// How far behind a start the word stands.
     offset: u32,
     /// What is added to a start to get this word's element on this page.
     base: u32,
@@ -33,7 +33,7 @@ impl Places {
         end: 0,
     };
 
-    /// The positions of an accepted term that is a phrase's word number `offset`.
+    /// The positions of an accepted term that stands so far behind a phrase's start.
     pub unsafe fn of(term: *const u8, offset: u32) -> Places {
         let pages = term.add(TERM_OPENING);
         let counts = pages.add(number(pages) as usize);

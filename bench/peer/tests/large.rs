@@ -2,6 +2,7 @@
 //! and phrases over many positions, against the second program's reading of the same card.
 
 use jundefola_peer::{peer_ask, peer_check_index, peer_close_index, peer_write_term};
+use second::gen::phrases::{apart, in_a_row, of_pairs};
 use second::gen::random::Random;
 use second::plain::ask::reply;
 use second::plain::index::check_index;
@@ -101,12 +102,15 @@ fn questions(random: &mut Random, card_pages: u32, words: &[Word]) -> Vec<u32> {
             questions.extend([2, 2, term as u32, bound]);
         }
     }
-    for kind in [3, 4] {
-        for _ in 0..6 {
-            let count = random.from_to(1, 4);
-            questions.extend([kind, count]);
-            questions.extend((0..count).map(|_| random.place(words.len()) as u32));
-        }
+    for _ in 0..6 {
+        let count = random.from_to(1, 4);
+        let terms: Vec<u32> = (0..count)
+            .map(|_| random.place(words.len()) as u32)
+            .collect();
+        questions.extend([3, count]);
+        questions.extend(&terms);
+        questions.extend(of_pairs(&in_a_row(&terms)));
+        questions.extend(of_pairs(&apart(random, &terms)));
     }
     questions
 }

@@ -5,7 +5,7 @@ use Prim.Native.Nat.{ℕ}
 use borrow.Author.Tests.{ne-eqb}
 use lib.ListN.{getD}
 use Rattle.rules.specs.Index.{indexN}
-use Rattle.rules.specs.Questions.{answer, pagesIn, listsIn, wordsIn, byRank, byBound, byCommon, byPhrase}
+use Rattle.rules.specs.Questions.{answer, pagesIn, listsIn, phraseIn, byRank, byBound, byCommon, byPhrase}
 
 module _ (s : List ℕ) (kind : ℕ) (args : List ℕ) where
   pub answer-rank : kind ≡ 1 → answer s kind args ≡ byRank (pagesIn s (getD args 0 0)) (getD args 1 0)
@@ -20,6 +20,6 @@ module _ (s : List ℕ) (kind : ℕ) (args : List ℕ) where
   unfolding answer
   answer-common e = rw e
 
-  pub answer-phrase : (kind ≡ 1 → ⊥) → (kind ≡ 2 → ⊥) → (kind ≡ 3 → ⊥) → answer s kind args ≡ byPhrase (wordsIn s args)
+  pub answer-phrase : (kind ≡ 1 → ⊥) → (kind ≡ 2 → ⊥) → (kind ≡ 3 → ⊥) → answer s kind args ≡ byPhrase (phraseIn s args)
   unfolding answer
   answer-phrase a b c = rw (ne-eqb kind 1 a, ne-eqb kind 2 b, ne-eqb kind 3 c)

@@ -2,22 +2,24 @@
 
 ghost use mathlib.Core.Path.{_≡_};
 ghost use mathlib.Core.Bool.{true};
-ghost use lib.ListN.{length};
+ghost use lib.ListN.{length, getD};
 ghost use Rattle.rules.specs.declared.Refusal.the-variants.{Accepted};
 ghost use Rattle.rules.specs.Index.{indexT, indexRefusal};
-ghost use Rattle.rules.specs.Questions.{wordsIn, byPhrase, answer, goodQuestion};
-ghost use Rattle.questions.specs.Formed.{wordsGood};
+ghost use Rattle.rules.specs.Questions.{byPhrase, phraseIn, answer, wordsGood, phraseGood, goodQuestion};
 ghost use Rattle.questions.specs.Wrote.{Wrote};
-ghost use Rattle.triallaws.specs.Asked.{AskedIn};
+ghost use Rattle.triallaws.specs.Asked.{offsetsIn, AskedIn, PhraseOpened};
 use triallaws::COUNTS;
 use triallaws::LEAD;
+use triallaws::OFFSETS;
 use triallaws::POSITIONS;
+use triallaws::ROW;
 
-// Finds the words' terms on one way, and opens their lists into the row.
-fn open_phrase(card: &[u8], terms: &[u32], lists: &mut [u32])
+// Finds the words' terms on one way, and opens their lists into the row, whose offsets stay.
+fn open_row(card: &[u8], terms: &[u32], lists: &mut [u32])
     requires { ⌜ (indexRefusal (now card) ≡ Accepted) × (wordsGood (indexT (now card)) (now terms) ≡ true)
-        × (length (now lists) ≡ 193) ⌝ }
-    ensures { λ _. ⌜ AskedIn (now (card .entry)) (now (terms .entry)) (now (lists .exit)) ⌝ }
+        × (length (now lists) ≡ 201) × (getD (offsetsIn (now lists)) 0 0 ≡ 0) ⌝ }
+    ensures { λ _. ⌜ AskedIn (now (card .entry)) (now (terms .entry)) (now (lists .exit))
+        × (offsetsIn (now (lists .exit)) ≡ offsetsIn (now (lists .entry))) ⌝ }
 {
     let mut starts = [0usize; 8];
     findterms::find_terms(card, terms, &mut starts);
@@ -27,20 +29,29 @@ fn open_phrase(card: &[u8], terms: &[u32], lists: &mut [u32])
     lists[LEAD] = lead as u32;
 }
 
+// Puts the terms of a phrase's pairs apart, and the numbers of their lists and their offsets into the row; how many
+// there are.
+fn open_phrase(card: &[u8], pairs: &[u32], terms: &mut [u32], lists: &mut [u32]) -> usize
+    requires { ⌜ (indexRefusal (now card) ≡ Accepted) × (phraseGood (indexT (now card)) (now pairs) ≡ true)
+        × (length (now terms) ≡ 8) × (length (now lists) ≡ 201) ⌝ }
+    ensures { λ r. ⌜ PhraseOpened (now (card .entry)) (now (pairs .entry)) r (now (terms .exit))
+        (now (lists .exit)) ⌝ }
+{
+    let k = questions::split_pairs(pairs, terms, &mut lists[OFFSETS..ROW]);
+    open_row(card, &terms[0..k], lists);
+    k
+}
+
 // Kind 4: the pages with a start of the phrase, each with the number of its starts.
-fn by_phrase(card: &[u8], terms: &[u32], room: &mut [u32]) -> usize
-    requires { ⌜ (indexRefusal (now card) ≡ Accepted) × (wordsGood (indexT (now card)) (now terms) ≡ true) ⌝ }
-    ensures { λ r. ⌜ Wrote (byPhrase (wordsIn (now (card .entry)) (now (terms .entry)))) (now (room .entry)) r
+fn by_phrase(card: &[u8], pairs: &[u32], room: &mut [u32]) -> usize
+    requires { ⌜ (indexRefusal (now card) ≡ Accepted) × (phraseGood (indexT (now card)) (now pairs) ≡ true) ⌝ }
+    ensures { λ r. ⌜ Wrote (byPhrase (phraseIn (now (card .entry)) (now (pairs .entry)))) (now (room .entry)) r
         (now (room .exit)) ⌝ }
 {
-    let mut lists = [0u32; 193];
-    open_phrase(card, terms, &mut lists);
-    if !pairs::fits(card, terms, &lists, room.len()) {
-        return 0;
-    }
-    let found = pairs::list_starts(card, terms, &lists, room);
-    room[0] = found as u32;
-    found + 1
+    let mut terms = [0u32; 8];
+    let mut lists = [0u32; 201];
+    let k = open_phrase(card, pairs, &mut terms, &mut lists);
+    pairs::put_starts(card, &terms[0..k], &lists, room)
 }
 
 // The answer of a question that may be asked, whole at the front of the room; 0 where it does not fit.

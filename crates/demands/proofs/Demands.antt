@@ -12,8 +12,8 @@ use lib.ListN.{length, getD, take, drop, replicate, length-append}
 use Rattle.rules.specs.declared.Refusal.the-variants.{Accepted, Room}
 use Rattle.rules.specs.Bytes.{Bytes}
 use Rattle.rules.specs.Refusal.{number}
-use Rattle.rules.specs.Limits.{indexHeader}
-use Rattle.rules.specs.List.{validList, block}
+use Rattle.rules.specs.Limits.{offsetLimit, indexHeader}
+use Rattle.rules.specs.List.{rising, validList, block}
 use Rattle.rules.specs.ReadList.{listRefusal}
 use Rattle.rules.specs.Write.{Made, laid, writeList}
 use Rattle.rules.specs.Term.{Word, termBlock, writeTerm}
@@ -21,8 +21,9 @@ use Rattle.rules.specs.ReadTerm.{termRefusal}
 use Rattle.rules.specs.Index.{validCard, card, indexN, indexT, indexRefusal, closeIndex}
 use Rattle.rules.specs.Seek.{upperWords}
 use Rattle.rules.specs.Common.{rounds, common}
-use Rattle.rules.specs.Questions.{below, commonPages, byBound, byCommon, byPhrase, allBelow, goodQuestion, wellFormed}
-use Rattle.rules.specs.Questions.{replies}
+use Rattle.rules.specs.Questions.{below, commonPages, phraseOf, byBound, byCommon, byPhrase, allBelow, pairGood}
+use Rattle.rules.specs.Questions.{goodQuestion, wellFormed, replies}
+use Rattle.rules.specs.Table.{stepped}
 use Rattle.rules.specs.Ask.{Replied, fitting, joined, reply}
 use Rattle.laws.proofs.RefusalLaws.{number-inj}
 use Rattle.listlaws.proofs.Theorems as lists
@@ -30,12 +31,14 @@ use Rattle.termlaws.proofs.Theorems as words
 use Rattle.cardlaws.proofs.Theorems as cards
 use Rattle.cardlaws.proofs.ClosingLaws.{close-told}
 use Rattle.questions.specs.Formed.{formed, answersTo}
+use Rattle.questions.proofs.GoodLaws.{good-phrase}
 use Rattle.hostlaws.specs.declared.HostWritten.{HostWritten}
 use Rattle.hostlaws.specs.declared.HostAsked.{HostAsked}
 use Rattle.hostlaws.specs.Host.{Told, HostListChecked, HostListWritten, HostTermChecked, HostTermWritten}
 use Rattle.hostlaws.specs.Host.{HostIndexChecked, HostIndexClosed, HostAnswered}
 use Rattle.demands.specs.Asking.{ValidWord, Query, written, Good, pagesAt, named, pagesNamed, plain, plainAll}
-use Rattle.demands.specs.Asking.{lastOf, upperRuns, leadOn, othersOn, times, readingIt}
+use Rattle.demands.specs.InRow.{byRow}
+use Rattle.demands.specs.Asking.{paired, lastOf, upperRuns, leadOn, othersOn, times, readingIt}
 use Rattle.demands.proofs.WriteLaws.{number-le, to-writable, from-writable, list-keeps, term-keeps, close-keeps}
 use Rattle.demands.proofs.WriteLaws.{close-size, list-writes, list-wrote, told-accepts, accepts-told}
 use Rattle.demands.proofs.WriteLaws.{told-refused, told-success}
@@ -43,6 +46,8 @@ use Rattle.demands.proofs.AskLaws.{Reads, fits, reply-nothing, reply-ro
 use Rattle.demands.proofs.AskLaws.{written-formed}
 use Rattle.demands.proofs.KindLaws.{length-lists, states-T, pages-rise, may-ask, plain-answers, length-plain}
 use Rattle.demands.proofs.KindLaws.{common-told, common-lists, seeks-most, seeks-same, looks-most, counts-fit}
+use Rattle.demands.proofs.PhraseLaws.{paired-terms, paired-offsets, paired-length, may-pair, length-row, first-row}
+use Rattle.demands.proofs.PhraseLaws.{rising-row, row-answer, length-named}
 use Rattle.demands.proofs.SameLaws.{begins-length, begins-times, times-twice, runs-twice}
 use Rattle.demands.proofs.PlainLaws.{rank-in, rank-past, bound-at, bound-none, bound-last, rank-length}
 use Rattle.demands.proofs.PlainLaws.{bound-length}
@@ -265,7 +270,7 @@ module _ (N : ℕ) (ts : List Word) (v : validCard N ts ≡ true) (room : List �
       → (r .refusal ≡ 0)
       × (rank < length (pagesAt ts t) → after ≡ laid (1 ∷ (getD (pagesAt ts t) rank 0 ∷ [])) room)
       × (length (pagesAt ts t) ≤ rank → after ≡ laid (0 ∷ []) room)
-  unfolding plain goodQuestion
+  unfolding plain goodQuestion pairGood
   by-rank t rank h p l =
       let xs = pagesAt ts t in
       let q : Query = record { kind = 1; numbers = t ∷ (rank ∷ []) } in
@@ -278,7 +283,7 @@ module _ (N : ℕ) (ts : List Word) (v : validCard N ts ≡ true) (room : List �
   -- The answer c of a question for a bound.
   bound-answered : (t b : ℕ) → t < length ts → HostAnswered (card N ts) (2 ∷ (2 ∷ (t ∷ (b ∷ [])))) room r after
       → (c : List ℕ) → byBound (pagesAt ts t) b ≡ c → length c ≤ length room → (r .refusal ≡ 0) × (after ≡ laid c room)
-  unfolding plain goodQuestion
+  unfolding plain goodQuestion pairGood
   bound-answered t b h p c e l =
       let q : Query = record { kind = 2; numbers = t ∷ (b ∷ []) } in
       let a = one-answered q (rw (lt-ltb t (length ts) h)) p (rw e l) in
@@ -309,15 +314,34 @@ module _ (N : ℕ) (ts : List Word) (v : validCard N ts ≡ true) (room : List �
   -- One to eight words, each by its number.
   module _ (terms : List ℕ) (some : 1 ≤ length terms) (few : length terms ≤ 8)
       (below : allBelow (length ts) terms ≡ true) where
-    -- Kind 4: the pages with the phrase, each with its starts.
-    pub by-phrase : HostAnswered (card N ts) (4 ∷ (length terms ∷ terms)) room r after
-        → length (byPhrase (named ts terms)) ≤ length room
-        → (r .refusal ≡ 0) × (after ≡ laid (byPhrase (named ts terms)) room)
+    -- Kind 4: the pages with the phrase, each with its starts: each word stands at the start plus its offset. The first
+    -- offset is 0, and each next is larger, up to 255.
+    pub by-phrase : (offsets : List ℕ) → length offsets ≡ length terms → getD offsets 0 0 ≡ 0
+        → rising 0 (offsetLimit + 1) offsets ≡ true
+        → HostAnswered (card N ts) (4 ∷ (2 * length terms ∷ paired terms offsets)) room r after
+        → length (byPhrase (phraseOf (named ts terms) offsets)) ≤ length room
+        → (r .refusal ≡ 0) × (after ≡ laid (byPhrase (phraseOf (named ts terms) offsets)) room)
     unfolding plain
-    by-phrase p l =
-        let q : Query = record { kind = 4; numbers = terms } in
-        let a = one-answered q (may-ask (length ts) terms some few below 4 (omega arith) (omega arith)) p l in
-        (a .0, a .2)
+    by-phrase offsets same first rises p l =
+        let q : Query = record { kind = 4; numbers = paired terms offsets } in
+        let e = paired-terms terms offsets same in
+        let f = paired-offsets terms offsets same in
+        let g : goodQuestion (length ts) 4 (paired terms offsets) ≡ true =
+        good-phrase (length ts) 4 (paired terms offsets) refl ∙ may-pair (length ts) terms offsets same some few below first rises in
+        let a = one-answered q g (rw (paired-length terms offsets same) p) (rw (e, f) l) in
+        (a .0, rw (e, f) at (a .2))
+
+    -- Offsets 0, 1, 2 and so on: the pages by the rule that word i stands at p + i.
+    pub in-a-row : HostAnswered (card N ts) (4 ∷ (2 * length terms ∷ paired terms (stepped (length terms) 0 1))) room r after
+        → length (byRow (named ts terms)) ≤ length room
+        → (r .refusal ≡ 0) × (after ≡ laid (byRow (named ts terms)) room)
+    in-a-row p l =
+        let k : ℕ = length terms in
+        let n : length (named ts terms) ≡ k = length-named ts terms in
+        let e : byPhrase (phraseOf (named ts terms) (stepped k 0 1)) ≡ byRow (named ts terms) =
+        rw n at (row-answer (named ts terms)) in
+        rw e at (by-phrase (stepped k 0 1) (length-row k 0) (first-row k) (rising-row k 0 (offsetLimit + 1) (omega arith)) p
+        (rw e l))
 
     abbrev ls : List (List ℕ)
     ls = pagesNamed ts terms
@@ -332,7 +356,7 @@ module _ (N : ℕ) (ts : List Word) (v : validCard N ts ≡ true) (room : List �
     by-common p l =
         let n : length (byCommon N ls) ≤ length room = rw (common-told N ls) (omega arith) in
         let q : Query = record { kind = 3; numbers = terms } in
-        let a = one-answered q (may-ask (length ts) terms some few below 3 (omega arith) (omega arith)) p n in
+        let a = one-answered q (may-ask (length ts) terms some few below) p n in
         (a .0, a .2 ∙ ap (λ (c : List ℕ). laid c room) (common-told N ls))
 
 -- ---- 3. "For the pages common to k words (1 to 8, the rarest on m pages) the answer's seeks and looks equal the

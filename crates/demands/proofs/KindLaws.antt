@@ -18,7 +18,7 @@ use Rattle.rules.specs.Index.{card, validCard, indexN, indexT, wordOf}
 use Rattle.rules.specs.Seek.{widthOf, bitsOf, upperWords}
 use Rattle.rules.specs.Common.{common}
 use Rattle.rules.specs.Questions.{commonPages, numbered, pagesIn, listsIn, wordsIn, byCommon, answer, allBelow}
-use Rattle.rules.specs.Questions.{goodQuestion, replies}
+use Rattle.rules.specs.Questions.{termsOf, phraseIn, wordsGood, goodQuestion, replies}
 use Rattle.listlaws.proofs.RisingLaws.{and-parts, rising-length}
 use Rattle.termlaws.proofs.WordLaws.{valid-agreeing}
 use Rattle.cardlaws.proofs.PassedLaws.{card-valid}
@@ -26,9 +26,9 @@ use Rattle.cardlaws.proofs.CardLaws.{card-N, card-T}
 use Rattle.cardlaws.proofs.Theorems.{card-accepted, card-wordOf, accepted-word}
 use Rattle.commonlaws.specs.Readers.{Rise, wordsOf}
 use Rattle.commonlaws.proofs.CommonLaws as laws
-use Rattle.questions.specs.Formed.{answersTo, wordsGood}
+use Rattle.questions.specs.Formed.{answersTo}
 use Rattle.questions.proofs.FrontLaws.{answers-front}
-use Rattle.questions.proofs.GoodLaws.{good-pair, good-words, pair-parts, good-rest, words-parts}
+use Rattle.questions.proofs.GoodLaws.{good-pair, good-words, pair-parts, good-rest, words-parts, phrase-parts}
 use Rattle.demands.specs.Asking.{Query, written, Good, wordAt, pagesAt, named, pagesNamed, plain, plainAll}
 use Rattle.demands.specs.Asking.{upperRuns}
 use Rattle.demands.proofs.SameLaws.{common-same, named-same}
@@ -91,20 +91,29 @@ module _ (N : ℕ) (ts : List Word) (v : validCard N ts ≡ true) where
 
   pub plain-answer : (q : Query) → goodQuestion (length ts) (q .kind) (q .numbers) ≡ true
       → answer (card N ts) (q .kind) (q .numbers) ≡ plain N ts q
-  unfolding answer plain
+  unfolding answer plain phraseIn
   plain-answer q g =
       elim (ℕ-discrete (q .kind) 1) [
         | yes e ↦ rw (e, holds-pages (getD (q .numbers) 0 0) (of-pair (omega arith) (omega arith)))
         | no a ↦ elim (ℕ-discrete (q .kind) 2) [
           | yes e ↦ rw (e, holds-pages (getD (q .numbers) 0 0) (of-pair (omega arith) (omega arith)))
-          | no b ↦
-              let w = words-parts (length ts) (q .numbers) (good-rest (length ts) (q .kind) (q .numbers) a b g) .2 in
-              let e = ne-eqb (q .kind) 1 a in
-              let f = ne-eqb (q .kind) 2 b in
-              rw (e, f, states-N, holds-lists (q .numbers) w, holds-words (q .numbers) w)
+          | no b ↦ elim (ℕ-discrete (q .kind) 3) [
+            | yes e ↦ rw (e, states-N, holds-lists (q .numbers) (of-words e))
+            | no c ↦ rw (ne-eqb (q .kind) 1 a, ne-eqb (q .kind) 2 b, ne-eqb (q .kind) 3 c, holds-words (termsOf (q .numbers)) (of-phrase a b c))
+          ]
         ]
       ]
     where
+      of-words : q .kind ≡ 3 → allBelow (length ts) (q .numbers) ≡ true
+      of-words e =
+          words-parts (length ts) (q .numbers) (sym (good-words (length ts) (q .kind) (q .numbers) e) ∙ g) .2
+
+      of-phrase : (q .kind ≡ 1 → ⊥) → (q .kind ≡ 2 → ⊥) → (q .kind ≡ 3 → ⊥)
+          → allBelow (length ts) (termsOf (q .numbers)) ≡ true
+      of-phrase a b c =
+          words-parts (length ts) (termsOf (q .numbers))
+          (phrase-parts (length ts) (q .numbers) (good-rest (length ts) (q .kind) (q .numbers) a b c g) .1) .2
+
       of-pair : 0 < q .kind → q .kind < 3 → getD (q .numbers) 0 0 < length ts
       of-pair h k = pair-parts (length ts) (q .numbers) (sym (good-pair (length ts) (q .kind) (q .numbers) h k) ∙ g) .1
 
@@ -120,12 +129,12 @@ unfolding plainAll
 length-plain N ts [] = refl
 length-plain N ts (q ∷ qs) = ap suc (length-plain N ts qs)
 
--- one to eight words may be asked in kinds 3 and 4
+-- one to eight words may be asked in kind 3
 pub may-ask : (T : ℕ) (terms : List ℕ) → 1 ≤ length terms → length terms ≤ 8 → allBelow T terms ≡ true
-    → (kind : ℕ) → 2 < kind → kind < 5 → goodQuestion T kind terms ≡ true
+    → goodQuestion T 3 terms ≡ true
 unfolding wordsGood
-may-ask T terms some few below kind h k =
-    good-words T kind terms h k ∙ rw (le-leb 1 (length terms) some, le-leb (length terms) 8 few) below
+may-ask T terms some few below =
+    good-words T 3 terms refl ∙ rw (le-leb 1 (length terms) some, le-leb (length terms) 8 few) below
 
 -- an answer with its number in front
 pub common-told : (N : ℕ) (ls : List (List ℕ))

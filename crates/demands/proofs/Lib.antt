@@ -1,6 +1,7 @@
 pub mod WriteLaws
 pub mod AskLaws
 pub mod KindLaws
+pub mod PhraseLaws
 pub mod SameLaws
 pub mod PlainLaws
 pub mod FirstLaws

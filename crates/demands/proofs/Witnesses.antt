@@ -3,12 +3,13 @@
 use mathlib.Core.Bool.{true, false}
 use mathlib.Core.Path.{_≡_, refl}
 use mathlib.Core.List.{List, [], _∷_}
-use Prim.Native.Nat.{ℕ, zero, suc}
+use Prim.Native.Nat.{ℕ, zero, suc, _+_}
 use native.Mathlib.Omega.{arith}
 use borrow.Author.Tests.{ltb-true}
 use lib.Dec.{ltb}
-use lib.ListN.{length, replicate}
+use lib.ListN.{length, getD, replicate}
 use Rattle.rules.specs.Refusal.{number, accepted, andThen}
+use Rattle.rules.specs.Limits.{offsetLimit}
 use Rattle.rules.specs.Bytes.{Bytes, be, beAt, sized, same}
 use Rattle.rules.specs.Runs.{bit, runWord, runBit, field, wordsFor, words}
 use Rattle.rules.specs.List.{rising, validList, greatest, width, zeros, upper, lower, afterZero, pointer, pointers}
@@ -26,8 +27,9 @@ use Rattle.rules.specs.Seek.{placeOf, bitsOf, cursorBit, startOf, looksTo, walk
 use Rattle.rules.specs.Seek.{fresh, rankOf, seek}
 use Rattle.rules.specs.Common.{leadFrom, leadOf, readersOf, before, stopped, agree, counted, nothing, rounds, common}
 use Rattle.rules.specs.Questions.{firstFrom, below, member, inAll, sharedBy, commonPages, positionsAmong, positionsOn}
-use Rattle.rules.specs.Questions.{stands, startsAmong, starts, withStarts, numbered, pagesIn, listsIn, wordsIn, byRank, byBound}
-use Rattle.rules.specs.Questions.{byCommon, byPhrase, answer, allBelow, goodQuestion, kindOf, countOf, argsOf, behind}
+use Rattle.rules.specs.Questions.{phraseOf, stands, startsAmong, starts, withStarts, numbered, pagesIn, listsIn, wordsIn}
+use Rattle.rules.specs.Questions.{byRank, byBound, byCommon, byPhrase, termsOf, offsetsOf, phraseIn, answer, allBelow}
+use Rattle.rules.specs.Questions.{wordsGood, offsetsGood, phraseGood, goodQuestion, kindOf, countOf, argsOf, behind}
 use Rattle.rules.specs.Questions.{wellFormed, replies}
 use Rattle.rules.specs.Ask.{fitting, fitted, reply, joined, put, ask}
 use Rattle.rules.specs.Table.{s1List, s9, s9Word}
@@ -112,17 +114,22 @@ pub terms-met : allBelow (length (s9Word ∷ [])) (0 ∷ []) ≡ true
 unfolding allBelow
 terms-met = refl
 
+-- offsets of one to eight pairs
+pub offsets-met : (_≡_ {A = ℕ} (getD (0 ∷ (2 ∷ [])) 0 0) 0) × (rising 0 (offsetLimit + 1) (0 ∷ (2 ∷ [])) ≡ true)
+unfolding rising
+offsets-met = (refl, refl)
+
 -- a run of two questions, of kinds 3 and 4, and the room that its answers take
 abbrev run : List Query
-run = record { kind = 3; numbers = 0 ∷ [] } ∷ (record { kind = 4; numbers = 0 ∷ (0 ∷ []) } ∷ [])
+run = record { kind = 3; numbers = 0 ∷ [] } ∷ (record { kind = 4; numbers = 0 ∷ (0 ∷ (0 ∷ (2 ∷ []))) } ∷ [])
 
 pub run-met : Good 1 run
-unfolding goodQuestion allBelow
+unfolding goodQuestion phraseGood offsetsGood wordsGood allBelow termsOf offsetsOf rising
 run-met = (refl, (refl, tt))
 
-pub run-fits-met : length (joined (plainAll 3 (s9Word ∷ []) run)) ≡ 5
-unfolding joined plainAll plain byCommon byPhrase numbered named pagesNamed s9Word commonPages sharedBy inAll
-    withStarts starts startsAmong stands positionsOn positionsAmong member
+pub run-fits-met : length (joined (plainAll 3 (s9Word ∷ []) run)) ≡ 7
+unfolding joined plainAll plain byCommon byPhrase numbered named pagesNamed termsOf offsetsOf phraseOf s9Word
+    commonPages sharedBy inAll withStarts starts startsAmong stands positionsOn positionsAmong member
 run-fits-met = refl
 
 -- what a run that answers so many questions reports
@@ -130,10 +137,12 @@ abbrev reports : ℕ → ℕ → ℕ → HostAsked
 reports refusal answered used = record { refusal = refusal; answered = answered; used = used }
 
 -- S9's question answers 3 2 2 1 into a room of four numbers; with one number fewer it is 9, and of a word that is not
--- there 8
+-- there 8; its word stands once two behind itself, and may not be asked for at the start twice
 pub asked-met : HostAnswered s9 (3 ∷ (1 ∷ (0 ∷ []))) (replicate 4 0) (reports 0 1 4) (3 ∷ (2 ∷ (2 ∷ (1 ∷ []))))
     × HostAnswered s9 (3 ∷ (1 ∷ (0 ∷ []))) (replicate 3 0) (reports 9 0 0) (replicate 3 0)
     × HostAnswered s9 (3 ∷ (1 ∷ (1 ∷ []))) (replicate 3 0) (reports 8 0 0) (replicate 3 0)
+    × HostAnswered s9 (4 ∷ (4 ∷ (0 ∷ (0 ∷ (0 ∷ (2 ∷ [])))))) (replicate 3 0) (reports 0 1 3) (2 ∷ (1 ∷ (1 ∷ [])))
+    × HostAnswered s9 (4 ∷ (4 ∷ (0 ∷ (0 ∷ (0 ∷ (0 ∷ [])))))) (replicate 3 0) (reports 8 0 0) (replicate 3 0)
 unfolding accepted andThen be beAt sized same bit runWord runBit field wordsFor words rising validList greatest
     width zeros upper lower afterZero pointer pointers lowerAt upperAt size runs body block stated listU listN
     elements readList decode isBlock listRefusal laid total sums next raised placed places positive inOrder
@@ -141,10 +150,10 @@ unfolding accepted andThen be beAt sized same bit runWord runBit field wordsFor 
     readWord disagree termRefusal indexFront terms card validWords validCard indexN indexT termPart wordOf
     termsRefusal indexRefusal placeOf bitsOf cursorBit startOf looksTo walk gone arrived walked walkFrom move seek
     leadFrom leadOf readersOf before stopped agree counted nothing rounds common firstFrom member inAll sharedBy
-    commonPages positionsAmong positionsOn stands startsAmong starts withStarts numbered pagesIn listsIn wordsIn
-    byRank byBound byCommon byPhrase answer allBelow goodQuestion kindOf countOf argsOf behind wellFormed replies
-    fitting fitted reply joined put ask s9
-asked-met = (refl, refl, refl)
+    commonPages positionsAmong positionsOn phraseOf stands startsAmong starts withStarts numbered pagesIn listsIn
+    wordsIn byRank byBound byCommon byPhrase termsOf offsetsOf phraseIn answer allBelow wordsGood offsetsGood
+    phraseGood goodQuestion kindOf countOf argsOf behind wellFormed replies fitting fitted reply joined put ask s9
+asked-met = (refl, refl, refl, refl, refl)
 
 -- a bound that goes down: the cursor stays on its page and says that page's rank, 7, where two pages lie below
 pub lower-met : (ranks (answers 44 s1List fresh (43 ∷ (5 ∷ []))) ≡ 7 ∷ (7 ∷ []))

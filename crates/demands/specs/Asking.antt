@@ -8,6 +8,7 @@
 --   pagesAt ts t      its pages
 --   named ts terms    the words that the numbers name, a word named twice standing there twice
 --   pagesNamed ts terms  the pages of each
+--   paired terms offsets  pairs of a term and an offset, as a host writes a phrase [02 b]
 --   plain N ts q      the answer to q by plain reading of the words ts of N pages; only the seeks and looks of kind 3
 --                     are the step rule's
 --   plainAll N ts qs  the answer to each, in their order
@@ -27,7 +28,7 @@ use Rattle.rules.specs.Bytes.{same}
 use Rattle.rules.specs.Term.{Word, next, places, validWord}
 use Rattle.rules.specs.Seek.{fresh, upperWords}
 use Rattle.rules.specs.Common.{Reader, leadOf, readersOf}
-use Rattle.rules.specs.Questions.{goodQuestion, byRank, byBound, byCommon, byPhrase}
+use Rattle.rules.specs.Questions.{phraseOf, byRank, byBound, byCommon, byPhrase, termsOf, offsetsOf, goodQuestion}
 
 abbrev pub ValidWord : ℕ → Word → Type 0
 ValidWord N t = (validWord N t ≡ true) × (N ≤ limit) × (next 0 (places t) ≤ limit)
@@ -58,12 +59,17 @@ unfoldable pub pagesNamed : List Word → List ℕ → List (List ℕ)
 pagesNamed ts [] = []
 pagesNamed ts (t ∷ terms) = pagesAt ts t ∷ pagesNamed ts terms
 
+unfoldable pub paired : List ℕ → List ℕ → List ℕ
+paired [] ds = []
+paired (t ∷ terms) [] = []
+paired (t ∷ terms) (d ∷ ds) = t ∷ (d ∷ paired terms ds)
+
 unfoldable pub plain : ℕ → List Word → Query → List ℕ
 plain N ts q =
     cond (eqb (q .kind) 1) (byRank (pagesAt ts (getD (q .numbers) 0 0)) (getD (q .numbers) 1 0))
     (cond (eqb (q .kind) 2) (byBound (pagesAt ts (getD (q .numbers) 0 0)) (getD (q .numbers) 1 0))
     (cond (eqb (q .kind) 3) (byCommon N (pagesNamed ts (q .numbers)))
-    (byPhrase (named ts (q .numbers)))))
+    (byPhrase (phraseOf (named ts (termsOf (q .numbers))) (offsetsOf (q .numbers))))))
 
 unfoldable pub plainAll : ℕ → List Word → List Query → List (List ℕ)
 plainAll N ts [] = []

@@ -1,4 +1,5 @@
 pub mod Asking
+pub mod InRow
 pub mod Faults
 pub mod BadQuestions
 pub mod Sentences

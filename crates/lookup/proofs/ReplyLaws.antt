@@ -10,12 +10,12 @@ use lib.Dec.{eqb, ltb}
 use lib.ListN.{length, getD, length-append}
 use Rattle.rules.specs.declared.Refusal.the-variants.{Question}
 use Rattle.rules.specs.Refusal.{accepted}
-use Rattle.rules.specs.Term.{Word}
 use Rattle.rules.specs.Index.{indexN, indexT, indexRefusal}
 use Rattle.rules.specs.Seek.{Found, none, page}
 use Rattle.rules.specs.Common.{common}
-use Rattle.rules.specs.Questions.{firstFrom, commonPages, withStarts, numbered, pagesIn, listsIn, wordsIn, byRank}
-use Rattle.rules.specs.Questions.{byBound, byCommon, byPhrase, answer, kindOf, argsOf, behind, wellFormed, replies}
+use Rattle.rules.specs.Questions.{firstFrom, commonPages, InPhrase, withStarts, numbered, pagesIn, listsIn, byRank}
+use Rattle.rules.specs.Questions.{byBound, byCommon, byPhrase, phraseIn, answer, kindOf, argsOf, behind, wellFormed}
+use Rattle.rules.specs.Questions.{replies}
 use Rattle.rules.specs.Ask.{Replied, fitting, fitted, reply, joined}
 use Rattle.text.specs.Answers.{Counted}
 
@@ -50,10 +50,10 @@ count-common : (N : ℕ) (ls : List (List ℕ)) → Count (byCommon N ls)
 unfolding byCommon
 count-common N ls = count-numbered (common N ls .seeks ∷ (common N ls .looks ∷ commonPages ls))
 
-count-phrase : (ts : List Word) → Count (byPhrase ts)
+count-phrase : (ts : List InPhrase) → Count (byPhrase ts)
 unfolding byPhrase
 count-phrase [] = count-numbered []
-count-phrase (t ∷ ts) = count-numbered (withStarts (t ∷ ts) (t .pages))
+count-phrase (t ∷ ts) = count-numbered (withStarts (t ∷ ts) (t .word .pages))
 
 count-answer : (s : List ℕ) (kind : ℕ) (args : List ℕ) → Count (answer s kind args)
 unfolding answer
@@ -61,12 +61,12 @@ count-answer s kind args =
     let rank : List ℕ = byRank (pagesIn s (getD args 0 0)) (getD args 1 0) in
     let bound : List ℕ = byBound (pagesIn s (getD args 0 0)) (getD args 1 0) in
     let shared : List ℕ = byCommon (indexN s) (listsIn s args) in
-    let phrase : List ℕ = byPhrase (wordsIn s args) in
+    let phrase : List ℕ = byPhrase (phraseIn s args) in
     count-cond (eqb kind 1) rank (cond (eqb kind 2) bound (cond (eqb kind 3) shared phrase))
     (count-rank (pagesIn s (getD args 0 0)) (getD args 1 0))
     (count-cond (eqb kind 2) bound (cond (eqb kind 3) shared phrase)
     (count-bound (pagesIn s (getD args 0 0)) (getD args 1 0))
-    (count-cond (eqb kind 3) shared phrase (count-common (indexN s) (listsIn s args)) (count-phrase (wordsIn s args))))
+    (count-cond (eqb kind 3) shared phrase (count-common (indexN s) (listsIn s args)) (count-phrase (phraseIn s args))))
 
 -- ---- the answers of a run
 

@@ -7,7 +7,7 @@ ghost use lib.ListN.{length};
 ghost use Rattle.rules.specs.declared.Refusal.the-variants.{Accepted};
 ghost use Rattle.rules.specs.Index.{indexT, indexRefusal};
 ghost use Rattle.findlaws.specs.Starts.{Found};
-ghost use Rattle.questions.specs.Formed.{wordsGood};
+ghost use Rattle.rules.specs.Questions.{wordsGood};
 ghost use Rattle.openwords.specs.Slots.{Filled};
 
 // Opens the lists number k of words whose terms are found: 0 pages, 1 counts, 2 positions; each in its word's slot of

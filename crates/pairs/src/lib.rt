@@ -1,23 +1,25 @@
-// The pages on which a phrase starts, each with its starts, and whether they fit a room.
+// The pages on which a phrase starts, each with its starts, put into a room that they fit.
 
 ghost use mathlib.Core.Path.{_≡_};
 ghost use Prim.Native.Nat.{_^_, _<_};
 ghost use lib.Dec.{ltb};
 ghost use lib.ListN.{length};
 ghost use mathlib.Core.List.{_∷_};
+ghost use Rattle.rules.specs.Questions.{numbered};
 ghost use Rattle.rules.specs.Write.{laid};
-ghost use Rattle.triallaws.specs.Asked.{foundIn, AskedIn};
+ghost use Rattle.questions.specs.Wrote.{Wrote};
+ghost use Rattle.triallaws.specs.Asked.{foundIn, offsetsIn, AskedIn};
 use querylaws::LENGTH;
 use querylaws::Query;
 use triallaws::COUNTS;
 use walklaws::SPENT;
 
 // Lists the pairs behind the room's first number, as far as there is room, and counts their numbers.
-pub fn list_starts(card: &[u8], terms: &[u32], lists: &[u32], room: &mut [u32]) -> usize
+fn list_starts(card: &[u8], terms: &[u32], lists: &[u32], room: &mut [u32]) -> usize
     requires { ⌜ AskedIn (now card) (now terms) (now lists) × (0 < length (now room)) ⌝ }
-    ensures { λ r. ⌜ (r ≡ length (foundIn (now (card .entry)) (now (terms .entry)))) × (r < 2 ^ 32)
+    ensures { λ r. ⌜ (r ≡ length (foundIn (now (card .entry)) (now (terms .entry)) (offsetsIn (now (lists .entry))))) × (r < 2 ^ 32)
         × (r < length (now (room .entry)) → now (room .exit)
-        ≡ laid (0 ∷ foundIn (now (card .entry)) (now (terms .entry))) (now (room .entry))) ⌝ }
+        ≡ laid (0 ∷ foundIn (now (card .entry)) (now (terms .entry)) (offsetsIn (now (lists .entry)))) (now (room .entry))) ⌝ }
 {
     room[0] = 0;
     let mut q = Query::new();
@@ -38,13 +40,28 @@ pub fn list_starts(card: &[u8], terms: &[u32], lists: &[u32], room: &mut [u32]) 
 }
 
 // Whether the answer fits so many numbers; it is counted only where two numbers for each page of the lead may not fit.
-pub fn fits(card: &[u8], terms: &[u32], lists: &[u32], size: usize) -> bool
+fn fits(card: &[u8], terms: &[u32], lists: &[u32], size: usize) -> bool
     requires { ⌜ AskedIn (now card) (now terms) (now lists) ⌝ }
-    ensures { λ r. ⌜ r ≡ ltb (length (foundIn (now (card .entry)) (now (terms .entry)))) size ⌝ }
+    ensures { λ r. ⌜ r ≡ ltb (length (foundIn (now (card .entry)) (now (terms .entry)) (offsetsIn (now (lists .entry))))) size ⌝ }
 {
     if 2 * rows::number(&lists[0..COUNTS], 0, LENGTH) < size {
         return true;
     }
     let mut none = [0u32; 1];
     list_starts(card, terms, lists, &mut none) < size
+}
+
+// Puts the pairs, with the number of their numbers before them, at the front of the room; 0 where they do not fit.
+pub fn put_starts(card: &[u8], terms: &[u32], lists: &[u32], room: &mut [u32]) -> usize
+    requires { ⌜ AskedIn (now card) (now terms) (now lists) ⌝ }
+    ensures { λ r. ⌜ Wrote
+        (numbered (foundIn (now (card .entry)) (now (terms .entry)) (offsetsIn (now (lists .entry)))))
+        (now (room .entry)) r (now (room .exit)) ⌝ }
+{
+    if !fits(card, terms, lists, room.len()) {
+        return 0;
+    }
+    let found = list_starts(card, terms, lists, room);
+    room[0] = found as u32;
+    found + 1
 }

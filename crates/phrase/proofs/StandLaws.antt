@@ -1,4 +1,4 @@
--- Laws of seeking a start: what passing a word's elements leaves, and what the word tells by where reading stands then.
+-- Laws of seeking a position: what passing a word's elements leaves, and what the word tells by where reading stands then.
 use mathlib.Core.Bool.{Bool, true, false}
 use mathlib.Core.Path.{_≡_, refl, sym, ap, _∙_}
 use mathlib.Core.List.{List}
@@ -54,13 +54,13 @@ module _ (s sh ws : List ℕ) (i b : ℕ) (r : Ready s sh ws i b) where
         kept = record { before = k .before; behind = λ m l. k .behind m (omega arith) };
       }
 
--- ---- what word i tells of starts from a on
+-- ---- what word i tells of positions from b on
 
-module _ (s sh ws : List ℕ) (a i : ℕ) (r : Bool) (after : List ℕ)
-    (p : PassedOn s sh ws i (baseIn ws i + a + i) r after) where
-  -- where word i has to stand, among its elements
-  abbrev b : ℕ
-  b = baseIn ws i + a + i
+module _ (s sh ws : List ℕ) (b i : ℕ) (r : Bool) (after : List ℕ)
+    (p : PassedOn s sh ws i (baseIn ws i + b) r after) where
+  -- the bound, among its elements
+  abbrev least : ℕ
+  least = baseIn ws i + b
 
   same : baseIn after i ≡ baseIn ws i
   same = p .kept .behind (8 * i + 6) (omega arith)
@@ -76,21 +76,21 @@ module _ (s sh ws : List ℕ) (a i : ℕ) (r : Bool) (after : List ℕ)
   within = omega (arith, open-length (partAt s sh i) (shapeIn sh i) (p .ready .passing .on .opened), p .ready .short)
 
   -- no position from there on
-  word-none : positionWalk after i .past ≤ b → (d : ℕ) → a ≤ d → member (d + i) (pageAt s sh after i) ≡ false
+  word-none : positionWalk after i .past ≤ least → (d : ℕ) → b ≤ d → member d (pageAt s sh after i) ≡ false
   unfolding pageAt shapeIn
   word-none l d g =
-      page-lacks U (elementsAt s sh i) rises (baseIn after i) (endIn after i) within (d + i)
-      (none-left (partAt s sh i) (shapeIn sh i) (endIn after i) b (positionWalk after i) (p .ready .passing)
-      (p .ready .short) l (p .all l) (baseIn after i + (d + i)) (omega (arith, same)))
+      page-lacks U (elementsAt s sh i) rises (baseIn after i) (endIn after i) within d
+      (none-left (partAt s sh i) (shapeIn sh i) (endIn after i) least (positionWalk after i) (p .ready .passing)
+      (p .ready .short) l (p .all l) (baseIn after i + d) (omega (arith, same)))
 
-  module _ (found : b < positionWalk after i .past) (n : ℕ) (is : n ≡ positionWalk after i .past - 1 - baseIn ws i - i) where
+  module _ (found : least < positionWalk after i .past) (n : ℕ) (is : n ≡ positionWalk after i .past - 1 - baseIn ws i) where
     -- the first position from there on, and none before
-    word-has : (a ≤ n) × (n < limit) × (member (n + i) (pageAt s sh after i) ≡ true)
+    word-has : (b ≤ n) × (n < limit) × (member n (pageAt s sh after i) ≡ true)
     unfolding pageAt shapeIn
     word-has =
         let on = p .ready .passing .on in
         let x =
-        stands-last (partAt s sh i) (shapeIn sh i) (endIn after i) b (positionWalk after i) (p .ready .passing)
+        stands-last (partAt s sh i) (shapeIn sh i) (endIn after i) least (positionWalk after i) (p .ready .passing)
         (p .ready .short) found in (
           omega (arith, same),
           omega (
@@ -100,18 +100,18 @@ module _ (s sh ws : List ℕ) (a i : ℕ) (r : Bool) (after : List ℕ)
                 (omega (arith, on .within, open-length (partAt s sh i) (shapeIn sh i) (on .opened))),
             open-within (partAt s sh i) (shapeIn sh i) (on .opened),
           ),
-          page-has U (elementsAt s sh i) rises (baseIn after i) (endIn after i) within (n + i)
+          page-has U (elementsAt s sh i) rises (baseIn after i) (endIn after i) within n
               (positionWalk after i .next - 1) (x .0) (omega (arith, x .1, same)),
         )
 
-    word-lacks : (d : ℕ) → a ≤ d → d < n → member (d + i) (pageAt s sh after i) ≡ false
+    word-lacks : (d : ℕ) → b ≤ d → d < n → member d (pageAt s sh after i) ≡ false
     unfolding pageAt shapeIn
     word-lacks d l m =
-        page-lacks U (elementsAt s sh i) rises (baseIn after i) (endIn after i) within (d + i)
-        (stands-between (partAt s sh i) (shapeIn sh i) (endIn after i) b (positionWalk after i) (p .ready .passing)
-        (p .ready .short) found (baseIn after i + (d + i)) (omega (arith, same)) (omega (arith, same)))
+        page-lacks U (elementsAt s sh i) rises (baseIn after i) (endIn after i) within d
+        (stands-between (partAt s sh i) (shapeIn sh i) (endIn after i) least (positionWalk after i) (p .ready .passing)
+        (p .ready .short) found (baseIn after i + d) (omega (arith, same)) (omega (arith, same)))
 
-  pub sought-none : positionWalk after i .past ≤ b → Sought s sh ws i a (2 ^ 32) after
+  pub sought-none : positionWalk after i .past ≤ least → Sought s sh ws i b (2 ^ 32) after
   sought-none l = record {
     ready = rw same (p .ready);
     kept = p .kept;
@@ -120,8 +120,8 @@ module _ (s sh ws : List ℕ) (a i : ℕ) (r : Bool) (after : List ℕ)
     first = λ e. absurd (e refl);
   }
 
-  pub sought-there : (n : ℕ) → b < positionWalk after i .past → n ≡ positionWalk after i .past - 1 - baseIn ws i - i
-      → Sought s sh ws i a n after
+  pub sought-there : (n : ℕ) → least < positionWalk after i .past → n ≡ positionWalk after i .past - 1 - baseIn ws i
+      → Sought s sh ws i b n after
   sought-there n l is = record {
     ready = rw same (p .ready);
     kept = p .kept;

@@ -1,11 +1,11 @@
--- A word's positions on one page, and starts sought among them.
+-- A word's positions on one page, and the first from a bound on sought among them.
 --
 --   onPage es base to   a page's positions: the elements of es from `base` on and below number `to`, each less base
 --   pageAt s sh ws i    the positions of word i on the page
 --   Ready s sh ws i b   no element of word i at least b is passed but for the last, and none behind the page
 --   PassedOn s sh ws i b r after  what passing word i's elements up to b leaves; r: whether the page has one from b on
---   Sought s sh ws i a r after  what seeking a start for word i leaves: r is the first from a on at which the page has it, or
---                       2 ^ 32 where there is none
+--   Sought s sh ws i b r after  what seeking a position of word i leaves: r is the page's first from b on, or 2 ^ 32 where
+--                       there is none
 use mathlib.Core.Bool.{Bool, true, false}
 use mathlib.Core.Path.{_≡_}
 use mathlib.Core.List.{List}
@@ -38,9 +38,9 @@ pub record PassedOn (s sh ws : List ℕ) (i b : ℕ) (r : Bool) (after : List �
   pub all : positionWalk after i .past ≤ b → positionWalk after i .next ≡ endIn after i
   pub kept : Kept ws (8 * i + 3) (8 * i + 6) after
 
-pub record Sought (s sh ws : List ℕ) (i a r : ℕ) (after : List ℕ) : Type 0 where
-  pub ready : Ready s sh after i (baseIn after i + a + i)
+pub record Sought (s sh ws : List ℕ) (i b r : ℕ) (after : List ℕ) : Type 0 where
+  pub ready : Ready s sh after i (baseIn after i + b)
   pub kept : Kept ws (8 * i + 3) (8 * i + 6) after
-  pub none : r ≡ 2 ^ 32 → (d : ℕ) → a ≤ d → member (d + i) (pageAt s sh after i) ≡ false
-  pub found : (r ≡ 2 ^ 32 → ⊥) → (a ≤ r) × (r < limit) × (member (r + i) (pageAt s sh after i) ≡ true)
-  pub first : (r ≡ 2 ^ 32 → ⊥) → (d : ℕ) → a ≤ d → d < r → member (d + i) (pageAt s sh after i) ≡ false
+  pub none : r ≡ 2 ^ 32 → (d : ℕ) → b ≤ d → member d (pageAt s sh after i) ≡ false
+  pub found : (r ≡ 2 ^ 32 → ⊥) → (b ≤ r) × (r < limit) × (member r (pageAt s sh after i) ≡ true)
+  pub first : (r ≡ 2 ^ 32 → ⊥) → (d : ℕ) → b ≤ d → d < r → member d (pageAt s sh after i) ≡ false

@@ -1,4 +1,4 @@
-// A word of a phrase on one page: its positions there, gone through from start to start and never back.
+// A word of a phrase on one page: its positions there, gone through from bound to bound and never back.
 
 ghost use Prim.Native.Nat.{_+_, _^_, _<_};
 ghost use Rattle.turning.specs.Words.{baseIn, BlockAt};
@@ -28,19 +28,19 @@ fn pass_on(card: &[u8], shapes: &[u32], i: usize, b: usize, words: &mut [usize])
     b < v.past
 }
 
-// More than any start.
-pub const NO_START: usize = 4294967296;
+// More than any position.
+pub const NO_POSITION: usize = 4294967296;
 
-// The first start at or above a at which word i stands on the page, or NO_START.
-pub fn seek_start(card: &[u8], shapes: &[u32], i: usize, a: usize, words: &mut [usize]) -> usize
-    requires { ⌜ BlockAt (now card) (now shapes) i × (baseIn (now words) i < 2 ^ 32) × (a < 2 ^ 32)
-        × Ready (now card) (now shapes) (now words) i (baseIn (now words) i + a + i) ⌝ }
-    ensures { λ r. ⌜ Sought (now (card .entry)) (now (shapes .entry)) (now (words .entry)) i a r
+// The first position of word i on the page that is at least b, or NO_POSITION.
+pub fn position_from(card: &[u8], shapes: &[u32], i: usize, b: usize, words: &mut [usize]) -> usize
+    requires { ⌜ BlockAt (now card) (now shapes) i × (baseIn (now words) i < 2 ^ 32) × (b < 2 ^ 33)
+        × Ready (now card) (now shapes) (now words) i (baseIn (now words) i + b) ⌝ }
+    ensures { λ r. ⌜ Sought (now (card .entry)) (now (shapes .entry)) (now (words .entry)) i b r
         (now (words .exit)) ⌝ }
 {
     let base = words[8 * i + BASE];
-    if !pass_on(card, shapes, i, base + a + i, words) {
-        return NO_START;
+    if !pass_on(card, shapes, i, base + b, words) {
+        return NO_POSITION;
     }
-    words[8 * i + POSITIONS + 1] - 1 - base - i
+    words[8 * i + POSITIONS + 1] - 1 - base
 }

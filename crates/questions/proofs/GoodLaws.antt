@@ -2,7 +2,7 @@
 use mathlib.Core.Bool.{true, false, _&&_, _||_}
 use mathlib.Core.Path.{_≡_}
 use mathlib.Core.List.{List}
-use Prim.Native.Nat.{ℕ, _+_, _≤_, _<_}
+use Prim.Native.Nat.{ℕ, _+_, _*_, _≤_, _<_}
 use native.Mathlib.Decide.{ℕ-discrete}
 use native.Mathlib.Omega.{arith}
 use native.Mathlib.Numerals.{add-one}
@@ -10,9 +10,11 @@ use borrow.Author.Tests.{ne-eqb, eqb-true, ltb-true, leb-true}
 use lib.Dec.{ltb, leb, eqb}
 use lib.ListN.{length, getD, drop}
 use lib.Seq.{drop-cons}
-use Rattle.rules.specs.Questions.{allBelow, goodQuestion}
+use Rattle.rules.specs.Limits.{offsetLimit}
+use Rattle.rules.specs.List.{rising}
+use Rattle.rules.specs.Questions.{termsOf, offsetsOf, allBelow, pairGood, wordsGood, offsetsGood, phraseGood, goodQuestion}
 use Rattle.listlaws.proofs.RisingLaws.{and-parts}
-use Rattle.questions.specs.Formed.{pairGood, wordsGood}
+use Rattle.questions.specs.Pairs.{Even}
 
 pub below-at : (T : ℕ) (xs : List ℕ) (i : ℕ) → i < length xs → allBelow T (drop i xs)
     ≡ ltb (getD xs i 0) T && allBelow T (drop (i + 1) xs)
@@ -31,14 +33,13 @@ module _ (T : ℕ) (kind : ℕ) (args : List ℕ) where
         rw e
   ]
 
-  pub good-words : 2 < kind → kind < 5 → goodQuestion T kind args ≡ wordsGood T args
-  unfolding goodQuestion wordsGood
-  good-words h k = elim (ℕ-discrete kind 3) [
-    | yes e ↦ rw e
-    | no n ↦
-        let e : kind ≡ 4 = omega arith in
-        rw e
-  ]
+  pub good-words : kind ≡ 3 → goodQuestion T kind args ≡ wordsGood T args
+  unfolding goodQuestion
+  good-words e = rw e
+
+  pub good-phrase : kind ≡ 4 → goodQuestion T kind args ≡ phraseGood T args
+  unfolding goodQuestion
+  good-phrase e = rw e
 
   pub good-none : kind < 1 → goodQuestion T kind args ≡ false
   unfolding goodQuestion
@@ -65,12 +66,12 @@ pair-parts T args e =
     let p = and-parts (eqb (length args) 2) (ltb (getD args 0 0) T) e in
     (eqb-true (length args) 2 (p .0), ltb-true (getD args 0 0) T (p .1))
 
--- a question of another kind than 1 and 2 is of words
-pub good-rest : (T kind : ℕ) (args : List ℕ) → (kind ≡ 1 → ⊥) → (kind ≡ 2 → ⊥) → goodQuestion T kind args ≡ true
-    → wordsGood T args ≡ true
-unfolding goodQuestion wordsGood
-good-rest T kind args a b e =
-    and-parts (eqb kind 3 || eqb kind 4) (wordsGood T args) (rw (ne-eqb kind 1 a, ne-eqb kind 2 b) at e) .1
+-- a question of another kind than 1, 2 and 3 is a phrase
+pub good-rest : (T kind : ℕ) (args : List ℕ) → (kind ≡ 1 → ⊥) → (kind ≡ 2 → ⊥) → (kind ≡ 3 → ⊥)
+    → goodQuestion T kind args ≡ true → phraseGood T args ≡ true
+unfolding goodQuestion
+good-rest T kind args a b c e =
+    and-parts (eqb kind 4) (phraseGood T args) (rw (ne-eqb kind 1 a, ne-eqb kind 2 b, ne-eqb kind 3 c) at e) .1
 
 -- one to eight terms, each below T
 pub words-parts : (T : ℕ) (args : List ℕ) → wordsGood T args ≡ true → (0 < length args) × (length args ≤ 8)
@@ -80,3 +81,15 @@ words-parts T args e =
     let p = and-parts (leb 1 (length args)) (leb (length args) 8 && allBelow T args) e in
     let q = and-parts (leb (length args) 8) (allBelow T args) (p .1) in
     (leb-true 1 (length args) (p .0), leb-true (length args) 8 (q .0), q .1)
+
+-- pairs of one to eight terms and offsets that rise from 0 on
+pub phrase-parts : (T : ℕ) (args : List ℕ) → phraseGood T args ≡ true → Even args
+    × (wordsGood T (termsOf args) ≡ true) × (getD (offsetsOf args) 0 0 ≡ 0)
+    × (rising 0 (offsetLimit + 1) (offsetsOf args) ≡ true)
+unfolding phraseGood offsetsGood
+phrase-parts T args e =
+    let k : ℕ = length (termsOf args) in
+    let p = and-parts (eqb (length args) (2 * k)) (wordsGood T (termsOf args) && offsetsGood (offsetsOf args)) e in
+    let q = and-parts (wordsGood T (termsOf args)) (offsetsGood (offsetsOf args)) (p .1) in
+    let r = and-parts (eqb (getD (offsetsOf args) 0 0) 0) (rising 0 (offsetLimit + 1) (offsetsOf args)) (q .1) in
+    (eqb-true (length args) (2 * k) (p .0), q .0, eqb-true (getD (offsetsOf args) 0 0) 0 (r .0), r .1)

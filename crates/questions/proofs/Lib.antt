@@ -1,5 +1,6 @@
 pub mod FrontLaws
 pub mod PlaceLaws
+pub mod PairLaws
 pub mod GoodLaws
 pub mod WroteLaws
 pub mod PhraseLaws

@@ -2,14 +2,14 @@
 use mathlib.Core.Bool.{Bool, true, false, _&&_, true≢false}
 use mathlib.Core.Path.{_≡_, refl, ap}
 use mathlib.Core.List.{List, [], _∷_}
-use Prim.Native.Nat.{ℕ, _+_, _<_}
+use Prim.Native.Nat.{ℕ, _+_, _≤_, _<_}
 use native.Mathlib.Omega.{arith}
 use lib.Dec.{eqb}
 use lib.ListN.{length, drop}
 use Rattle.rules.specs.Term.{Word}
 use Rattle.rules.specs.Index.{wordOf}
-use Rattle.rules.specs.Questions.{member, inAll, sharedBy, commonPages, positionsAmong, positionsOn, stands}
-use Rattle.rules.specs.Questions.{startsAmong, starts, withStarts, numbered, pagesIn, listsIn, wordsIn, byPhrase}
+use Rattle.rules.specs.Questions.{member, inAll, sharedBy, commonPages, positionsAmong, positionsOn, InPhrase, phraseOf}
+use Rattle.rules.specs.Questions.{stands, startsAmong, starts, withStarts, numbered, pagesIn, listsIn, wordsIn, byPhrase}
 use Rattle.laws.proofs.RefusalLaws.{or-parts}
 
 among-off : (p : ℕ) (qs cs ps : List ℕ) → member p qs ≡ false → positionsAmong p qs cs ps ≡ []
@@ -39,39 +39,43 @@ stands-here p a w ls rest e ih = go (member p (w .pages)) refl e
     go false m f = rw (positions-off p w m) (unfold member in refl)
 
 module _ (s : List ℕ) where
-  stands-off : (p : ℕ) (ts : List ℕ) (a : ℕ) → inAll p (listsIn s ts) ≡ false → stands (wordsIn s ts) p a ≡ false
-  unfolding listsIn wordsIn inAll stands pagesIn
-  stands-off p [] a e = absurd (true≢false e)
-  stands-off p (t ∷ ts) a e =
-      stands-here p a (wordOf t s) (listsIn s ts) (stands (wordsIn s ts) p (a + 1)) e (stands-off p ts (a + 1))
+  stands-off : (p : ℕ) (ts ds : List ℕ) → length ts ≤ length ds → (a : ℕ) → inAll p (listsIn s ts) ≡ false
+      → stands (phraseOf (wordsIn s ts) ds) p a ≡ false
+  unfolding listsIn wordsIn phraseOf inAll stands pagesIn
+  stands-off p [] ds l a e = absurd (true≢false e)
+  stands-off p (t ∷ ts) [] l a e = absurd (omega arith)
+  stands-off p (t ∷ ts) (d ∷ ds) l a e =
+      stands-here p (a + d) (wordOf t s) (listsIn s ts) (stands (phraseOf (wordsIn s ts) ds) p a) e
+      (stands-off p ts ds (omega arith) a)
 
-  among-none : (p : ℕ) (ts qs : List ℕ) → inAll p (listsIn s ts) ≡ false → startsAmong (wordsIn s ts) p qs ≡ 0
-  unfolding startsAmong
-  among-none p ts [] e = refl
-  among-none p ts (q ∷ qs) e = rw (stands-off p ts q e, among-none p ts qs e)
+  module _ (ts ds : List ℕ) (enough : length ts ≤ length ds) where
+    abbrev phrase : List InPhrase
+    phrase = phraseOf (wordsIn s ts) ds
 
-  starts-off : (p : ℕ) (ts : List ℕ) → inAll p (listsIn s ts) ≡ false → starts (wordsIn s ts) p ≡ 0
-  unfolding starts wordsIn
-  starts-off p [] e = refl
-  starts-off p (t ∷ ts) e = among-none p (t ∷ ts) (positionsOn p (wordOf t s)) e
+    among-none : (p : ℕ) (qs : List ℕ) → inAll p (listsIn s ts) ≡ false → startsAmong phrase p qs ≡ 0
+    unfolding startsAmong
+    among-none p [] e = refl
+    among-none p (q ∷ qs) e = rw (stands-off p ts ds enough q e, among-none p qs e)
 
-  -- pages that a list does not share have no start
-  starts-shared : (ts : List ℕ) (ls : List (List ℕ)) → ((p : ℕ) → inAll p ls ≡ false → starts (wordsIn s ts) p ≡ 0)
-      → (ps : List ℕ) → withStarts (wordsIn s ts) ps ≡ withStarts (wordsIn s ts) (sharedBy ls ps)
-  unfolding withStarts sharedBy
-  starts-shared ts ls off [] = refl
-  starts-shared ts ls off (p ∷ ps) = go (starts-shared ts ls off ps) (inAll p ls) refl
-    where
-      go : withStarts (wordsIn s ts) ps ≡ withStarts (wordsIn s ts) (sharedBy ls ps) → (b : Bool) → inAll p ls ≡ b
-          → withStarts (wordsIn s ts) (p ∷ ps) ≡ withStarts (wordsIn s ts) (sharedBy ls (p ∷ ps))
-      go ih true e = rw (e, ih)
-      go ih false e = rw (e, off p e, ih)
+    -- pages that a list does not share have no start
+    starts-shared : (ls : List (List ℕ)) → ((p : ℕ) → inAll p ls ≡ false → starts phrase p ≡ 0)
+        → (ps : List ℕ) → withStarts phrase ps ≡ withStarts phrase (sharedBy ls ps)
+    unfolding withStarts sharedBy
+    starts-shared ls off [] = refl
+    starts-shared ls off (p ∷ ps) = go (starts-shared ls off ps) (inAll p ls) refl
+      where
+        go : withStarts phrase ps ≡ withStarts phrase (sharedBy ls ps) → (b : Bool) → inAll p ls ≡ b
+            → withStarts phrase (p ∷ ps) ≡ withStarts phrase (sharedBy ls (p ∷ ps))
+        go ih true e = rw (e, ih)
+        go ih false e = rw (e, off p e, ih)
 
   -- phrases by plain reading are those on the common pages
-  pub phrase-common : (ts : List ℕ) → 0 < length ts → byPhrase (wordsIn s ts)
-      ≡ numbered (withStarts (wordsIn s ts) (commonPages (listsIn s ts)))
-  unfolding byPhrase commonPages wordsIn listsIn inAll pagesIn
-  phrase-common [] h = absurd (omega arith)
-  phrase-common (t ∷ ts) h =
-      ap numbered (starts-shared (t ∷ ts) (listsIn s ts)
-      (λ p e. starts-off p (t ∷ ts) (rw e (and-false (member p (pagesIn s t))))) (pagesIn s t))
+  pub phrase-common : (ts ds : List ℕ) → length ts ≤ length ds → 0 < length ts → byPhrase (phraseOf (wordsIn s ts) ds)
+      ≡ numbered (withStarts (phraseOf (wordsIn s ts) ds) (commonPages (listsIn s ts)))
+  unfolding byPhrase phraseOf commonPages wordsIn listsIn inAll pagesIn starts
+  phrase-common [] ds l h = absurd (omega arith)
+  phrase-common (t ∷ ts) [] l h = absurd (omega arith)
+  phrase-common (t ∷ ts) (d ∷ ds) l h =
+      ap numbered (starts-shared (t ∷ ts) (d ∷ ds) l (listsIn s ts)
+      (λ p e. among-none (t ∷ ts) (d ∷ ds) l p (positionsOn p (wordOf t s))
+      (rw e (and-false (member p (pagesIn s t))))) (pagesIn s t))

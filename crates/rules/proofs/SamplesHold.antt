@@ -19,15 +19,17 @@ use Rattle.rules.specs.Seek.{move, seek}
 use Rattle.rules.specs.Common.{leadFrom, leadOf, readersOf, before, stopped, agree, counted, nothing, rounds}
 use Rattle.rules.specs.Common.{common}
 use Rattle.rules.specs.Questions.{firstFrom, member, inAll, sharedBy, commonPages, positionsAmong, positionsOn}
-use Rattle.rules.specs.Questions.{stands, startsAmong, starts, withStarts, numbered, pagesIn, listsIn, wordsIn}
-use Rattle.rules.specs.Questions.{byRank, byBound, byCommon, byPhrase, answer, allBelow, goodQuestion, kindOf}
-use Rattle.rules.specs.Questions.{countOf, argsOf, behind, wellFormed, replies}
+use Rattle.rules.specs.Questions.{phraseOf, stands, startsAmong, starts, withStarts, numbered, pagesIn, listsIn}
+use Rattle.rules.specs.Questions.{wordsIn, byRank, byBound, byCommon, byPhrase, termsOf, offsetsOf, phraseIn}
+use Rattle.rules.specs.Questions.{answer, allBelow, pairGood, wordsGood, offsetsGood, phraseGood, goodQuestion}
+use Rattle.rules.specs.Questions.{kindOf, countOf, argsOf, behind, wellFormed, replies}
 use Rattle.rules.specs.Ask.{fitting, fitted, reply, joined, put, ask}
 use Rattle.rules.specs.Program.{decimal, digits, line, lines, refusedWord, refusedLine, numbersOf, printedReply}
 use Rattle.rules.specs.Program.{printed}
 use Rattle.rules.specs.Samples.{sameRefusal, sameFound, soughtSo, holds, every}
-use Rattle.rules.specs.Table.{stepped, s1, s1List, s2, s8, s9, s9Word, atFront, s12, samples}
+use Rattle.rules.specs.Table.{stepped, s1, s1List, s2, s8, s9, s9Word, atFront, s12, torqueBolt}
+use Rattle.rules.specs.Table.{samples}
 
 pub samples-hold : T (every samples)
-unfolding accepted andThen be beAt sized same bit runWord runBit field wordsFor words rising validList greatest width zeros upper lower afterZero pointer pointers lowerAt upperAt size runs body block stated listU listN elements readList decode isBlock listRefusal laid stored writeList total sums next raised placed places positive inOrder inOrderByPage validWord termBlock after part inside listsOf pagesOf countsOf positionsOf gaps less lowered readWord disagree termRefusal indexFront terms card validWords validCard indexN indexT termPart wordOf termsRefusal indexRefusal placeOf bitsOf cursorBit startOf looksTo walk gone arrived walked walkFrom move seek leadFrom leadOf readersOf before stopped agree counted nothing rounds common firstFrom member inAll sharedBy commonPages positionsAmong positionsOn stands startsAmong starts withStarts numbered pagesIn listsIn wordsIn byRank byBound byCommon byPhrase answer allBelow goodQuestion kindOf countOf argsOf behind wellFormed replies fitting fitted reply joined put ask decimal digits line lines refusedWord refusedLine numbersOf printedReply printed sameRefusal sameFound soughtSo holds every stepped s1 s1List s2 s8 s9 s9Word atFront s12 samples
+unfolding accepted andThen be beAt sized same bit runWord runBit field wordsFor words rising validList greatest width zeros upper lower afterZero pointer pointers lowerAt upperAt size runs body block stated listU listN elements readList decode isBlock listRefusal laid stored writeList total sums next raised placed places positive inOrder inOrderByPage validWord termBlock after part inside listsOf pagesOf countsOf positionsOf gaps less lowered readWord disagree termRefusal indexFront terms card validWords validCard indexN indexT termPart wordOf termsRefusal indexRefusal placeOf bitsOf cursorBit startOf looksTo walk gone arrived walked walkFrom move seek leadFrom leadOf readersOf before stopped agree counted nothing rounds common firstFrom member inAll sharedBy commonPages positionsAmong positionsOn phraseOf stands startsAmong starts withStarts numbered pagesIn listsIn wordsIn byRank byBound byCommon byPhrase termsOf offsetsOf phraseIn answer allBelow pairGood wordsGood offsetsGood phraseGood goodQuestion kindOf countOf argsOf behind wellFormed replies fitting fitted reply joined put ask decimal digits line lines refusedWord refusedLine numbersOf printedReply printed sameRefusal sameFound soughtSo holds every stepped s1 s1List s2 s8 s9 s9Word atFront s12 torqueBolt samples
 samples-hold = tt

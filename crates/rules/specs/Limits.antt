@@ -3,6 +3,7 @@
 --   limit        U and N at most
 --   termLimit    T at most
 --   phraseLimit  words in a question at most
+--   offsetLimit  the offset of a phrase's word at most [02 b]
 --   version      of every block
 --   listHeader, termHeader, indexHeader  the bytes below which a block is too short
 --   fourBytes    the first number that four bytes do not hold
@@ -16,6 +17,9 @@ termLimit = 4096
 
 abbrev pub phraseLimit : ℕ
 phraseLimit = 8
+
+abbrev pub offsetLimit : ℕ
+offsetLimit = 255
 
 abbrev pub version : ℕ
 version = 1

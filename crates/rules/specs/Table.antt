@@ -2,6 +2,7 @@
 --
 --   s1, s2, s8, s9   the bytes of S1, S2, S8 and S9
 --   s12              the card of S12
+--   torqueBolt       a card of two words, the second two behind the first
 --   samples          the table; that every row of it holds is the theorem of proofs/SamplesHold.antt
 use mathlib.Core.List.{List, [], _∷_, _++_}
 use Prim.Native.Nat.{ℕ, zero, suc, _+_}
@@ -52,6 +53,10 @@ atFront pages k = record { pages = pages; counts = replicate k 1; positions = re
 unfoldable pub s12 : List ℕ
 s12 = card 44 (atFront s1List 8 ∷ (atFront (4 ∷ (15 ∷ [])) 2 ∷ []))
 
+-- "torque the bolt": the word between is dropped [02 b]
+unfoldable pub torqueBolt : List ℕ
+torqueBolt = card 1 (atFront (0 ∷ []) 1 ∷ (record { pages = 0 ∷ []; counts = 1 ∷ []; positions = 2 ∷ [] } ∷ []))
+
 -- a step that finds a page with its rank, and one that finds none of so many
 abbrev pub finds : ℕ → ℕ → ℕ → ℕ → Step
 finds b x i k = record { bound = b; found = page x i; looks = k }
@@ -77,12 +82,12 @@ samples =
     -- S9 to S11
     ∷ (indexed s9 3 (s9Word ∷ [])
     ∷ (asked s9 (3 ∷ (1 ∷ (0 ∷ []))) 40 Accepted 1 (3 ∷ (2 ∷ (2 ∷ (1 ∷ []))))
-    ∷ (asked s9 (4 ∷ (2 ∷ (0 ∷ (0 ∷ [])))) 40 Accepted 1 (0 ∷ [])
-    ∷ (asked s9 (4 ∷ (1 ∷ (0 ∷ []))) 40 Accepted 1 (2 ∷ (1 ∷ (2 ∷ [])))
+    ∷ (asked s9 (4 ∷ (4 ∷ (0 ∷ (0 ∷ (0 ∷ (1 ∷ [])))))) 40 Accepted 1 (0 ∷ [])
+    ∷ (asked s9 (4 ∷ (2 ∷ (0 ∷ (0 ∷ [])))) 40 Accepted 1 (2 ∷ (1 ∷ (2 ∷ [])))
     -- S12
     ∷ (asked s12 (3 ∷ (2 ∷ (0 ∷ (1 ∷ [])))) 40 Accepted 1 (4 ∷ (5 ∷ (5 ∷ (4 ∷ (15 ∷ [])))))
     -- the program on S9
-    ∷ (shown s9 (be 28 0x00000003_00000001_00000000_00000004_00000002_00000000_00000000) (51 ∷ (32 ∷ (50 ∷ (32 ∷ (50 ∷ (32 ∷ (49 ∷ (10 ∷ (48 ∷ (10 ∷ []))))))))))
+    ∷ (shown s9 (be 36 0x00000003_00000001_00000000_00000004_00000004_00000000_00000000_00000000_00000001) (51 ∷ (32 ∷ (50 ∷ (32 ∷ (50 ∷ (32 ∷ (49 ∷ (10 ∷ (48 ∷ (10 ∷ []))))))))))
     -- w = 1 where U - 1 would give 0; a last pointer at the run's end; both ends of U
     ∷ (listed (be 29 0x0000001D_01_00000004_00000002_0000000000000003_0000000000000005) 4 (1 ∷ (3 ∷ []))
     ∷ (listed (be 17 0x00000051_01_00000100_00000100_00000200 ++ replicate 64 0x55) 256 (stepped 256 0 1)
@@ -113,6 +118,18 @@ samples =
     ∷ (asked s12 (2 ∷ (2 ∷ (1 ∷ (16 ∷ [])))) 1 Room 0 []
     ∷ (asked (card 5 (atFront [] 0 ∷ [])) (2 ∷ (2 ∷ (0 ∷ (0 ∷ [])))) 40 Accepted 1 (1 ∷ (0 ∷ []))
     ∷ (asked s9 (1 ∷ (2 ∷ (0 ∷ (0 ∷ (3 ∷ (1 ∷ (0 ∷ []))))))) 5 Room 1 (1 ∷ (1 ∷ []))
+    -- phrases with dropped words [02 b], both ends of an offset; no pair, half a pair, a first offset that is not 0,
+    -- offsets that do not rise, a term that is not there
+    ∷ (asked torqueBolt (4 ∷ (4 ∷ (0 ∷ (0 ∷ (1 ∷ (2 ∷ [])))))) 40 Accepted 1 (2 ∷ (0 ∷ (1 ∷ [])))
+    ∷ (asked torqueBolt (4 ∷ (4 ∷ (0 ∷ (0 ∷ (1 ∷ (1 ∷ [])))))) 40 Accepted 1 (0 ∷ [])
+    ∷ (asked s9 (4 ∷ (4 ∷ (0 ∷ (0 ∷ (0 ∷ (2 ∷ [])))))) 40 Accepted 1 (2 ∷ (1 ∷ (1 ∷ [])))
+    ∷ (asked s9 (4 ∷ (4 ∷ (0 ∷ (0 ∷ (0 ∷ (255 ∷ [])))))) 40 Accepted 1 (0 ∷ [])
+    ∷ (asked s9 (4 ∷ (4 ∷ (0 ∷ (0 ∷ (0 ∷ (256 ∷ [])))))) 40 Question 0 []
+    ∷ (asked s9 (4 ∷ (0 ∷ [])) 40 Question 0 []
+    ∷ (asked s9 (4 ∷ (3 ∷ (0 ∷ (0 ∷ (0 ∷ []))))) 40 Question 0 []
+    ∷ (asked s9 (4 ∷ (2 ∷ (0 ∷ (1 ∷ [])))) 40 Question 0 []
+    ∷ (asked s9 (4 ∷ (4 ∷ (0 ∷ (0 ∷ (0 ∷ (0 ∷ [])))))) 40 Question 0 []
+    ∷ (asked s9 (4 ∷ (4 ∷ (0 ∷ (0 ∷ (1 ∷ (1 ∷ [])))))) 40 Question 0 []
     ∷ (notIndex (set s9 8 4) Parts
     ∷ (written 44 s1List 29 Accepted
     ∷ (written 44 s1List 28 Room
@@ -122,4 +139,4 @@ samples =
     ∷ (sought 1024 (stepped 300 0 3) (finds 600 600 200 2 ∷ (finds 897 897 299 5 ∷ (misses 898 300 2 ∷ [])))
     ∷ (sought 300 (stepped 300 0 1) (finds 290 290 290 2 ∷ (finds 295 295 295 1 ∷ []))
     ∷ (tallied 20 ((1 ∷ (9 ∷ [])) ∷ ((2 ∷ (9 ∷ (10 ∷ []))) ∷ ((1 ∷ (9 ∷ (12 ∷ []))) ∷ []))) 6 6 (9 ∷ [])
-    ∷ [])))))))))))))))))))))))))))))))))))))))))))))))))
+    ∷ [])))))))))))))))))))))))))))))))))))))))))))))))))))))))))))

@@ -10,6 +10,9 @@ pub const TERM_LIMIT: usize = 4096;
 // Words in a question at most.
 pub const PHRASE_LIMIT: usize = 8;
 
+// The offset of a phrase's word at most.
+pub const OFFSET_LIMIT: usize = 255;
+
 // The first number that four bytes do not hold.
 pub const FOUR_BYTES: usize = 4294967296;
 

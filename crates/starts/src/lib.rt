@@ -6,6 +6,7 @@ use querylaws::Turn;
 use trial::Trial;
 use triallaws::COUNTS;
 use triallaws::LEAD;
+use triallaws::OFFSETS;
 use triallaws::POSITIONS;
 
 // The starts of several words on a page that all cursors are on: the words are turned to it only as they are needed.
@@ -23,11 +24,18 @@ fn count_starts(card: &[u8], terms: &[u32], lists: &[u32], turn: Turn, words: &m
     loop {
         let turned = trying::turn_next(card, terms, lists, turn, at, words);
         let i = openlists::source_of(lists[LEAD] as usize, turned.standing);
-        let next = phrase::seek_start(card, &lists[POSITIONS..LEAD], i, turned.start, words);
-        if next == phrase::NO_START {
+        let offset = lists[OFFSETS + i] as usize;
+        let next = phrase::position_from(
+            card,
+            &lists[POSITIONS..LEAD],
+            i,
+            turned.start + offset,
+            words,
+        );
+        if next == phrase::NO_POSITION {
             return turned.count;
         }
-        at = trial::tried(turned, next, terms.len());
+        at = trial::tried(turned, next - offset, terms.len());
     }
 }
 

@@ -8,7 +8,7 @@ use lib.ListN.{length, getD, length-replicate, getD-replicate}
 use Rattle.rules.specs.declared.Refusal.the-variants.{Accepted}
 use Rattle.rules.specs.ReadList.{listU, decode}
 use Rattle.rules.specs.ReadTerm.{pagesOf, termRefusal}
-use Rattle.rules.specs.Questions.{starts, wordsIn}
+use Rattle.rules.specs.Questions.{starts}
 use Rattle.termlaws.proofs.ReadLaws.{pages-listed}
 use Rattle.seeklaws.proofs.FirstLaws.{rising-lt}
 use Rattle.commonlaws.specs.Readers.{OnPage, AllOnPage}
@@ -27,7 +27,7 @@ use Rattle.turning.specs.Words.{elementsAt, walkAt, countWalk, positionWalk, ra
 use Rattle.openlists.specs.Places.{slotOf}
 use Rattle.querylaws.specs.Ranks.{rankBy}
 use Rattle.querylaws.proofs.RankLaws.{all-on}
-use Rattle.triallaws.specs.Asked.{termAt, newWords, Asked, OnAll, Ahead}
+use Rattle.triallaws.specs.Asked.{phraseAt, termAt, newWords, Asked, OnAll, Ahead}
 use Rattle.triallaws.proofs.WordLaws.{counts-rest}
 use Rattle.triallaws.proofs.SpanLaws.{page-in}
 use Rattle.triallaws.proofs.PositionLaws.{lone-starts}
@@ -113,13 +113,14 @@ rank-later t a r q p h e l =
       ]
     ]
 
-module _ (s ts : List ℕ) (lead : ℕ) (pg ct ps : List ℕ) (a : Asked s ts lead pg ct ps) (p : ℕ) where
+module _ (s ts : List ℕ) (lead : ℕ) (pg ct ps : List ℕ) (a : Asked s ts lead pg ct ps) (ds : List ℕ)
+    (enough : 0 < length ds) (first : getD ds 0 0 ≡ 0) (p : ℕ) where
   -- ---- a word alone
 
   pub lone-counted : (q : Query) → OnAll s ts pg q p → length ts ≡ 1 → (ws : List ℕ) → Ahead s ts ct ps ws p
       → (x : Ranks) → x ≡ ranksOf (elementsAt s ct 0) (rankBy pg q (slotOf lead 0)) → (after : List ℕ)
       → Walked s ct ws 0 0 (rankBy pg q (slotOf lead 0) + 1) after
-      → (x .from ≤ x .to) × (x .to - x .from ≡ starts (wordsIn s ts) p) × (x .to - x .from < 2 ^ 32)
+      → (x .from ≤ x .to) × (x .to - x .from ≡ starts (phraseAt s ts ds) p) × (x .to - x .from < 2 ^ 32)
       × Ahead s ts ct ps after (p + 1)
   lone-counted q o one ws f x is after w =
       let h : 0 < length ts = a .pages .lists .some in
@@ -132,7 +133,7 @@ module _ (s ts : List ℕ) (lead : ℕ) (pg ct ps : List ℕ) (a : Asked s ts le
       let g = page-in t (a .accepts 0 h) rank r in
       let n = positions-small s ts lead pg ct ps a q p o 0 h in (
         omega (arith, from, to, g .some),
-        ap₂ (λ (u v : ℕ). u - v) to from ∙ lone-starts s ts p rank one (a .accepts 0 h) r e,
+        ap₂ (λ (u v : ℕ). u - v) to from ∙ lone-starts s ts ds p rank one enough first (a .accepts 0 h) r e,
         omega (arith, to, g .within, n),
         record {
           room = w .readable .room;

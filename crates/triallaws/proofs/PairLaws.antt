@@ -8,8 +8,7 @@ use borrow.Author.Tests.{lt-ltb}
 use lib.Dec.{ltb}
 use lib.ListN.{length, set, drop, length-set, length-append, length-drop}
 use Rattle.rules.specs.Common.{Tally, counted}
-use Rattle.rules.specs.Term.{Word}
-use Rattle.rules.specs.Questions.{starts, withStarts, wordsIn}
+use Rattle.rules.specs.Questions.{InPhrase, starts, withStarts}
 use Rattle.rules.specs.Write.{laid}
 use Rattle.querylaws.specs.Lists.{numberOf, boundIn}
 use Rattle.commonlaws.specs.Next.{allRounds}
@@ -25,12 +24,12 @@ use Rattle.openlists.proofs.FewLaws.{whole-few}
 use Rattle.wordlists.proofs.OpenLaws.{opened-listed}
 use Rattle.questions.proofs.WroteLaws.{laid-snoc, laid-first}
 use Rattle.trial.specs.Tries.{pairOf, Paired}
-use Rattle.triallaws.specs.Asked.{foundIn, newWords, Asked, Ahead}
+use Rattle.triallaws.specs.Asked.{phraseAt, foundIn, newWords, Asked, Ahead}
 use Rattle.triallaws.proofs.PageLaws.{ahead-new}
 
 -- ---- page by page
 
-module _ (ws : List Word) where
+module _ (ws : List InPhrase) where
   with-more : (ps qs : List ℕ) → withStarts ws (ps ++ qs) ≡ withStarts ws ps ++ withStarts ws qs
   unfolding withStarts pairOf
   with-more [] qs = refl
@@ -57,16 +56,16 @@ module _ (ws : List Word) where
 
 -- ---- all common pages
 
-module _ (s ts : List ℕ) (lead : ℕ) (pg ct ps : List ℕ) (a : Asked s ts lead pg ct ps) where
-  whole-found : withStarts (wordsIn s ts) (wholeIn s pg (length ts) .listed) ≡ foundIn s ts
+module _ (s ts : List ℕ) (lead : ℕ) (pg ct ps : List ℕ) (a : Asked s ts lead pg ct ps) (ds : List ℕ) where
+  whole-found : withStarts (phraseAt s ts ds) (wholeIn s pg (length ts) .listed) ≡ foundIn s ts ds
   unfolding foundIn
-  whole-found = ap (withStarts (wordsIn s ts)) (opened-listed s ts pg (a .pages))
+  whole-found = ap (withStarts (phraseAt s ts ds)) (opened-listed s ts pg (a .pages))
 
   -- two numbers for each page of the lead are enough
-  pub found-few : (length (foundIn s ts) ≤ 2 * numberOf pg 0 7) × (numberOf pg 0 7 ≤ 16777216)
+  pub found-few : (length (foundIn s ts ds) ≤ 2 * numberOf pg 0 7) × (numberOf pg 0 7 ≤ 16777216)
   found-few =
       let w = whole-few s pg (length ts) (a .pages .lists) in
-      (rw (← whole-found) (omega (arith, with-few (wordsIn s ts) (wholeIn s pg (length ts) .listed), w .0)), w .1)
+      (rw (← whole-found) (omega (arith, with-few (phraseAt s ts ds) (wholeIn s pg (length ts) .listed), w .0)), w .1)
 
 -- ---- the loop over the common pages
 
@@ -76,9 +75,9 @@ unfolding laid
 laid-zero x [] = refl
 laid-zero x (y ∷ first) = refl
 
-module _ (s ts : List ℕ) (lead : ℕ) (pg ct ps room : List ℕ) (a : Asked s ts lead pg ct ps) where
-  abbrev ws : List Word
-  ws = wordsIn s ts
+module _ (s ts : List ℕ) (lead : ℕ) (pg ct ps room : List ℕ) (a : Asked s ts lead pg ct ps) (ds : List ℕ) where
+  abbrev ws : List InPhrase
+  ws = phraseAt s ts ds
 
   -- the pages of `seen` are gone through: their pairs are found, and laid if all fit
   pub record Going (q : Query) (words : List ℕ) (b found : ℕ) (now : List ℕ) : Type 0 where
@@ -88,7 +87,7 @@ module _ (s ts : List ℕ) (lead : ℕ) (pg ct ps room : List ℕ) (a : Asked s 
     pub ahead : Ahead s ts ct ps words b
     pub found-is : found ≡ length (withStarts ws seen)
     pub same : length now ≡ length room
-    pub laid-so : length (foundIn s ts) < length room → now ≡ laid (0 ∷ withStarts ws seen) room
+    pub laid-so : length (foundIn s ts ds) < length room → now ≡ laid (0 ∷ withStarts ws seen) room
 
   pub going-start : (first : List ℕ) → room ≡ set first 0 0 → 0 < length first
       → Going newQuery newWords 0 0 room
@@ -116,13 +115,13 @@ module _ (s ts : List ℕ) (lead : ℕ) (pg ct ps room : List ℕ) (a : Asked s 
         )
 
     module _ (t : Turn) (u : Turned s pg (length ts) q b t) where
-      pub going-end : t .mark ≡ spentMark → (found ≡ length (foundIn s ts))
-          × (length (foundIn s ts) < length room → now ≡ laid (0 ∷ foundIn s ts) room)
+      pub going-end : t .mark ≡ spentMark → (found ≡ length (foundIn s ts ds))
+          × (length (foundIn s ts ds) < length room → now ≡ laid (0 ∷ foundIn s ts ds) room)
       going-end h =
           let r : Listed = record { found = g .number; seeks = seeksOf (t .q); looks = looksOf (t .q) } in
           let e = partway-end s pg (length ts) q b (g .number) (g .seen) (g .partway) t u h r (refl, refl, refl) .0 in
-          let f : withStarts ws (g .seen) ≡ foundIn s ts =
-          ap (withStarts ws) (sym e) ∙ whole-found s ts lead pg ct ps a in
+          let f : withStarts ws (g .seen) ≡ foundIn s ts ds =
+          ap (withStarts ws) (sym e) ∙ whole-found s ts lead pg ct ps a ds in
           (g .found-is ∙ ap length f, λ l. g .laid-so l ∙ ap (λ (x : List ℕ). laid (0 ∷ x) room) f)
 
       module _ (h : t .mark ≡ spentMark → ⊥) (n : ℕ) (words′ : List ℕ) (is : n ≡ starts ws (t .mark - 1))
@@ -135,7 +134,7 @@ module _ (s ts : List ℕ) (lead : ℕ) (pg ct ps room : List ℕ) (a : Asked s 
             with-one ws (g .seen) (t .mark - 1)
             ∙ ap (λ (x : ℕ). withStarts ws (g .seen) ++ pairOf (t .mark - 1) x) (sym is)
 
-        within : length (withStarts ws (g .seen) ++ pairOf (t .mark - 1) n) ≤ length (foundIn s ts)
+        within : length (withStarts ws (g .seen) ++ pairOf (t .mark - 1) n) ≤ length (foundIn s ts ds)
         unfolding counted
         within =
             let rest : List ℕ =
@@ -144,7 +143,7 @@ module _ (s ts : List ℕ) (lead : ℕ) (pg ct ps room : List ℕ) (a : Asked s 
             ap (λ (x : Tally). x .listed) (next-way .same) in
             let f =
             sym (with-more ws (g .seen ++ (t .mark - 1) ∷ []) rest) ∙ ap (withStarts ws) e
-            ∙ whole-found s ts lead pg ct ps a in
+            ∙ whole-found s ts lead pg ct ps a ds in
             let l = length-append (withStarts ws (g .seen ++ (t .mark - 1) ∷ [])) (withStarts ws rest) in
             omega (arith, ap length f, l, ap length more)
 

@@ -1,44 +1,31 @@
 -- A question's words on a page: their positions there as a walk finds them, and the starts of a word alone.
 use mathlib.Core.Bool.{true}
-use mathlib.Core.Path.{_≡_, refl, sym, ap, ap₂, _∙_}
-use mathlib.Core.List.{List, [], _∷_, map}
-use Prim.Native.Nat.{ℕ, suc, _+_, _-_, _≤_, _<_}
-use native.Mathlib.Nat.{add-zero}
+use mathlib.Core.Path.{_≡_, sym, ap, _∙_}
+use mathlib.Core.List.{List, [], _∷_}
+use Prim.Native.Nat.{ℕ, _+_, _-_, _≤_, _<_}
 use native.Mathlib.Omega.{arith}
 use lib.ListN.{length, getD}
 use Rattle.rules.specs.declared.Refusal.the-variants.{Accepted}
 use Rattle.rules.specs.List.{rising}
 use Rattle.rules.specs.ReadList.{listU, decode}
-use Rattle.rules.specs.Term.{Word}
 use Rattle.rules.specs.ReadTerm.{pagesOf, positionsOf, readWord, termRefusal}
 use Rattle.rules.specs.Index.{termPart, wordOf}
-use Rattle.rules.specs.Questions.{positionsOn, starts, wordsIn}
+use Rattle.rules.specs.Questions.{positionsOn, wordsIn, phraseOf, starts}
 use Rattle.termlaws.proofs.ReadLaws.{positions-listed}
 use Rattle.seeklaws.specs.Cursors.{firstAt}
 use Rattle.seeklaws.proofs.FirstLaws.{rising-lt, rising-below}
-use Rattle.querylaws.specs.Lists.{span, partAt}
+use Rattle.querylaws.specs.Lists.{partAt}
 use Rattle.span.specs.Walks.{past}
 use Rattle.span.proofs.WalkLaws.{past-le}
 use Rattle.turning.specs.Words.{elementsAt, baseIn, endIn}
 use Rattle.phrase.specs.Pages.{onPage, pageAt}
 use Rattle.phrase.proofs.PageLaws.{page-length, page-at, page-from}
 use Rattle.triallaws.specs.Spans.{positionsBefore, PageIn, TermAt}
+use Rattle.triallaws.specs.Asked.{phraseAt, termAt}
 use Rattle.triallaws.proofs.SpanLaws.{first-past, page-in}
-use Rattle.triallaws.proofs.StartLaws.{Rises, starts-in, starts-alone}
+use Rattle.triallaws.proofs.StartLaws.{Rises, starts-alone}
 
--- ---- the words of a question
-
--- what each word of a question gives, one after the other
-pub words-map : {A : Type 0} (s : List ℕ) (g : Word → A) (f : ℕ → A) (args : List ℕ) (i : ℕ)
-    → ((j : ℕ) → j < length args → f (i + j) ≡ g (readWord (termPart (getD args j 0) s))) → span f i (length args)
-    ≡ map g (wordsIn s args)
-unfolding span wordsIn wordOf
-words-map s g f [] i h = refl
-words-map s g f (t ∷ args) i h =
-    ap₂ _∷_ (ap f (sym (add-zero i)) ∙ h 0 (omega arith))
-    (words-map s g f args (i + 1) (λ j l.
-    let e : i + 1 + j ≡ i + suc j = omega arith in
-    ap f e ∙ h (suc j) (omega arith)))
+-- ---- a word's span
 
 module _ (s sh ws : List ℕ) (p i : ℕ) (t : List ℕ) (at : TermAt s sh ws p i t) where
   on-page : PageIn t (at .rank)
@@ -108,15 +95,15 @@ module _ (t : List ℕ) (a : termRefusal t ≡ Accepted) (rank : ℕ) (h : rank 
       (past positions (positionsBefore t rank)) (positionsBefore t (rank + 1)) (there .within))
 
 -- a word alone starts at each of its positions
-pub lone-starts : (s args : List ℕ) (p rank : ℕ) → length args ≡ 1 → termRefusal (termPart (getD args 0 0) s) ≡ Accepted
-    → rank < length (decode (pagesOf (termPart (getD args 0 0) s)))
-    → getD (decode (pagesOf (termPart (getD args 0 0) s))) rank 0 ≡ p
-    → positionsBefore (termPart (getD args 0 0) s) (rank + 1) - positionsBefore (termPart (getD args 0 0) s) rank
-    ≡ starts (wordsIn s args) p
-unfolding wordsIn wordOf
-lone-starts s [] p rank l a r e = absurd (omega arith)
-lone-starts s (x ∷ (y ∷ args)) p rank l a r e = absurd (omega arith)
-lone-starts s (x ∷ []) p rank l a r e =
+pub lone-starts : (s ts ds : List ℕ) (p rank : ℕ) → length ts ≡ 1 → 0 < length ds → getD ds 0 0 ≡ 0
+    → termRefusal (termAt s ts 0) ≡ Accepted → rank < length (decode (pagesOf (termAt s ts 0)))
+    → getD (decode (pagesOf (termAt s ts 0))) rank 0 ≡ p
+    → positionsBefore (termAt s ts 0) (rank + 1) - positionsBefore (termAt s ts 0) rank ≡ starts (phraseAt s ts ds) p
+unfolding phraseOf wordsIn wordOf
+lone-starts s [] ds p rank l n z a r e = absurd (omega arith)
+lone-starts s (x ∷ (y ∷ ts)) ds p rank l n z a r e = absurd (omega arith)
+lone-starts s (x ∷ []) [] p rank l n z a r e = absurd (omega arith)
+lone-starts s (x ∷ []) (d ∷ ds) p rank l n z a r e =
     let t : List ℕ = termPart x s in
     let es : List ℕ = decode (positionsOf t) in
     let U : ℕ = listU (positionsOf t) in
@@ -125,5 +112,5 @@ lone-starts s (x ∷ []) p rank l a r e =
     let f = first-past U es rises (positionsBefore t rank) (omega (arith, g .some, g .within)) in
     let size = page-length U es rises (past es (positionsBefore t rank)) (positionsBefore t (rank + 1)) (g .within) in
     let is = sym (g .positions-are) ∙ ap (λ (q : ℕ). positionsOn q (readWord t)) e in
-    sym (starts-in p (readWord t ∷ []) ∙ starts-alone (positionsOn p (readWord t)) ∙ ap length (sym is) ∙ size
+    sym (starts-alone (record { word = readWord t; offset = d }) z p ∙ ap length (sym is) ∙ size
     ∙ ap (λ (n : ℕ). positionsBefore t (rank + 1) - n) f)

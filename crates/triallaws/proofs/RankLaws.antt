@@ -165,7 +165,7 @@ module _ (s ts : List ℕ) (lead : ℕ) (pg ct ps : List ℕ) (a : Asked s ts le
               ),
             )
 
-        module _ (at : Trial) (after : List ℕ) (y : Trying s ts lead ct ps p at ws)
+        module _ (ds : List ℕ) (at : Trial) (after : List ℕ) (y : Trying s ts ds lead ct ps p at ws)
             (next : slotOf lead i ≡ at .turned) (w : TurnedOn s ps mid i x after) where
           abbrev term-here : TermAt s ps after p i t
           term-here = record {
@@ -178,7 +178,7 @@ module _ (s ts : List ℕ) (lead : ℕ) (pg ct ps : List ℕ) (a : Asked s ts le
             end-is = w .end-is ∙ to-is;
           }
 
-          turned-here : TurnedTo s ts ct ps p (at .start) after i
+          turned-here : TurnedTo s ts ct ps p (at .start + getD ds i 0) after i
           turned-here =
               let on = w .readable .on in
               let before : positionWalk after i .past ≡ baseIn after i =
@@ -188,7 +188,7 @@ module _ (s ts : List ℕ) (lead : ℕ) (pg ct ps : List ℕ) (a : Asked s ts le
                 term = term-here;
                 counted = rw e (record { on = c .readable .on; at = c .at });
                 ready =
-                    ready-more s ps after i (baseIn after i) (baseIn after i + at .start + i) (omega arith)
+                    ready-more s ps after i (baseIn after i) (baseIn after i + (at .start + getD ds i 0)) (omega arith)
                     (ready-begun s ps after i (w .readable .room) on before
                     (omega (arith, w .at, from-is, term-here .end-is, on-page .some))
                     (page-bounds s ps after p i t term-here .0));
@@ -201,14 +201,14 @@ module _ (s ts : List ℕ) (lead : ℕ) (pg ct ps : List ℕ) (a : Asked s ts le
                 same-word ws mid after j (same-other ws i mid (8 * i) (8 * i + 3) (omega arith) (omega arith) (c .kept) j d)
                 (same-other mid i after (8 * i + 3) (8 * i + 8) (omega arith) (omega arith) (w .kept) j d)
 
-            turned-there : TurnedTo s ts ct ps p (at .start) ws j → TurnedTo s ts ct ps p (at .start) after j
-            turned-there u =
+            turned-there : (b : ℕ) → TurnedTo s ts ct ps p b ws j → TurnedTo s ts ct ps p b after j
+            turned-there b u =
                 let e = same in
                 record {
                   term = term-same s ps ws after p j (termAt s ts j) (e .base) (e .end) (u .term);
                   counted = rw (e .counts) (u .counted);
                   ready =
-                      rw (e .base) (ready-same s ps ws after j (baseIn ws j + at .start + j) (w .readable .room)
+                      rw (e .base) (ready-same s ps ws after j (baseIn ws j + b) (w .readable .room)
                       (e .positions) (e .end) (u .ready));
                 }
 
@@ -225,7 +225,7 @@ module _ (s ts : List ℕ) (lead : ℕ) (pg ct ps : List ℕ) (a : Asked s ts le
                       );
                 }
 
-          pub trying-turned : Trying s ts lead ct ps p (record {
+          pub trying-turned : Trying s ts ds lead ct ps p (record {
             turned = at .turned + 1;
             start = at .start;
             standing = at .standing;
@@ -233,13 +233,14 @@ module _ (s ts : List ℕ) (lead : ℕ) (pg ct ps : List ℕ) (a : Asked s ts le
           }) after
           trying-turned = record {
             room = w .readable .room;
+            enough = y .enough;
             some = y .some;
             order = omega (arith, y .order);
             within = omega (arith, next, slot-within i h);
             small = y .small;
             words = λ j l g. elim (ℕ-discrete j i) [
               | yes e ↦ rw e turned-here
-              | no e ↦ turned-there j e (y .words j l (omega (arith, apart j e)))
+              | no e ↦ turned-there j e (at .start + getD ds j 0) (y .words j l (omega (arith, apart j e)))
             ];
             others = λ j l g. elim (ℕ-discrete j i) [
               | yes e ↦ absurd (omega (arith, next, ap (slotOf lead) e))

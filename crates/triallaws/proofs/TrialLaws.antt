@@ -1,21 +1,19 @@
 -- Laws of counting the starts on a page: how it begins, what a word's next start leaves, and what it ends with.
 use mathlib.Core.Bool.{true, false}
 use mathlib.Core.Path.{_≡_, refl, sym, ap, _∙_}
-use mathlib.Core.List.{List, _∷_, map}
+use mathlib.Core.List.{List}
 use Prim.Native.Nat.{ℕ, _+_, _-_, _*_, _^_, _≤_, _<_}
-use native.Mathlib.Nat.{zero-add}
 use native.Mathlib.Decide.{decLt, ℕ-discrete}
 use native.Mathlib.Omega.{arith}
 use borrow.Author.Tests.{eq-eqb, ne-eqb, lt-ltb, le-ltb}
-use lib.ListN.{length}
+use lib.ListN.{length, getD}
 use Rattle.rules.specs.ReadList.{listU}
 use Rattle.rules.specs.ReadTerm.{positionsOf}
 use Rattle.rules.specs.Limits.{limit}
-use Rattle.rules.specs.Questions.{member, positionsOn, starts, wordsIn}
+use Rattle.rules.specs.Questions.{member, InPhrase, stands, starts}
 use Rattle.walklaws.proofs.OpenLaws.{open-within}
 use Rattle.querylaws.specs.declared.Query.{Query}
-use Rattle.querylaws.specs.Lists.{span, partAt, shapeIn}
-use Rattle.querylaws.proofs.SpanLaws.{span-cons}
+use Rattle.querylaws.specs.Lists.{partAt, shapeIn}
 use Rattle.span.specs.declared.Walk.{Walk}
 use Rattle.turning.specs.Words.{countWalk, baseIn, endIn, BlockAt}
 use Rattle.phrase.specs.Pages.{pageAt, Ready, Sought}
@@ -25,16 +23,16 @@ use Rattle.wordlists.proofs.OpenLaws.{lead-within}
 use Rattle.querylaws.specs.Ranks.{rankBy}
 use Rattle.trial.specs.declared.Trial.{Trial}
 use Rattle.triallaws.specs.Spans.{TermAt}
-use Rattle.triallaws.specs.Starts.{standsIn, startsIn, startsBelow}
-use Rattle.triallaws.specs.Asked.{termAt, positionsHere, pageHere, Asked, OnAll, AheadOf, Ahead, TurnedTo}
+use Rattle.triallaws.specs.Starts.{startsBelow}
+use Rattle.triallaws.specs.Asked.{phraseAt, termAt, positionsHere, Asked, OnAll, AheadOf, Ahead, TurnedTo}
 use Rattle.trial.specs.Tries.{triedAt}
 use Rattle.triallaws.specs.Asked.{Trying}
 use Rattle.triallaws.proofs.WordLaws.{SameWord, same-other, counts-same, span-same, term-same}
 use Rattle.triallaws.proofs.WordLaws.{ready-same, ready-more}
 use Rattle.triallaws.proofs.SpanLaws.{before-mono}
-use Rattle.triallaws.proofs.StartLaws.{stands-fails, stands-all, starts-in, Rises, rises-more}
+use Rattle.triallaws.proofs.StartLaws.{stands-fails, stands-all, Rises, rises-more}
 use Rattle.triallaws.proofs.StartLaws.{below-found, below-skip, below-le, starts-below}
-use Rattle.triallaws.proofs.PositionLaws.{words-map, page-positions, page-bounds, positions-rise}
+use Rattle.triallaws.proofs.PositionLaws.{page-positions, page-bounds, positions-rise}
 use Rattle.triallaws.proofs.RankLaws.{is-ranked, page-there}
 use Rattle.triallaws.proofs.PageLaws.{rank-later}
 
@@ -44,12 +42,13 @@ left at = (16777217 - at .start) * 8 + (8 - at .standing)
 
 -- ---- the beginning
 
-pub trying-begins : (s ts : List ℕ) (lead : ℕ) (ct ps : List ℕ) (p : ℕ) (ws : List ℕ) → 0 < length ts
-    → Ahead s ts ct ps ws p
-    → Trying s ts lead ct ps p (record { turned = 0; start = 0; standing = 0; count = 0 }) ws
+pub trying-begins : (s ts ds : List ℕ) (lead : ℕ) (ct ps : List ℕ) (p : ℕ) (ws : List ℕ) → 0 < length ts
+    → length ts ≤ length ds → Ahead s ts ct ps ws p
+    → Trying s ts ds lead ct ps p (record { turned = 0; start = 0; standing = 0; count = 0 }) ws
 unfolding startsBelow
-trying-begins s ts lead ct ps p ws n f = record {
+trying-begins s ts ds lead ct ps p ws n l f = record {
   room = f .room;
+  enough = l;
   some = n;
   order = omega arith;
   within = omega arith;
@@ -60,14 +59,20 @@ trying-begins s ts lead ct ps p ws n f = record {
   counted = refl;
 }
 
-module _ (s ts : List ℕ) (lead : ℕ) (pg ct ps : List ℕ) (a : Asked s ts lead pg ct ps) (p : ℕ) (at : Trial)
-    (ws : List ℕ) (y : Trying s ts lead ct ps p at ws) where
+module _ (s ts : List ℕ) (lead : ℕ) (pg ct ps : List ℕ) (a : Asked s ts lead pg ct ps) (ds : List ℕ) (p : ℕ)
+    (at : Trial) (ws : List ℕ) (y : Trying s ts ds lead ct ps p at ws) where
   abbrev k : ℕ
   k = length ts
 
-  -- the word to be tried
+  abbrev phrase : List InPhrase
+  phrase = phraseAt s ts ds
+
+  -- the word to be tried, and its offset
   abbrev i : ℕ
   i = sourceOf lead (at .standing)
+
+  abbrev d : ℕ
+  d = getD ds i 0
 
   pub next-within : i < k
   next-within = source-lt lead (at .standing) k (lead-within s ts pg (a .pages) lead (a .leads)) (y .some)
@@ -76,16 +81,16 @@ module _ (s ts : List ℕ) (lead : ℕ) (pg ct ps : List ℕ) (a : Asked s ts le
   next-slot = slot-source lead (at .standing)
 
   pub counted-few : at .count ≤ at .start
-  counted-few = omega (arith, y .counted, below-le (pageHere s ts p) (at .start))
+  counted-few = omega (arith, y .counted, below-le phrase p (at .start))
 
   module _ (turned : at .standing < at .turned) where
-    word : TurnedTo s ts ct ps p (at .start) ws i
+    word : TurnedTo s ts ct ps p (at .start + d) ws i
     word = y .words i next-within (omega (arith, next-slot))
 
-    -- what is asked where its start is sought
-    pub seek-ready : BlockAt s ps i × (baseIn ws i < 2 ^ 32) × (at .start < 2 ^ 32)
-        × Ready s ps ws i (baseIn ws i + at .start + i)
-    seek-ready =
+    -- what is asked where its position is sought
+    pub seek-ready : d < 2 ^ 32 → BlockAt s ps i × (baseIn ws i < 2 ^ 32) × (at .start + d < 2 ^ 33)
+        × Ready s ps ws i (baseIn ws i + (at .start + d))
+    seek-ready fits =
         let b = a .positions .slot i next-within .block in (
           b,
           omega (
@@ -97,7 +102,11 @@ module _ (s ts : List ℕ) (lead : ℕ) (pg ct ps : List ℕ) (a : Asked s ts le
           word .ready,
         )
 
-    module _ (next : ℕ) (after : List ℕ) (t : Sought s ps ws i (at .start) next after) where
+    module _ (found : ℕ) (after : List ℕ) (t : Sought s ps ws i (at .start + d) found after) where
+      -- the start of which the position tells
+      abbrev next : ℕ
+      next = found - d
+
       -- the words are as they were, but for where reading of the positions of this one stands
       same : (j : ℕ) → (j ≡ i → ⊥) → SameWord ws after j
       same = same-other ws i after (8 * i + 3) (8 * i + 6) (omega arith) (omega arith) (t .kept)
@@ -120,24 +129,23 @@ module _ (s ts : List ℕ) (lead : ℕ) (pg ct ps : List ℕ) (a : Asked s ts le
       here = page-positions s ps after p i (termAt s ts i) (term-after i (word .term))
 
       -- a number that the word does not have is no start
-      no-start : (d : ℕ) → member (d + i) (pageAt s ps after i) ≡ false → standsIn (pageHere s ts p) d ≡ false
-      unfolding pageHere
-      no-start d e =
-          stands-fails (positionsHere s ts p) k 0 d i next-within (rw (zero-add i, ← here) e)
+      no-start : (b : ℕ) → member (b + d) (pageAt s ps after i) ≡ false → stands phrase p b ≡ false
+      no-start b e = stands-fails s p ts ds (y .enough) b i next-within (rw (← here) e)
 
       -- the words stand ready for that start and for later ones
       words-later : (n : ℕ) → at .start ≤ n → (j : ℕ) → j < k → slotOf lead j < at .turned
-          → TurnedTo s ts ct ps p n after j
+          → TurnedTo s ts ct ps p (n + getD ds j 0) after j
       words-later n l j h g =
           let u = y .words j h g in
           let v = span-kept j in
           record {
             term = term-after j (u .term);
             counted = rw (v .0) (u .counted);
-            ready = ready-more s ps after j (baseIn after j + at .start + j) (baseIn after j + n + j) (omega arith)
+            ready = ready-more s ps after j (baseIn after j + (at .start + getD ds j 0))
+                (baseIn after j + (n + getD ds j 0)) (omega arith)
                 (elim (ℕ-discrete j i) [
                   | yes e ↦ rw e (t .ready)
-                  | no e ↦ rw (v .1) (ready-same s ps ws after j (baseIn ws j + at .start + j) (t .ready .room)
+                  | no e ↦ rw (v .1) (ready-same s ps ws after j (baseIn ws j + (at .start + getD ds j 0)) (t .ready .room)
                       (same j e .positions) (v .2) (u .ready))
                 ]);
           }
@@ -158,20 +166,28 @@ module _ (s ts : List ℕ) (lead : ℕ) (pg ct ps : List ℕ) (a : Asked s ts le
 
       -- ---- a start that the word allows
 
-      module _ (some : next ≡ 2 ^ 32 → ⊥) where
+      module _ (some : found ≡ 2 ^ 32 → ⊥) where
+        -- it is not before the one that was tried, and within the limit
+        next-there : (next + d ≡ found) × (at .start ≤ next) × (next < limit)
+        next-there =
+            let f = t .found some in
+            (omega (arith, f .0), omega (arith, f .0), omega (arith, f .1))
+
         -- none lies before it
-        later : startsBelow (pageHere s ts p) next ≡ startsBelow (pageHere s ts p) (at .start)
+        later : startsBelow phrase p next ≡ startsBelow phrase p (at .start)
         later =
-            below-skip (pageHere s ts p) (at .start) next (t .found some .0)
-            (λ d l h. no-start d (t .first some d l h))
+            below-skip phrase p (at .start) next (next-there .1)
+            (λ b l h. no-start b (t .first some (b + d) (omega arith) (omega (arith, next-there .0))))
 
         -- the word stands at the start that was tried
-        stands-there : next ≡ at .start → member (at .start + i) (positionsHere s ts p i) ≡ true
-        stands-there e = rw (e, here) at (t .found some .2)
+        stands-there : next ≡ at .start → member (at .start + d) (positionsHere s ts p i) ≡ true
+        stands-there e =
+            let f : found ≡ at .start + d = omega (arith, next-there .0) in
+            rw (f, here) at (t .found some .2)
 
         -- so do those that were tried before it
         all-stand : next ≡ at .start → (j : ℕ) → j < k → slotOf lead j < at .standing + 1
-            → member (at .start + j) (positionsHere s ts p j) ≡ true
+            → member (at .start + getD ds j 0) (positionsHere s ts p j) ≡ true
         all-stand e j h l =
             elim (ℕ-discrete j i) [
               | yes z ↦ rw z (stands-there e)
@@ -182,19 +198,18 @@ module _ (s ts : List ℕ) (lead : ℕ) (pg ct ps : List ℕ) (a : Asked s ts le
             apart : (m : ℕ) → m < at .standing + 1 → (m ≡ at .standing → ⊥) → m < at .standing
             apart m l g = omega arith
 
-        all-there : next ≡ at .start → (at .standing + 1 < k → ⊥) → standsIn (pageHere s ts p) (at .start) ≡ true
-        unfolding pageHere
+        all-there : next ≡ at .start → (at .standing + 1 < k → ⊥) → stands phrase p (at .start) ≡ true
         all-there e g =
-            stands-all (positionsHere s ts p) k 0 (at .start) (λ j h.
-            rw (zero-add j) (all-stand e j h
-            (omega (arith, slot-lt lead j k (lead-within s ts pg (a .pages) lead (a .leads)) h))))
+            stands-all s p ts ds (y .enough) (at .start) (λ j h.
+            all-stand e j h (omega (arith, slot-lt lead j k (lead-within s ts pg (a .pages) lead (a .leads)) h)))
 
         goes-on : (n m c : ℕ) → at .start ≤ n → n ≤ limit → m < k → m ≤ at .turned
-            → ((j : ℕ) → j < k → slotOf lead j < m → member (n + j) (positionsHere s ts p j) ≡ true)
-            → c ≡ startsBelow (pageHere s ts p) n
-            → Trying s ts lead ct ps p (record { turned = at .turned; start = n; standing = m; count = c }) after
+            → ((j : ℕ) → j < k → slotOf lead j < m → member (n + getD ds j 0) (positionsHere s ts p j) ≡ true)
+            → c ≡ startsBelow phrase p n
+            → Trying s ts ds lead ct ps p (record { turned = at .turned; start = n; standing = m; count = c }) after
         goes-on n m c l small few order stand count = record {
           room = t .ready .room;
+          enough = y .enough;
           some = few;
           order = order;
           within = y .within;
@@ -205,22 +220,22 @@ module _ (s ts : List ℕ) (lead : ℕ) (pg ct ps : List ℕ) (a : Asked s ts le
           counted = count;
         }
 
-        pub trying-goes : Trying s ts lead ct ps p (triedAt at next k) after
+        pub trying-goes : Trying s ts ds lead ct ps p (triedAt at next k) after
         unfolding triedAt
         trying-goes =
-            let f = t .found some in
+            let f = next-there in
             elim (ℕ-discrete next (at .start)) [
               | yes e ↦ elim (decLt (at .standing + 1) k) [
                 | yes h ↦ rw (eq-eqb next (at .start) e, lt-ltb (at .standing + 1) k h)
                     (goes-on (at .start) (at .standing + 1) (at .count) (omega arith) (y .small) h (omega arith)
                     (all-stand e) (y .counted))
                 | no h ↦ rw (eq-eqb next (at .start) e, le-ltb (at .standing + 1) k (omega arith))
-                    (goes-on (at .start + 1) 0 (at .count + 1) (omega arith) (omega (arith, f .1)) (omega (arith, y .some))
+                    (goes-on (at .start + 1) 0 (at .count + 1) (omega arith) (omega (arith, f .2)) (omega (arith, y .some))
                     (omega arith) (λ j l g. absurd (omega arith))
-                    (ap (λ (c : ℕ). c + 1) (y .counted) ∙ sym (below-found (pageHere s ts p) (at .start) (all-there e h))))
+                    (ap (λ (c : ℕ). c + 1) (y .counted) ∙ sym (below-found phrase p (at .start) (all-there e h))))
               ]
               | no e ↦ rw (ne-eqb next (at .start) e)
-                  (goes-on next 0 (at .count) (f .0) (omega (arith, f .1)) (omega (arith, y .some)) (omega arith)
+                  (goes-on next 0 (at .count) (f .1) (omega (arith, f .2)) (omega (arith, y .some)) (omega arith)
                   (λ j l g. absurd (omega arith)) (y .counted ∙ sym later))
             ]
 
@@ -228,44 +243,37 @@ module _ (s ts : List ℕ) (lead : ℕ) (pg ct ps : List ℕ) (a : Asked s ts le
         pub trying-less : k ≤ 8 → left (triedAt at next k) < left at
         unfolding triedAt
         trying-less few =
-            let f = t .found some in
+            let f = next-there in
             elim (ℕ-discrete next (at .start)) [
               | yes e ↦ elim (decLt (at .standing + 1) k) [
                 | yes h ↦ rw (eq-eqb next (at .start) e, lt-ltb (at .standing + 1) k h) (omega arith)
                 | no h ↦ rw (eq-eqb next (at .start) e, le-ltb (at .standing + 1) k (omega arith))
-                    (omega (arith, y .some, f .1))
+                    (omega (arith, y .some, f .2))
               ]
-              | no e ↦ rw (ne-eqb next (at .start) e) (omega (arith, y .some, f .0, f .1))
+              | no e ↦ rw (ne-eqb next (at .start) e) (omega (arith, y .some, f .1, f .2))
             ]
 
       -- ---- the end
 
-      module _ (q : Query) (o : OnAll s ts pg q p) (none : next ≡ 2 ^ 32) where
-        none-later : (n : ℕ) → at .start ≤ n → startsBelow (pageHere s ts p) n ≡ at .count
+      module _ (q : Query) (o : OnAll s ts pg q p) (first : getD ds 0 0 ≡ 0) (none : found ≡ 2 ^ 32) where
+        none-later : (n : ℕ) → at .start ≤ n → startsBelow phrase p n ≡ at .count
         none-later n l =
-            below-skip (pageHere s ts p) (at .start) n l (λ d g h. no-start d (t .none none d g)) ∙ sym (y .counted)
+            below-skip phrase p (at .start) n l (λ b g h. no-start b (t .none none (b + d) (omega arith)))
+            ∙ sym (y .counted)
 
         -- the starts before it are all
-        all-counted : at .count ≡ starts (wordsIn s ts) p
-        unfolding pageHere
+        all-counted : at .count ≡ starts phrase p
         all-counted =
             let h : 0 < k = a .pages .lists .some in
-            let f : ℕ → List ℕ = positionsHere s ts p in
             let U : ℕ = listU (positionsOf (termAt s ts 0)) in
-            let z : k - 0 ≡ k = omega arith in
-            let cons : pageHere s ts p ≡ f 0 ∷ span f 1 (k - 1) = rw z at (span-cons f 0 k h) in
-            let words : pageHere s ts p ≡ map (positionsOn p) (wordsIn s ts) =
-            words-map s (positionsOn p) f ts 0 (λ j l. ap f (zero-add j)) in
-            let rises : Rises 0 (at .start + U) (f 0) =
-            rises-more 0 U (at .start + U) (f 0) (omega arith)
+            let rises : Rises 0 (at .start + U) (positionsHere s ts p 0) =
+            rises-more 0 U (at .start + U) (positionsHere s ts p 0) (omega arith)
             (positions-rise (termAt s ts 0) (a .accepts 0 h) (rankBy pg q (slotOf lead 0))
             (is-ranked s ts lead pg ct ps a q p o 0 h) p (page-there s ts lead pg ct ps a q p o 0 h)) in
-            sym (starts-in p (wordsIn s ts) ∙ ap startsIn (sym words ∙ cons)
-            ∙ starts-below (f 0) (span f 1 (k - 1)) (at .start + U) rises
-            ∙ ap (λ (l : List (List ℕ)). startsBelow l (at .start + U)) (sym cons)
+            sym (starts-below s ts ds h (y .enough) first p (at .start + U) rises
             ∙ none-later (at .start + U) (omega arith))
 
-        pub trying-ends : (at .count ≡ starts (wordsIn s ts) p) × (at .count < 2 ^ 32) × Ahead s ts ct ps after (p + 1)
+        pub trying-ends : (at .count ≡ starts phrase p) × (at .count < 2 ^ 32) × Ahead s ts ct ps after (p + 1)
         trying-ends = (
           all-counted,
           omega (arith, counted-few, y .small),

@@ -14,7 +14,7 @@ use Rattle.rules.specs.Bytes.{Bytes, beAt}
 use Rattle.rules.specs.Parts.{after, part}
 use Rattle.rules.specs.ReadTerm.{listsOf}
 use Rattle.rules.specs.Index.{indexRefusal}
-use Rattle.rules.specs.Questions.{allBelow}
+use Rattle.rules.specs.Questions.{allBelow, wordsGood}
 use Rattle.rules.specs.ReadList.{stated}
 use Rattle.laws.specs.Blocks.{blockAt}
 use Rattle.laws.proofs.ByteLaws.{beAt-lt}
@@ -23,7 +23,6 @@ use Rattle.cardlaws.proofs.PassedLaws.{accepted-passed}
 use Rattle.parts.specs.Places.{Held, Walkable}
 use Rattle.parts.proofs.PlaceLaws.{after-length}
 use Rattle.listlaws.proofs.RisingLaws.{and-parts}
-use Rattle.questions.specs.Formed.{wordsGood}
 use Rattle.questions.proofs.GoodLaws.{words-parts}
 use Rattle.wordlists.specs.Lying.{listOf, Lying, AllLying}
 

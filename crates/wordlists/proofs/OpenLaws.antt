@@ -11,7 +11,7 @@ use Rattle.rules.specs.ReadList.{listU, decode}
 use Rattle.rules.specs.ReadTerm.{pagesOf, readWord}
 use Rattle.rules.specs.Index.{indexN, indexT, termPart, wordOf, indexRefusal}
 use Rattle.rules.specs.Common.{Tally, leadOf}
-use Rattle.rules.specs.Questions.{commonPages, pagesIn, listsIn}
+use Rattle.rules.specs.Questions.{commonPages, pagesIn, listsIn, wordsGood}
 use Rattle.termlaws.proofs.Theorems.{accepted-lists}
 use Rattle.cardlaws.proofs.Theorems.{accepted-term}
 use Rattle.commonlaws.proofs.PickLaws.{lead-leads}
@@ -21,7 +21,6 @@ use Rattle.querylaws.specs.Listings.{wholeIn}
 use Rattle.openlists.specs.Places.{placePart, placePages, placedIn, sourceOf, slotOf, Places, Alike, Opened}
 use Rattle.openlists.proofs.SourceLaws.{span-at, slot-lt, source-slot, source-order}
 use Rattle.openlists.proofs.Theorems.{placed-rise, opened-common}
-use Rattle.questions.specs.Formed.{wordsGood}
 use Rattle.questions.proofs.GoodLaws.{words-parts}
 use Rattle.wordlists.specs.Lying.{listOf, AllLying}
 use Rattle.wordlists.specs.Opened.{OpenedPages}

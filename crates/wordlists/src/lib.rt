@@ -7,9 +7,8 @@ ghost use lib.ListN.{length};
 ghost use Rattle.rules.specs.declared.Refusal.the-variants.{Accepted};
 ghost use Rattle.rules.specs.Index.{indexT, indexRefusal};
 ghost use Rattle.rules.specs.Common.{leadOf};
-ghost use Rattle.rules.specs.Questions.{listsIn};
+ghost use Rattle.rules.specs.Questions.{listsIn, wordsGood};
 ghost use Rattle.findlaws.specs.Starts.{TermThere, Found};
-ghost use Rattle.questions.specs.Formed.{wordsGood};
 ghost use Rattle.wordlists.specs.Lying.{ListLying, AllLying};
 ghost use Rattle.wordlists.specs.Opened.{OpenedPages};
 

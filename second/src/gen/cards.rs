@@ -143,7 +143,7 @@ fn of_empty_words(random: &mut Random) -> Card {
 fn of_text(random: &mut Random) -> Card {
     let pages = random.from_to(1, 24);
     let vocabulary = random.from_to(1, 7) as usize;
-    let longest = random.pick(&[3, 12, 40]);
+    let longest = random.pick(&[3, 12, 40, 300]);
     text(random, pages, vocabulary, longest)
 }
 

@@ -7,6 +7,7 @@ pub mod faulty_inputs;
 pub mod files;
 pub mod full_size;
 pub mod lists;
+pub mod phrases;
 pub mod questions;
 pub mod random;
 pub mod raw;

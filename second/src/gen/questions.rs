@@ -1,6 +1,7 @@
 //! Questions good and bad.
 
 use super::cards::Card;
+use super::phrases::{self, in_a_row, of_pairs};
 use super::random::Random;
 
 /// Some questions over a card, as one list of numbers.
@@ -26,7 +27,7 @@ pub fn bad_questions(random: &mut Random, card: &Card) -> Vec<u32> {
         1 => {
             let place = random.place(numbers.len().max(1));
             if let Some(number) = numbers.get_mut(place) {
-                *number = random.pick(&[0, 1, 5, 9, u32::MAX, 1 << 31]);
+                *number = random.pick(&[0, 1, 5, 9, 18, 255, 256, u32::MAX, 1 << 31]);
             }
         }
         2 => numbers.insert(random.place(numbers.len() + 1), random.from_to(0, 9)),
@@ -42,8 +43,9 @@ pub fn bad_questions(random: &mut Random, card: &Card) -> Vec<u32> {
 /// The ranks and bounds of each word that a tour asks for.
 const TOUR_STOPS: u32 = 16;
 
-/// Ranks and bounds of each of these words, then common pages and a phrase of
-/// each of them with a rare word, of the first two and of all.
+/// Ranks and bounds of each of these words, then common pages and phrases of
+/// each of them with a rare word, of the first two and of all; then phrases of
+/// the words around the rare one.
 pub fn tour(random: &mut Random, card: &Card, terms: &[u32], rare: u32) -> Vec<u32> {
     let mut numbers = Vec::new();
     for term in terms {
@@ -52,18 +54,24 @@ pub fn tour(random: &mut Random, card: &Card, terms: &[u32], rare: u32) -> Vec<u
             numbers.extend([2, 2, *term, any_bound(random, card, *term)]);
         }
         numbers.extend(of_terms(3, vec![*term, rare]));
-        numbers.extend(of_terms(4, vec![rare, *term]));
+        numbers.extend(of_pairs(&in_a_row(&[rare, *term])));
+        numbers.extend(of_pairs(&phrases::apart(random, &[rare, *term])));
     }
     for together in [&terms[..2], terms] {
         numbers.extend(of_terms(3, together.to_vec()));
-        numbers.extend(of_terms(4, together.to_vec()));
+        numbers.extend(of_pairs(&in_a_row(together)));
+        numbers.extend(of_pairs(&phrases::apart(random, together)));
+    }
+    for _ in 0..TOUR_STOPS {
+        let page = random.pick(&card.words[rare as usize].pages);
+        numbers.extend(of_pairs(&phrases::on_page(random, card, page)));
     }
     numbers
 }
 
 /// One good question.
 fn question(random: &mut Random, card: &Card) -> Vec<u32> {
-    match random.from_to(1, 9) {
+    match random.from_to(1, 10) {
         1 => {
             let term = any_term(random, card);
             let rank = any_rank(random, card, term);
@@ -75,8 +83,22 @@ fn question(random: &mut Random, card: &Card) -> Vec<u32> {
             vec![2, 2, term, bound]
         }
         4..=6 => of_terms(3, terms(random, card)),
-        7 => of_terms(4, terms(random, card)),
-        _ => of_terms(4, words_of_a_page(random, card)),
+        7 => of_pairs(&in_a_row(&terms(random, card))),
+        8 => {
+            let terms = terms(random, card);
+            of_pairs(&phrases::apart(random, &terms))
+        }
+        _ => phrase_of_a_page(random, card),
+    }
+}
+
+/// A phrase that stands on some page, or nearly so; any words where the page has none.
+fn phrase_of_a_page(random: &mut Random, card: &Card) -> Vec<u32> {
+    let page = random.from_to(0, card.pages.max(1) - 1);
+    let pairs = phrases::on_page(random, card, page);
+    match pairs.is_empty() {
+        true => of_pairs(&in_a_row(&terms(random, card))),
+        false => of_pairs(&pairs),
     }
 }
 
@@ -125,40 +147,13 @@ fn terms(random: &mut Random, card: &Card) -> Vec<u32> {
         .collect()
 }
 
-/// Words that stand one behind the other on some page.
-fn words_of_a_page(random: &mut Random, card: &Card) -> Vec<u32> {
-    let text = text_of_page(card, random.from_to(0, card.pages.max(1) - 1));
-    let wanted = random.pick(&[1, 2, 2, 3, 4, 8]);
-    let first = random.place(text.len().max(1));
-    let run: Vec<u32> = text.into_iter().skip(first).take(wanted).collect();
-    if run.is_empty() {
-        terms(random, card)
-    } else {
-        run
-    }
-}
-
-/// The words of a page in the order of their positions.
-fn text_of_page(card: &Card, page: u32) -> Vec<u32> {
-    let mut text = Vec::new();
-    for (number, word) in card.words.iter().enumerate() {
-        if let Ok(rank) = word.pages.binary_search(&page) {
-            let first: u32 = word.counts[..rank].iter().sum();
-            let positions = &word.positions[first as usize..][..word.counts[rank] as usize];
-            text.extend(positions.iter().map(|position| (*position, number as u32)));
-        }
-    }
-    text.sort_unstable();
-    text.into_iter().map(|(_, number)| number).collect()
-}
-
 /// One question with a fault that shows in itself.
 fn bad_question(random: &mut Random, card: &Card) -> Vec<u32> {
     let count = card.words.len() as u32;
     let not_a_term = random.pick(&[count, count + 1, u32::MAX, 65_536 + count]);
-    let mut eight = vec![0; 8];
+    let mut eight = [0; 8];
     eight[random.place(8)] = not_a_term;
-    match random.from_to(0, 10) {
+    match random.from_to(0, 15) {
         0 => vec![random.pick(&[0, 5, 6, u32::MAX]), 2, 0, 0],
         1 => vec![random.pick(&[1, 2]), 1, 0],
         2 => vec![random.pick(&[1, 2]), 3, 0, 0, 0],
@@ -166,9 +161,11 @@ fn bad_question(random: &mut Random, card: &Card) -> Vec<u32> {
         4 => [vec![random.pick(&[3, 4]), 9], vec![0; 9]].concat(),
         5 => [vec![random.pick(&[3, 4]), u32::MAX], vec![0; 4]].concat(),
         6 => vec![random.pick(&[1, 2]), 2, not_a_term, 0],
-        7 => of_terms(random.pick(&[3, 4]), eight),
-        8 => vec![random.pick(&[1, 2, 3, 4])],
-        9 => vec![random.pick(&[1, 2, 3, 4]), 2, 0],
-        _ => vec![random.pick(&[3, 4]), u32::MAX - 1],
+        7 => of_terms(3, eight.to_vec()),
+        8 => of_pairs(&in_a_row(&eight)),
+        9 => vec![random.pick(&[1, 2, 3, 4])],
+        10 => vec![random.pick(&[1, 2, 3, 4]), 2, 0],
+        11 => vec![random.pick(&[3, 4]), u32::MAX - 1],
+        _ => phrases::bad(random, count),
     }
 }

@@ -1,10 +1,11 @@
 //! Questions over a card.
 
+use super::form::{all_questions, Question};
 use super::index::check_index;
 use super::list::List;
+use super::refusal;
 use super::seek::{seek, Cursor};
 use super::term::Term;
-use super::{refusal, GREATEST_WORDS};
 
 /// What asking gives: the refusal or 0, and each whole answer that fitted.
 #[derive(Clone, Debug, PartialEq, Eq)]
@@ -55,14 +56,6 @@ impl Reply {
     }
 }
 
-/// A question of good form, with its terms looked up.
-enum Question<'a> {
-    AtRank(&'a Term, u32),
-    AtBound(&'a Term, u32),
-    Common(Vec<&'a Term>),
-    Phrase(Vec<&'a Term>),
-}
-
 /// Answers the questions in turn, as long as they fit in so many numbers.
 pub fn reply(card: &[u8], questions: &[u32], room: usize) -> Reply {
     match check_index(card) {
@@ -73,9 +66,9 @@ pub fn reply(card: &[u8], questions: &[u32], room: usize) -> Reply {
 
 /// The same over the terms of a card that has been accepted.
 pub fn reply_over(terms: &[Term], questions: &[u32], room: usize) -> Reply {
-    match all_questions(terms, questions) {
-        Some(questions) => Reply::fitting(questions.iter().map(answer), room),
-        None => Reply::refused(refusal::QUESTION),
+    match all_questions(terms.len(), questions) {
+        Ok(questions) => Reply::fitting(questions.iter().map(|one| answer(terms, one)), room),
+        Err(_) => Reply::refused(refusal::QUESTION),
     }
 }
 
@@ -84,47 +77,18 @@ pub fn ask(card: &[u8], questions: &[u32], room: &mut [u32]) -> (u32, usize, usi
     reply(card, questions, room.len()).put(room)
 }
 
-fn all_questions<'a>(terms: &'a [Term], numbers: &[u32]) -> Option<Vec<Question<'a>>> {
-    let mut rest = numbers;
-    let mut questions = Vec::new();
-    while !rest.is_empty() {
-        questions.push(next_question(terms, &mut rest)?);
-    }
-    Some(questions)
-}
-
-fn next_question<'a>(terms: &'a [Term], rest: &mut &[u32]) -> Option<Question<'a>> {
-    let kind = *rest.first()?;
-    let count = *rest.get(1)? as usize;
-    let given = rest.get(2..count.checked_add(2)?)?;
-    *rest = &rest[count + 2..];
-    let all_terms = || named_terms(terms, given);
-    match kind {
-        1 if count == 2 => Some(Question::AtRank(terms.get(given[0] as usize)?, given[1])),
-        2 if count == 2 => Some(Question::AtBound(terms.get(given[0] as usize)?, given[1])),
-        3 => all_terms().map(Question::Common),
-        4 => all_terms().map(Question::Phrase),
-        _ => None,
-    }
-}
-
-fn named_terms<'a>(terms: &'a [Term], numbers: &[u32]) -> Option<Vec<&'a Term>> {
-    if numbers.is_empty() || numbers.len() > GREATEST_WORDS {
-        return None;
-    }
-    numbers
-        .iter()
-        .map(|number| terms.get(*number as usize))
-        .collect()
-}
-
 /// One answer: how many numbers follow, then those numbers.
-fn answer(question: &Question) -> Vec<u32> {
+fn answer(all: &[Term], question: &Question) -> Vec<u32> {
+    let terms = question.terms();
+    let terms: Vec<&Term> = terms.iter().map(|term| &all[*term as usize]).collect();
     let mut numbers = match question {
-        Question::AtRank(term, rank) => at_rank(&term.pages, *rank),
-        Question::AtBound(term, bound) => at_bound(&term.pages, *bound),
-        Question::Common(terms) => common(terms),
-        Question::Phrase(terms) => phrase(terms),
+        Question::AtRank(_, rank) => at_rank(&terms[0].pages, *rank),
+        Question::AtBound(_, bound) => at_bound(&terms[0].pages, *bound),
+        Question::Common(_) => common(&terms),
+        Question::Phrase(words) => {
+            let offsets: Vec<u32> = words.iter().map(|word| word.offset).collect();
+            phrase(&terms, &offsets)
+        }
     };
     numbers.insert(0, numbers.len() as u32);
     numbers
@@ -230,10 +194,10 @@ impl Meeting<'_> {
 }
 
 /// Each page with a start, and the number of its starts.
-fn phrase(terms: &[&Term]) -> Vec<u32> {
+fn phrase(terms: &[&Term], offsets: &[u32]) -> Vec<u32> {
     let mut numbers = Vec::new();
     for page in &terms[0].pages.elements {
-        let starts = starts_on(terms, *page);
+        let starts = starts_on(terms, offsets, *page);
         if starts > 0 {
             numbers.extend([*page, starts]);
         }
@@ -241,7 +205,8 @@ fn phrase(terms: &[&Term]) -> Vec<u32> {
     numbers
 }
 
-fn starts_on(terms: &[&Term], page: u32) -> u32 {
+/// How many positions of a page have each word at its offset behind them; the first stands there itself.
+fn starts_on(terms: &[&Term], offsets: &[u32], page: u32) -> u32 {
     let mut words = Vec::new();
     for term in terms {
         match term.pages.elements.binary_search(&page) {
@@ -250,12 +215,8 @@ fn starts_on(terms: &[&Term], page: u32) -> u32 {
         }
     }
     let is_start = |start: &&u32| {
-        let mut place = **start;
-        words.iter().all(|positions| {
-            let stands = positions.binary_search(&place).is_ok();
-            place += 1;
-            stands
-        })
+        let mut placed = words.iter().zip(offsets);
+        placed.all(|(positions, offset)| positions.binary_search(&(**start + offset)).is_ok())
     };
     words[0].iter().filter(is_start).count() as u32
 }

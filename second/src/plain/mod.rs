@@ -4,6 +4,7 @@
 pub mod ask;
 pub mod bits;
 pub mod bytes;
+pub mod form;
 pub mod index;
 pub mod list;
 pub mod program;
@@ -18,6 +19,9 @@ pub const GREATEST_TERMS: u32 = 4_096;
 
 /// The greatest number of words in a question.
 pub const GREATEST_WORDS: usize = 8;
+
+/// The greatest offset of a word in a phrase.
+pub const GREATEST_OFFSET: u32 = 255;
 
 /// The numbers of refusal, named by what they are given for.
 pub mod refusal {

@@ -1,12 +1,10 @@
 -- `answer_one` hands the numbers to their kind.
-use mathlib.Core.Bool.{true}
 use mathlib.Core.Path.{_≡_, sym, _∙_}
 use Prim.Native.Nat.{_<_}
 use native.Mathlib.Omega.{arith}
 use lib.ListN.{length, getD}
 use Rattle.rules.specs.Index.{indexT}
-use Rattle.questions.specs.Formed.{wordsGood}
-use Rattle.questions.proofs.GoodLaws.{good-pair, pair-parts, good-rest}
+use Rattle.questions.proofs.GoodLaws.{good-pair, good-words, good-rest, pair-parts}
 use Rattle.answer.proofs.KindLaws.{answer-rank, answer-bound, answer-common, answer-phrase}
 use borrow.Author.Needs.{needs}
 use Rattle.answer.proofs.answer_one.Statement.{statement}
@@ -19,11 +17,6 @@ pair c h k =
     let a = c .args in
     pair-parts (indexT (a .card .now)) (a .args .now)
     (sym (good-pair (indexT (a .card .now)) (a .kind) (a .args .now) h k) ∙ c .pre .1)
-
--- one to eight terms
-words : (c : tie.Start) → (c .args .kind ≡ 1 → ⊥) → (c .args .kind ≡ 2 → ⊥)
-    → wordsGood (indexT (c .args .card .now)) (c .args .args .now) ≡ true
-words c p q = good-rest (indexT (c .args .card .now)) (c .args .kind) (c .args .args .now) p q (c .pre .1)
 
 shared-slice-read-by-rank : tie.Need-shared-slice-read-by-rank
 shared-slice-read-by-rank c =
@@ -77,11 +70,10 @@ returns-2 c =
     rw (answer-bound (a .card .now) (a .kind) (a .args .now) (omega arith)) (p .by-bound .ensures)
 
 by-common-requires : tie.Need-by-common-requires
-by-common-requires c κs = (
-  c .before .before .before .before .before .before .before .pre .0,
-  words
-      (c .before .before .before .before .before .before .before) (λ e. omega arith) (λ e. omega arith),
-)
+by-common-requires c κs =
+    let b = c .before .before .before .before .before .before .before in
+    let a = b .args in
+    (b .pre .0, sym (good-words (indexT (a .card .now)) (a .kind) (a .args .now) (c .before .if3 .taken)) ∙ b .pre .1)
 
 returns-3 : tie.Need-returns-3
 returns-3 c =
@@ -90,11 +82,13 @@ returns-3 c =
     rw (answer-common (a .card .now) (a .kind) (a .args .now) (omega arith)) (p .by-common .ensures)
 
 by-phrase-requires : tie.Need-by-phrase-requires
-by-phrase-requires c κs = (
-  c .before .before .before .before .before .before .before .pre .0,
-  words
-      (c .before .before .before .before .before .before .before) (λ e. omega arith) (λ e. omega arith),
-)
+by-phrase-requires c κs =
+    let b = c .before .before .before .before .before .before .before in
+    let a = b .args in (
+      b .pre .0,
+      good-rest (indexT (a .card .now)) (a .kind) (a .args .now) (λ e. omega arith) (λ e. omega arith)
+          (λ e. omega arith) (b .pre .1),
+    )
 
 returns-4 : tie.Need-returns-4
 returns-4 c =

@@ -1,56 +1,64 @@
--- `open_phrase` finds the words' terms, which are all on the card, and opens three lists of each.
+-- `open_phrase` puts the pairs apart, and opens the lists of the terms.
 use mathlib.Core.Path.{sym, _∙_}
 use native.Mathlib.Omega.{arith}
-use Rattle.rules.specs.Index.{indexT}
-use Rattle.questions.proofs.GoodLaws.{words-parts}
-use Rattle.wordlists.proofs.LyingLaws.{word-below}
-use Rattle.wordlists.proofs.OpenLaws.{lead-within}
-use Rattle.triallaws.proofs.RowLaws.{row-asked}
 use borrow.Author.Needs.{needs}
+use lib.ListN.{drop, length-drop}
+use lib.Seq.{length-take-le}
+use Rattle.questions.proofs.GoodLaws.{words-parts, phrase-parts}
+use Rattle.triallaws.proofs.RowLaws.{pairs-ready, phrase-opened}
 use Rattle.answer.proofs.open_phrase.Statement.{statement}
 use Rattle.answer.proofs.open_phrase.Tie as tie
 
-find-terms-requires : tie.Need-find-terms-requires
-find-terms-requires c κs =
-    let b = c .before .before .before .before in
-    let T = indexT (b .args .card .now) in
-    let ts = b .args .terms .now in
-    (b .pre .0, word-below T ts (b .pre .1), words-parts T ts (b .pre .1) .1)
+abbrev start : tie.After-split-pairs → tie.Start
+start c = c .before .before .before .before .before .before .before
 
-cast-lists : tie.Need-cast-lists
-cast-lists c =
-    let o = c .before .before .before .before .before .before .before .before .before .before .before .before .open-found .ensures in
-    omega (arith, lead-within _ _ _ (o .1) _ (o .0), o .1 .lists .few)
+split-pairs-requires : tie.Need-split-pairs-requires
+split-pairs-requires c κs =
+    let b = c .before .before .before .before .before .before in
+    let p = phrase-parts _ _ (b .pre .1) in
+    let w = words-parts _ _ (p .1) in
+    let l = b .args .lists .now in (
+      p .0,
+      omega (arith, p .0, w .1),
+      b .pre .2,
+      length-take-le 8 (drop 193 l) (omega (arith, length-drop 193 l, b .pre .3)),
+    )
+
+-- eight numbers hold the terms
+few : tie.Need-part-open-row-end
+few c =
+    let t = c .before .before .before .before .before in
+    let w = words-parts _ _ (phrase-parts _ _ (start t .pre .1) .1) in
+    omega (arith, t .split-pairs .ensures .0, t .split-pairs .ensures .1 .terms-room, w .1)
+
+open-row-requires : tie.Need-open-row-requires
+open-row-requires c κs =
+    let t = c .before .before .before .before .before .before .before in
+    let b = start t in
+    let e = t .split-pairs .ensures in
+    let r = pairs-ready _ _ (b .pre .1) _ _ (e .0) _ (b .args .lists .now) (e .1) (b .pre .3) in
+    (b .pre .0, r .0, r .1, r .2)
 
 returns : tie.Need-returns
 returns c =
-    let b = c .before .before .before .before .before .before .before .before .before .before .before .before .before .before .before .before .before .before .before .before .before in
-    let o = c .before .before .before .before .before .before .before .before .before .before .before .before .open-found .ensures in
-    row-asked _ _ (b .pre .0) (b .pre .1) (b .args .lists .now) _ _ _ _ (b .pre .2) (o .0) (o .1) (c .before .before .before .before .before .before .before .open-words .ensures)
-    (c .before .before .open-words2 .ensures)
+    let o = c .before .before .open-row .ensures in
+    let t = c .before .before .before .before .before .before .before .before .before .before in
+    let b = start t in
+    let e = t .split-pairs .ensures in
+    phrase-opened _ _ (b .pre .1) _ _ (e .0) _ (b .args .lists .now) (e .1) (b .pre .3) _ (o .0) (o .1)
 
 pub open-phrase-spec : {M : Type 1} → statement M
 open-phrase-spec =
     tie.close
     (tie.spec
     (λ c. search needs)
-    find-terms-requires
     (λ c. search needs)
     (λ c. search needs)
+    split-pairs-requires
     (λ c. search needs)
     (λ c. search needs)
-    (λ c κs. search needs)
-    (λ c. search needs)
-    (λ c. search needs)
-    (λ c. search needs)
-    (λ c. search needs)
-    (λ c κs. search needs)
-    (λ c. search needs)
-    (λ c. search needs)
-    (λ c. search needs)
-    (λ c. search needs)
-    (λ c κs. search needs)
-    cast-lists
-    (λ c. search needs)
-    (λ c. returns c .row ∙ sym (c .before .before .before .before .before .before .before .before .before .before .before .before .before .before .before .before .before .before .before .before .before .pre .2))
+    few
+    open-row-requires
+    (λ c. returns c .eight ∙ sym (start (c .before .before .before .before .before .before .before .before .before .before) .pre .2))
+    (λ c. returns c .asked .row ∙ sym (start (c .before .before .before .before .before .before .before .before .before .before) .pre .3))
     returns)

@@ -4,19 +4,20 @@ use native.Mathlib.Omega.{arith}
 use borrow.Author.Tests.{lt-ltb}
 use lib.ListN.{length}
 use borrow.Author.Needs.{needs}
-use Rattle.triallaws.specs.Asked.{foundIn}
+use Rattle.triallaws.specs.Asked.{foundIn, offsetsIn}
 use Rattle.triallaws.proofs.PairLaws.{found-few}
 use Rattle.pairs.proofs.fits.Statement.{statement}
 use Rattle.pairs.proofs.fits.Tie as tie
 
 mul-if1 : tie.Need-mul-if1
-mul-if1 c = omega (arith, c .number .ensures, found-few _ _ _ _ _ _ (c .before .before .before .before .before .pre .asked) .1)
+mul-if1 c = omega (arith, c .number .ensures, found-few _ _ _ _ _ _ (c .before .before .before .before .before .pre .asked) (offsetsIn (c .before .before .before .before .before .args .lists .now)) .1)
 
 returns : tie.Need-returns
 returns c =
     let b = c .before .before .before .before .before .before in
-    let f = found-few _ _ _ _ _ _ (b .pre .asked) .0 in
-    sym (lt-ltb (length (foundIn (b .args .card .now) (b .args .terms .now))) (b .args .size)
+    let ds = offsetsIn (b .args .lists .now) in
+    let f = found-few _ _ _ _ _ _ (b .pre .asked) ds .0 in
+    sym (lt-ltb (length (foundIn (b .args .card .now) (b .args .terms .now) ds)) (b .args .size)
     (omega (arith, c .if1 .taken, c .before .number .ensures, f)))
 
 returns-2 : tie.Need-returns-2

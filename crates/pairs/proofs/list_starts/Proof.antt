@@ -7,7 +7,7 @@ use Rattle.commonlaws.specs.Readers.{leftIn}
 use Rattle.querylaws.specs.Queries.{leadIn as leadReader, Turned}
 use Rattle.querylaws.proofs.TurnLaws.{turned-page, turned-fewer}
 use Rattle.querylaws.proofs.BatchLaws.{batched-long, batched-one}
-use Rattle.triallaws.specs.Asked.{pagesIn, countsIn, positionsIn, leadIn, AskedIn}
+use Rattle.triallaws.specs.Asked.{pagesIn, countsIn, positionsIn, leadIn, offsetsIn, AskedIn}
 use Rattle.triallaws.proofs.PageLaws.{turned-least, turned-on, ahead-more}
 use Rattle.triallaws.proofs.PairLaws.{laid-zero, Going, going-start, going-few, going-end, going-on}
 use Rattle.pairs.proofs.list_starts.Statement.{statement}
@@ -16,7 +16,7 @@ use Rattle.pairs.proofs.list_starts.Tie as tie
 abbrev Inv-loop : tie.InvT-loop
 Inv-loop card terms lists room₀ q₀ words₀ page₀ b₀ found₀ room q words page b found =
     (a : AskedIn card terms lists)
-    × Going card terms (leadIn lists) (pagesIn lists) (countsIn lists) (positionsIn lists) room₀ (a .asked) q words b
+    × Going card terms (leadIn lists) (pagesIn lists) (countsIn lists) (positionsIn lists) room₀ (a .asked) (offsetsIn lists) q words b
     found room × (length page ≡ 1)
 
 abbrev μ-loop : tie.MeasureT-loop
@@ -26,7 +26,7 @@ loop-holds : tie.Need-loop-holds Inv-loop μ-loop
 loop-holds c =
     let b = c .before .before .before .before .before in
     rw (c .new .ensures)
-    (b .pre .0, going-start _ _ _ _ _ _ _ (b .pre .0 .asked) (b .args .room .now) refl (b .pre .1), refl)
+    (b .pre .0, going-start _ _ _ _ _ _ _ (b .pre .0 .asked) _ (b .args .room .now) refl (b .pre .1), refl)
 
 same-length : tie.Need-same-length Inv-loop μ-loop
 same-length c = c .before .before .before .before .before .before .loop .inv .1 .same ∙ length-set (c .before .before .before .before .before .before .before .before .before .before .before .before .args .room .now) 0 0
@@ -48,9 +48,9 @@ returns c =
     let g = l .inv .1 in
     let a = l .inv .0 .asked in
     let e =
-    going-end _ _ _ _ _ _ _ a (l .q) (l .words) (l .b) (l .found) (l .room) g (n .batch .result) (turned n) (c .if1 .taken) in (
+    going-end _ _ _ _ _ _ _ a _ (l .q) (l .words) (l .b) (l .found) (l .room) g (n .batch .result) (turned n) (c .if1 .taken) in (
       e .0,
-      omega (arith, going-few _ _ _ _ _ _ _ a (l .q) (l .words) (l .b) (l .found) (l .room) g),
+      omega (arith, going-few _ _ _ _ _ _ _ a _ (l .q) (l .words) (l .b) (l .found) (l .room) g),
       λ h. e .1 (rw (← e .0, length-set room 0 0) h) ∙ laid-zero _ room,
     )
 
@@ -81,7 +81,7 @@ put-pair-requires c κs =
     let l = c .before .before .before .before .before .before .before .before .before .before .before .loop in
     omega (
       arith,
-      going-few _ _ _ _ _ _ _ (l .inv .0 .asked) (l .q) (l .words) (l .b) (l .found) (l .room)
+      going-few _ _ _ _ _ _ _ (l .inv .0 .asked) _ (l .q) (l .words) (l .b) (l .found) (l .room)
           (l .inv .1),
     )
 
@@ -99,7 +99,7 @@ loop-again c =
     let g = l .inv .1 in
     let put = c .before .before .before .before .put-pair .ensures _ (sym (g .found-is)) in (
       l .inv .0,
-      going-on _ _ _ _ _ _ _ (l .inv .0 .asked) (l .q) (l .words) (l .b) (l .found) (l .room) g (n .batch .result) (turned n)
+      going-on _ _ _ _ _ _ _ (l .inv .0 .asked) _ (l .q) (l .words) (l .b) (l .found) (l .room) g (n .batch .result) (turned n)
           (c .before .before .before .before .before .before .before .before .before .before .if1 .left) (p .result) _ (p .ensures .0) (p .ensures .2) _ _ put,
       batched-long _ _ _ (l .q) (l .b) (l .page) (n .batch .result) _ (n .batch .ensures) ∙ l .inv .2,
     )

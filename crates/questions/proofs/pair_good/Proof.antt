@@ -2,7 +2,7 @@
 use native.Mathlib.Omega.{arith}
 use borrow.Author.Tests.{eq-eqb, ne-eqb}
 use lib.ListN.{length}
-use Rattle.questions.specs.Formed.{pairGood}
+use Rattle.rules.specs.Questions.{pairGood}
 use borrow.Author.Needs.{needs}
 use Rattle.questions.proofs.pair_good.Statement.{statement}
 use Rattle.questions.proofs.pair_good.Tie as tie

@@ -1,7 +1,7 @@
 -- `words_good` tests the number of terms, and then each of them.
 use borrow.Author.Tests.{le-leb, lt-leb}
 use lib.ListN.{length}
-use Rattle.questions.specs.Formed.{wordsGood}
+use Rattle.rules.specs.Questions.{wordsGood}
 use borrow.Author.Needs.{needs}
 use Rattle.questions.proofs.words_good.Statement.{statement}
 use Rattle.questions.proofs.words_good.Tie as tie

@@ -1,10 +1,13 @@
 -- `page_starts` takes a word's positions where it is alone, else counts the starts of the words.
 use mathlib.Core.Path.{_≡_, sym, ap, _∙_}
+use mathlib.Core.List.{List}
+use Prim.Native.Nat.{ℕ, _-_, _≤_, _<_}
 use native.Mathlib.Omega.{arith}
 use borrow.Author.Needs.{needs}
+use lib.ListN.{length, length-drop}
 use Rattle.openlists.specs.Places.{slotOf}
 use Rattle.querylaws.specs.Ranks.{rankBy}
-use Rattle.triallaws.specs.Asked.{pagesIn, leadIn}
+use Rattle.triallaws.specs.Asked.{pagesIn, leadIn, offsetsIn, CountedOn}
 use Rattle.triallaws.proofs.RankLaws.{slot-within, asked-list, asked-rank, rank-ready}
 use Rattle.triallaws.proofs.PageLaws.{lone-counted}
 use Rattle.starts.proofs.page_starts.Statement.{statement}
@@ -43,21 +46,24 @@ ranks-at-requires c κs =
     let h = a .pages .lists .some in
     rw (ranked (c .before .before)) (rank-ready _ _ _ _ _ _ a _ _ (p .1) 0 h _ (p .2 .room) (p .2 .each 0 h))
 
-sub-result : tie.Need-sub-result
-sub-result c =
-    let t = c .before .before .before in
-    let p = start (t .before .before .before .before .before) .pre in
-    let e = rw (ranked (t .before .before .before)) at (t .ranks-at .ensures) in
-    lone-counted _ _ _ _ _ _ (p .0 .asked) _ _ (p .1) (t .before .before .before .before .before .if1 .taken) _ (p .2) (t .ranks-at .result) (e .0) _ (e .1) .0
-
-returns : tie.Need-returns
-returns c =
-    let t = c .before .before .before in
-    let p = start (t .before .before .before .before .before) .pre in
-    let e = rw (ranked (t .before .before .before)) at (t .ranks-at .ensures) in
+-- what the page's ranks count
+counted : (c : tie.After-ranks-at)
+    → let b = start (c .before .before .before .before .before) in
+    let x = c .ranks-at .result in
+    (x .from ≤ x .to)
+    × CountedOn (b .args .card .now) (b .args .terms .now) (b .args .lists .now) (b .args .turn .mark - 1)
+    (x .to - x .from) (c .ranks-at .last .1 .1 .1 .1 .0)
+counted c =
+    let t = c .before .before .before .before .before in
+    let b = start t in
+    let p = b .pre in
+    let ds : List ℕ = offsetsIn (b .args .lists .now) in
+    let some : 0 < length ds = omega (arith, length-drop 193 (b .args .lists .now), p .0 .row) in
+    let e = rw (ranked (c .before .before .before)) at (c .ranks-at .ensures) in
     let r =
-    lone-counted _ _ _ _ _ _ (p .0 .asked) _ _ (p .1) (t .before .before .before .before .before .if1 .taken) _ (p .2) (t .ranks-at .result) (e .0) _ (e .1) in
-    (r .1, r .2, r .3)
+    lone-counted _ _ _ _ _ _ (p .0 .asked) ds some (p .0 .first) _ _ (p .1) (t .if1 .taken) _ (p .2)
+    (c .ranks-at .result) (e .0) _ (e .1) in
+    (r .0, (r .1, r .2, r .3))
 
 pub page-starts-spec : {M : Type 1} → statement M
 page-starts-spec =
@@ -71,9 +77,9 @@ page-starts-spec =
     (λ c. search needs)
     (λ c. search needs)
     ranks-at-requires
-    sub-result
+    (λ c. counted (c .before .before .before) .0)
     (λ c. search needs)
-    returns
+    (λ c. counted (c .before .before .before) .1)
     (λ c κs. search needs)
     (λ c. search needs)
     (λ c. search needs))

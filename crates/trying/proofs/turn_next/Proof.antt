@@ -15,7 +15,7 @@ use Rattle.trying.proofs.turn_next.Statement.{statement}
 use Rattle.trying.proofs.turn_next.Tie as tie
 
 -- a place up to the row's end
-in-row : {k n : ℕ} → n ≡ 193 → k ≤ 193 → k ≤ n
+in-row : {k n : ℕ} → n ≡ 201 → k ≤ 201 → k ≤ n
 in-row e l = omega arith
 
 -- one more than a number of words
@@ -40,9 +40,9 @@ next : (c : tie.After-source-of)
 next c =
     let b = start c in
     let y = b .pre .2 in (
-      omega (arith, c .source-of .ensures, next-within _ _ _ _ _ _ (b .pre .0 .asked) _ _ _ y),
+      omega (arith, c .source-of .ensures, next-within _ _ _ _ _ _ (b .pre .0 .asked) _ _ _ _ y),
       ap (slotOf (leadIn (b .args .lists .now))) (c .source-of .ensures)
-          ∙ next-slot _ _ _ _ _ _ (b .pre .0 .asked) _ _ _ y,
+          ∙ next-slot _ _ _ _ _ _ (b .pre .0 .asked) _ _ _ _ y,
       omega (arith, y .order, c .before .before .if1 .left),
     )
 
@@ -93,7 +93,7 @@ returns-2 c =
     let n = next (source t) in
     let y = b .pre .2 in
     let e = rw (ranked (rank t)) at (t .ranks-at .ensures) in (
-      trying-turned _ _ _ _ _ _ (b .pre .0 .asked) _ _ (b .pre .1) _ (n .0) (t .ranks-at .result) (e .0) _ _ (e .1) _ _ y
+      trying-turned _ _ _ _ _ _ (b .pre .0 .asked) _ _ (b .pre .1) _ (n .0) (t .ranks-at .result) (e .0) _ _ (e .1) _ _ _ y
           (n .1 ∙ n .2) (c .before .before .before .turn-to .ensures),
       omega (arith, y .order),
       refl,

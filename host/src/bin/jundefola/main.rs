@@ -38,7 +38,8 @@ page, and `#` starts a comment. Pages, positions and words count from 0.
 Questions: rank TERM RANK     the page of the term with that rank
            at TERM PAGE       the term's first page at or above that page, and how many lie below it
            common TERM..      the pages that have all the terms
-           phrase TERM..      the pages where the terms stand one after the other
+           phrase TERM..      the pages where the terms stand one after the other; a `_` between two of
+                              them is a dropped word, as in `phrase 0 _ 1`
 A TERM is the number of a word or, with --names, its name.
 
 Exit status: 0 done, 1 refused or bad input, 2 wrong usage

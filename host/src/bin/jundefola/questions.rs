@@ -1,6 +1,6 @@
 //! Questions as words of a line.
 
-use jundefola::Question;
+use jundefola::{PhraseWord, Question};
 
 use crate::listing::is_name;
 use crate::names::Names;
@@ -8,6 +8,9 @@ use crate::numbers::number;
 
 /// The names of the kinds; each begins a question.
 const KINDS: [&str; 4] = ["rank", "at", "common", "phrase"];
+
+/// What stands in a phrase for a dropped word; no word is named so, since a name has a letter.
+const DROPPED: &str = "_";
 
 /// Whether this is the name of a kind.
 pub fn is_kind(text: &str) -> bool {
@@ -27,7 +30,7 @@ pub fn parse_question(words: &[&str], names: Option<&Names>) -> Result<Question,
             Ok(Question::Bound { term, bound })
         }
         "common" => Ok(Question::Common(terms(operands, names)?)),
-        "phrase" => Ok(Question::Phrase(terms(operands, names)?)),
+        "phrase" => Ok(Question::Phrase(phrase_words(operands, names)?)),
         _ => Err(format!(
             "`{kind}` is no question; these are rank, at, common and phrase"
         )),
@@ -36,6 +39,21 @@ pub fn parse_question(words: &[&str], names: Option<&Names>) -> Result<Question,
 
 fn terms(operands: &[&str], names: Option<&Names>) -> Result<Vec<u32>, String> {
     operands.iter().map(|text| term(text, names)).collect()
+}
+
+/// The words of a phrase, the offset of each counted with the dropped words before it.
+fn phrase_words(operands: &[&str], names: Option<&Names>) -> Result<Vec<PhraseWord>, String> {
+    let ends = [operands.first(), operands.last()];
+    if ends.contains(&Some(&DROPPED)) {
+        return Err(format!(
+            "a phrase begins and ends with a word; `{DROPPED}` is a dropped word between two others"
+        ));
+    }
+    let placed = operands.iter().zip(0..);
+    placed
+        .filter(|(text, _)| **text != DROPPED)
+        .map(|(text, offset)| Ok((term(text, names)?, offset).into()))
+        .collect()
 }
 
 fn term_and_number(
@@ -64,18 +82,31 @@ pub fn question_text(question: &Question, names: Option<&Names>) -> String {
     match question {
         Question::Rank { term, rank } => format!("rank {} {rank}", term_text(*term, names)),
         Question::Bound { term, bound } => format!("at {} {bound}", term_text(*term, names)),
-        Question::Common(terms) => with_terms("common", terms, names),
-        Question::Phrase(terms) => with_terms("phrase", terms, names),
+        Question::Common(terms) => {
+            let words = terms.iter().map(|&term| term_text(term, names));
+            joined("common", words)
+        }
+        Question::Phrase(words) => {
+            let words = words
+                .iter()
+                .map(|word| (word.offset, term_text(word.term, names)));
+            joined("phrase", with_dropped(words))
+        }
     }
 }
 
-fn with_terms(kind: &str, terms: &[u32], names: Option<&Names>) -> String {
-    let mut text = kind.to_string();
-    for &term in terms {
-        text.push(' ');
-        text.push_str(&term_text(term, names));
-    }
-    text
+fn joined(kind: &str, words: impl Iterator<Item = String>) -> String {
+    words.fold(kind.into(), |text, word| format!("{text} {word}"))
+}
+
+/// Words with what stands for the dropped ones between them.
+fn with_dropped(words: impl Iterator<Item = (u32, String)>) -> impl Iterator<Item = String> {
+    let mut next = 0;
+    words.flat_map(move |(offset, word)| {
+        let dropped = next..offset;
+        next = offset + 1;
+        dropped.map(|_| DROPPED.into()).chain([word])
+    })
 }
 
 fn term_text(term: u32, names: Option<&Names>) -> String {
@@ -96,10 +127,46 @@ mod tests {
 
     #[test]
     fn questions_are_parsed_and_written() {
-        for text in ["rank 0 5", "at 0 16", "common 0 3", "phrase 0", "common"] {
+        for text in [
+            "rank 0 5",
+            "at 0 16",
+            "common 0 3",
+            "phrase 0",
+            "phrase 0 _ 1 2 _ _ 0",
+            "common",
+            "phrase",
+        ] {
             let words: Vec<&str> = text.split(' ').collect();
             let question = parse_question(&words, None).unwrap();
             assert_eq!(question_text(&question, None), text);
+        }
+    }
+
+    #[test]
+    fn a_dropped_word_has_its_place() {
+        for (text, pairs) in [
+            ("phrase 5 6 5", vec![(5, 0), (6, 1), (5, 2)]),
+            ("phrase 5 _ 6", vec![(5, 0), (6, 2)]),
+            ("phrase 5 _ _ 6 7 _ 5", vec![(5, 0), (6, 3), (7, 4), (5, 6)]),
+        ] {
+            let words: Vec<&str> = text.split(' ').collect();
+            let placed = pairs.into_iter().map(PhraseWord::from).collect();
+            assert_eq!(parse_question(&words, None), Ok(Question::Phrase(placed)));
+        }
+    }
+
+    #[test]
+    fn a_dropped_word_stands_between_two_of_a_phrase() {
+        let between =
+            "a phrase begins and ends with a word; `_` is a dropped word between two others";
+        for text in ["phrase _", "phrase _ 0", "phrase 0 _", "phrase _ _"] {
+            assert_eq!(told(text, None), between);
+        }
+        let number = "`_` is not a number from 0 to 4294967295";
+        let names = Names::of_text(LISTING);
+        for text in ["common 0 _ 1", "rank _ 0", "at 0 _"] {
+            assert_eq!(told(text, None), number);
+            assert_eq!(told(text, Some(&names)), number);
         }
     }
 
@@ -111,6 +178,7 @@ mod tests {
             ("at torque 16", "at 0 16"),
             ("common torque 1 common", "common 0 1 2"),
             ("phrase 7 torque", "phrase 7 0"),
+            ("phrase torque _ _ common", "phrase 0 _ _ 2"),
         ] {
             let words: Vec<&str> = text.split(' ').collect();
             let question = parse_question(&words, Some(&names)).unwrap();

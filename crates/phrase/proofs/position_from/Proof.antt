@@ -1,4 +1,4 @@
--- `seek_start` passes the word's elements up to where it has to stand; the start is where it stands then, or there is none.
+-- `position_from` passes the word's elements up to the bound; the position is where it stands then, or there is none.
 use mathlib.Core.Path.{_≡_, sym, refl, _∙_}
 use Prim.Native.Nat.{ℕ, _+_, _*_, _<_}
 use native.Mathlib.Omega.{arith}
@@ -10,8 +10,8 @@ use mir.Syntax.{w64}
 use mir.Val.{Fits}
 use Rattle.turning.specs.Words.{baseIn}
 use Rattle.phrase.proofs.StandLaws.{sought-none, sought-there}
-use Rattle.phrase.proofs.seek_start.Statement.{statement}
-use Rattle.phrase.proofs.seek_start.Tie as tie
+use Rattle.phrase.proofs.position_from.Statement.{statement}
+use Rattle.phrase.proofs.position_from.Tie as tie
 
 -- the places of word i's numbers fit a machine word, and so do those of their bytes
 record Places (i : ℕ) : Type 0 where
@@ -48,13 +48,13 @@ returns : tie.Need-returns
 returns c =
     let a = c .before .before .before .before .before .before .before .before .before .args in
     let p = c .before .before .before .pass-on in
-    sought-none _ _ _ (a .a) (a .i) (p .result) _ (p .ensures)
+    sought-none _ _ _ (a .b) (a .i) (p .result) _ (p .ensures)
     (ltb-false _ _ (sym (p .ensures .found) ∙ not-true _ (c .if1 .taken)))
 
--- the word stands at its place or behind it
+-- the word stands at the bound or behind it
 beyond : (c : tie.Else1)
     → let a = c .before .before .before .before .before .before .before .before .before .args in
-    baseIn (a .words .now) (a .i) + a .a + a .i < getD (c .before .before .before .pass-on .last .1 .1 .1 .1 .0) (8 * a .i + 3 + 1) 0
+    baseIn (a .words .now) (a .i) + a .b < getD (c .before .before .before .pass-on .last .1 .1 .1 .1 .0) (8 * a .i + 3 + 1) 0
 beyond c =
     let p = c .before .before .before .pass-on in
     ltb-true _ _ (sym (p .ensures .found) ∙ not-false _ (c .if1 .left))
@@ -63,17 +63,16 @@ returns-2 : tie.Need-returns-2
 returns-2 c =
     let a = c .before .before .before .before .before .before .before .before .before .before .args in
     let p = c .before .before .before .before .pass-on in
-    sought-there _ _ _ (a .a) (a .i) (p .result) _ (p .ensures) _ (beyond (c .before)) refl
+    sought-there _ _ _ (a .b) (a .i) (p .result) _ (p .ensures) _ (beyond (c .before)) refl
 
-pub seek-start-spec : {M : Type 1} → statement M
-seek-start-spec =
+pub position-from-spec : {M : Type 1} → statement M
+position-from-spec =
     tie.close
     (tie.spec
     (λ c. places (c .before .before .before .pre .0 .few) .first)
     (λ c. places (c .before .before .before .pre .0 .few) .number _ (lit< tt))
     (λ c. places (c .before .before .before .pre .0 .few) .byte _ (lit< tt))
     (λ c. let p = c .before .before .before .before .pre in in-words _ (p .0 .few) (lit< tt) (p .3 .room))
-    (λ c. search needs)
     (λ c. search needs)
     (λ c κs. search needs)
     (λ c. same-length (c .before .before .before))
@@ -83,7 +82,6 @@ seek-start-spec =
     (λ c. places (start (c .before .before .before) .pre .0 .few) .past)
     (λ c. places (start (c .before .before .before) .pre .0 .few) .past-byte)
     (λ c. let p = c .before .before .before .before in past-in (start p .pre .0 .few) (p .pass-on .ensures .ready .room))
-    (λ c. omega (arith, beyond (c .before)))
     (λ c. omega (arith, beyond (c .before)))
     (λ c. omega (arith, beyond (c .before)))
     (λ c. same-length (c .before .before .before .before))
