@@ -37,7 +37,7 @@ fn open_phrase(card: &[u8], pairs: &[u32], terms: &mut [u32], lists: &mut [u32])
     ensures { λ r. ⌜ PhraseOpened (now (card .entry)) (now (pairs .entry)) r (now (terms .exit))
         (now (lists .exit)) ⌝ }
 {
-    let k = questions::split_pairs(pairs, terms, &mut lists[OFFSETS..ROW]);
+    let k = offsets::split_pairs(pairs, terms, &mut lists[OFFSETS..ROW]);
     open_row(card, &terms[0..k], lists);
     k
 }

@@ -17,10 +17,10 @@ use Rattle.rules.specs.Questions.{termsOf, offsetsOf, allBelow, pairGood, words
 use Rattle.rules.specs.Questions.{kindOf, countOf, argsOf, behind, wellFormed}
 use Rattle.listlaws.proofs.RisingLaws.{and-parts}
 use Rattle.questions.specs.Formed.{formed}
-use Rattle.questions.specs.Pairs.{Even}
+use Rattle.offsets.specs.Pairs.{Even}
 use Rattle.questions.proofs.FrontLaws.{formed-front}
 use Rattle.questions.proofs.GoodLaws.{good-pair, good-words, good-phrase, good-none, good-other, pair-parts, words-parts}
-use Rattle.questions.proofs.PairLaws.{pairs-few, same-many}
+use Rattle.offsets.proofs.PairLaws.{pairs-few, same-many}
 use Rattle.demands.specs.Faults.{NotBelow}
 use Rattle.demands.specs.BadQuestions.{termsAsked, OffsetFault, Bad, questionAt, SomeBad}
 use Rattle.demands.proofs.FirstLaws.{Tests}

@@ -28,7 +28,8 @@ use Rattle.commonlaws.specs.Readers.{Rise, wordsOf}
 use Rattle.commonlaws.proofs.CommonLaws as laws
 use Rattle.questions.specs.Formed.{answersTo}
 use Rattle.questions.proofs.FrontLaws.{answers-front}
-use Rattle.questions.proofs.GoodLaws.{good-pair, good-words, pair-parts, good-rest, words-parts, phrase-parts}
+use Rattle.offsets.proofs.PairLaws.{phrase-parts}
+use Rattle.questions.proofs.GoodLaws.{good-pair, good-words, pair-parts, good-rest, words-parts}
 use Rattle.demands.specs.Asking.{Query, written, Good, wordAt, pagesAt, named, pagesNamed, plain, plainAll}
 use Rattle.demands.specs.Asking.{upperRuns}
 use Rattle.demands.proofs.SameLaws.{common-same, named-same}

@@ -2,7 +2,7 @@
 use mathlib.Core.Bool.{true, false, _&&_, _||_}
 use mathlib.Core.Path.{_≡_}
 use mathlib.Core.List.{List}
-use Prim.Native.Nat.{ℕ, _+_, _*_, _≤_, _<_}
+use Prim.Native.Nat.{ℕ, _+_, _≤_, _<_}
 use native.Mathlib.Decide.{ℕ-discrete}
 use native.Mathlib.Omega.{arith}
 use native.Mathlib.Numerals.{add-one}
@@ -10,11 +10,8 @@ use borrow.Author.Tests.{ne-eqb, eqb-true, ltb-true, leb-true}
 use lib.Dec.{ltb, leb, eqb}
 use lib.ListN.{length, getD, drop}
 use lib.Seq.{drop-cons}
-use Rattle.rules.specs.Limits.{offsetLimit}
-use Rattle.rules.specs.List.{rising}
-use Rattle.rules.specs.Questions.{termsOf, offsetsOf, allBelow, pairGood, wordsGood, offsetsGood, phraseGood, goodQuestion}
+use Rattle.rules.specs.Questions.{allBelow, pairGood, wordsGood, phraseGood, goodQuestion}
 use Rattle.listlaws.proofs.RisingLaws.{and-parts}
-use Rattle.questions.specs.Pairs.{Even}
 
 pub below-at : (T : ℕ) (xs : List ℕ) (i : ℕ) → i < length xs → allBelow T (drop i xs)
     ≡ ltb (getD xs i 0) T && allBelow T (drop (i + 1) xs)
@@ -81,15 +78,3 @@ words-parts T args e =
     let p = and-parts (leb 1 (length args)) (leb (length args) 8 && allBelow T args) e in
     let q = and-parts (leb (length args) 8) (allBelow T args) (p .1) in
     (leb-true 1 (length args) (p .0), leb-true (length args) 8 (q .0), q .1)
-
--- pairs of one to eight terms and offsets that rise from 0 on
-pub phrase-parts : (T : ℕ) (args : List ℕ) → phraseGood T args ≡ true → Even args
-    × (wordsGood T (termsOf args) ≡ true) × (getD (offsetsOf args) 0 0 ≡ 0)
-    × (rising 0 (offsetLimit + 1) (offsetsOf args) ≡ true)
-unfolding phraseGood offsetsGood
-phrase-parts T args e =
-    let k : ℕ = length (termsOf args) in
-    let p = and-parts (eqb (length args) (2 * k)) (wordsGood T (termsOf args) && offsetsGood (offsetsOf args)) e in
-    let q = and-parts (wordsGood T (termsOf args)) (offsetsGood (offsetsOf args)) (p .1) in
-    let r = and-parts (eqb (getD (offsetsOf args) 0 0) 0) (rising 0 (offsetLimit + 1) (offsetsOf args)) (q .1) in
-    (eqb-true (length args) (2 * k) (p .0), q .0, eqb-true (getD (offsetsOf args) 0 0) 0 (r .0), r .1)

@@ -1,6 +1,5 @@
 pub mod FrontLaws
 pub mod PlaceLaws
-pub mod PairLaws
 pub mod GoodLaws
 pub mod WroteLaws
 pub mod PhraseLaws

@@ -16,8 +16,8 @@ use Rattle.rules.specs.Questions.{wordsGood, phraseGood}
 use Rattle.rules.specs.Write.{laid}
 use Rattle.cardlaws.proofs.Theorems.{accepted-term}
 use Rattle.questions.specs.Wrote.{Wrote}
-use Rattle.questions.proofs.GoodLaws.{words-parts, phrase-parts}
-use Rattle.questions.proofs.PairLaws.{same-many}
+use Rattle.offsets.proofs.PairLaws.{phrase-parts, same-many}
+use Rattle.questions.proofs.GoodLaws.{words-parts}
 use Rattle.questions.proofs.PhraseLaws.{phrase-common}
 use Rattle.questions.proofs.WroteLaws.{wrote-whole, wrote-none}
 use Rattle.wordlists.specs.Opened.{OpenedPages}

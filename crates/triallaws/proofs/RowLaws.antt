@@ -11,8 +11,9 @@ use Rattle.rules.specs.declared.Refusal.the-variants.{Accepted}
 use Rattle.rules.specs.Common.{leadOf}
 use Rattle.rules.specs.Index.{indexT, indexRefusal}
 use Rattle.rules.specs.Questions.{listsIn, numbered, byPhrase, termsOf, phraseIn, wordsGood, phraseGood}
-use Rattle.questions.specs.Pairs.{Split}
-use Rattle.questions.proofs.GoodLaws.{words-parts, phrase-parts}
+use Rattle.offsets.specs.Pairs.{Split}
+use Rattle.offsets.proofs.PairLaws.{phrase-parts}
+use Rattle.questions.proofs.GoodLaws.{words-parts}
 use Rattle.wordlists.specs.Opened.{OpenedPages}
 use Rattle.openwords.specs.Slots.{Filled}
 use Rattle.triallaws.specs.Asked.{foundIn, offsetsIn, AskedIn, PhraseOpened}

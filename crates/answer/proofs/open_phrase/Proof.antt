@@ -4,7 +4,8 @@ use native.Mathlib.Omega.{arith}
 use borrow.Author.Needs.{needs}
 use lib.ListN.{drop, length-drop}
 use lib.Seq.{length-take-le}
-use Rattle.questions.proofs.GoodLaws.{words-parts, phrase-parts}
+use Rattle.offsets.proofs.PairLaws.{phrase-parts}
+use Rattle.questions.proofs.GoodLaws.{words-parts}
 use Rattle.triallaws.proofs.RowLaws.{pairs-ready, phrase-opened}
 use Rattle.answer.proofs.open_phrase.Statement.{statement}
 use Rattle.answer.proofs.open_phrase.Tie as tie

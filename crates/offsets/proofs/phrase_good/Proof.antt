@@ -4,10 +4,10 @@ use mathlib.Core.Path.{_≡_, sym, _∙_}
 use native.Mathlib.Omega.{arith}
 use borrow.Author.Needs.{needs}
 use lib.ListN.{length}
-use Rattle.questions.specs.Pairs.{Even}
-use Rattle.questions.proofs.PairLaws.{pairs-few, phrase-odd, phrase-out, phrase-late, phrase-pairs}
-use Rattle.questions.proofs.phrase_good.Statement.{statement}
-use Rattle.questions.proofs.phrase_good.Tie as tie
+use Rattle.offsets.specs.Pairs.{Even}
+use Rattle.offsets.proofs.PairLaws.{pairs-few, phrase-odd, phrase-out, phrase-late, phrase-pairs}
+use Rattle.offsets.proofs.phrase_good.Statement.{statement}
+use Rattle.offsets.proofs.phrase_good.Tie as tie
 
 -- no number is left over
 even : (c : tie.Else3) → Even (c .before .before .before .before .args .pairs .now)

@@ -10,10 +10,10 @@ use lib.Dec.{ltb, leb}
 use lib.ListN.{length, getD, drop}
 use lib.Seq.{drop-length}
 use Rattle.rules.specs.Limits.{offsetLimit}
-use Rattle.questions.specs.Pairs.{pairsGood}
-use Rattle.questions.proofs.PairLaws.{pairs-at}
-use Rattle.questions.proofs.pairs_good.Statement.{statement}
-use Rattle.questions.proofs.pairs_good.Tie as tie
+use Rattle.offsets.specs.Pairs.{pairsGood}
+use Rattle.offsets.proofs.PairLaws.{pairs-at}
+use Rattle.offsets.proofs.pairs_good.Statement.{statement}
+use Rattle.offsets.proofs.pairs_good.Tie as tie
 
 abbrev Inv-loop : tie.InvT-loop
 Inv-loop pairs t least₀ i₀ least i =

@@ -13,7 +13,8 @@ use lib.Seq.{drop-cons, ext-getD, getD-take, length-take-le, getD-set-same, getD
 use Rattle.rules.specs.Limits.{phraseLimit, offsetLimit}
 use Rattle.rules.specs.List.{rising}
 use Rattle.rules.specs.Questions.{termsOf, offsetsOf, allBelow, wordsGood, offsetsGood, phraseGood}
-use Rattle.questions.specs.Pairs.{pairsGood, Even, Split}
+use Rattle.listlaws.proofs.RisingLaws.{and-parts}
+use Rattle.offsets.specs.Pairs.{pairsGood, Even, Split}
 
 -- ---- how many there are
 
@@ -125,6 +126,18 @@ module _ (T : ℕ) (args : List ℕ) where
           first-offset,
           z,
         ) (sym (pairs-split T 0 args even))
+
+-- pairs of one to eight terms and offsets that rise from 0 on
+pub phrase-parts : (T : ℕ) (args : List ℕ) → phraseGood T args ≡ true → Even args
+    × (wordsGood T (termsOf args) ≡ true) × (getD (offsetsOf args) 0 0 ≡ 0)
+    × (rising 0 (offsetLimit + 1) (offsetsOf args) ≡ true)
+unfolding phraseGood offsetsGood
+phrase-parts T args e =
+    let k : ℕ = length (termsOf args) in
+    let p = and-parts (eqb (length args) (2 * k)) (wordsGood T (termsOf args) && offsetsGood (offsetsOf args)) e in
+    let q = and-parts (wordsGood T (termsOf args)) (offsetsGood (offsetsOf args)) (p .1) in
+    let r = and-parts (eqb (getD (offsetsOf args) 0 0) 0) (rising 0 (offsetLimit + 1) (offsetsOf args)) (q .1) in
+    (eqb-true (length args) (2 * k) (p .0), q .0, eqb-true (getD (offsetsOf args) 0 0) 0 (r .0), r .1)
 
 -- ---- terms and offsets put apart
 

@@ -4,9 +4,9 @@ use Prim.Native.Nat.{_+_, _*_, _-_, _<_}
 use native.Mathlib.Omega.{arith}
 use borrow.Author.Needs.{needs}
 use lib.ListN.{length}
-use Rattle.questions.proofs.PairLaws.{Apart, apart-none, apart-more, apart-all}
-use Rattle.questions.proofs.split_pairs.Statement.{statement}
-use Rattle.questions.proofs.split_pairs.Tie as tie
+use Rattle.offsets.proofs.PairLaws.{Apart, apart-none, apart-more, apart-all}
+use Rattle.offsets.proofs.split_pairs.Statement.{statement}
+use Rattle.offsets.proofs.split_pairs.Tie as tie
 
 abbrev Inv-loop : tie.InvT-loop
 Inv-loop pairs terms₀ offsets₀ i₀ terms offsets i = Apart pairs i terms offsets
