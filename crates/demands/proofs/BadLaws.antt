@@ -13,13 +13,14 @@ use lib.Seq.{drop-nil, getD-take}
 use Rattle.rules.specs.Limits.{phraseLimit, offsetLimit}
 use Rattle.rules.specs.List.{rising}
 use Rattle.rules.specs.Term.{inOrder}
-use Rattle.rules.specs.Questions.{termsOf, offsetsOf, allBelow, pairGood, wordsGood, offsetsGood, phraseGood, goodQuestion}
-use Rattle.rules.specs.Questions.{kindOf, countOf, argsOf, behind, wellFormed}
+use Rattle.rules.specs.Questions.{termsOf, offsetsOf, allBelow, pairGood, wordsGood, offsetsGood, phraseGood}
+use Rattle.rules.specs.Questions.{goodQuestion, kindOf, countOf, argsOf, behind, wellFormed}
 use Rattle.listlaws.proofs.RisingLaws.{and-parts}
 use Rattle.questions.specs.Formed.{formed}
 use Rattle.offsets.specs.Pairs.{Even}
 use Rattle.questions.proofs.FrontLaws.{formed-front}
-use Rattle.questions.proofs.GoodLaws.{good-pair, good-words, good-phrase, good-none, good-other, pair-parts, words-parts}
+use Rattle.questions.proofs.GoodLaws.{good-pair, good-words, good-phrase, good-none, good-other, pair-parts}
+use Rattle.questions.proofs.GoodLaws.{words-parts}
 use Rattle.offsets.proofs.PairLaws.{pairs-few, same-many}
 use Rattle.demands.specs.Faults.{NotBelow}
 use Rattle.demands.specs.BadQuestions.{termsAsked, OffsetFault, Bad, questionAt, SomeBad}
@@ -58,18 +59,20 @@ module _ (T : ℕ) (args : List ℕ) where
   offset-none : offsetsGood ds ≡ true → OffsetFault ds → ⊥
   unfolding offsetsGood
   offset-none e o =
-      let p = and-parts (eqb (getD ds 0 0) 0) (rising 0 (offsetLimit + 1) ds) e in
-      let q = and-parts (inOrder 0 ds) (allBelow (offsetLimit + 1) ds) (sym (rising-both 0 (offsetLimit + 1) ds) ∙ p .1) in
+      let U : ℕ = offsetLimit + 1 in
+      let p = and-parts (eqb (getD ds 0 0) 0) (rising 0 U ds) e in
+      let q = and-parts (inOrder 0 ds) (allBelow U ds) (sym (rising-both 0 U ds) ∙ p .1) in
       elim o [
         | inl a ↦ a .1 (eqb-true (getD ds 0 0) 0 (p .0))
         | inr (inl a) ↦ tests-order ds .1 (ap not (q .0)) a
-        | inr (inr a) ↦ tests-below (offsetLimit + 1) ds .1 (ap not (q .1)) a
+        | inr (inr a) ↦ tests-below U ds .1 (ap not (q .1)) a
       ]
 
   phrase-some : phraseGood T args ≡ false → (Twice → ⊥) ⊎ (NotBelow T ts ⊎ OffsetFault ds)
   unfolding phraseGood wordsGood
   phrase-some e =
-      go (eqb (length args) (2 * length ts)) refl (leb 1 (length ts)) refl (leb (length ts) phraseLimit) refl (allBelow T ts) refl
+      go (eqb (length args) (2 * length ts)) refl (leb 1 (length ts)) refl (leb (length ts) phraseLimit) refl
+      (allBelow T ts) refl
     where
       go : (a : Bool) → eqb (length args) (2 * length ts) ≡ a → (b : Bool) → leb 1 (length ts) ≡ b
           → (c : Bool) → leb (length ts) phraseLimit ≡ c → (d : Bool) → allBelow T ts ≡ d
@@ -265,7 +268,8 @@ module _ (T : ℕ) where
           && (goodQuestion T (kindOf (x ∷ qs)) (argsOf (x ∷ qs)) && formed T (behind (x ∷ qs))) ≡ false
           → (a : Bool) → leb (2 + countOf (x ∷ qs)) (length (x ∷ qs)) ≡ a
           → (b : Bool) → goodQuestion T (kindOf (x ∷ qs)) (argsOf (x ∷ qs)) ≡ b → SomeBad T (x ∷ qs)
-      go ih f false p b q = (0, omega arith, inr (inr (inr (inr (leb-false (2 + countOf (x ∷ qs)) (length (x ∷ qs)) p)))))
+      go ih f false p b q =
+          (0, omega arith, inr (inr (inr (inr (leb-false (2 + countOf (x ∷ qs)) (length (x ∷ qs)) p)))))
       go ih f true p false q =
           (0, omega arith, good-bad T (x ∷ qs) (leb-true (2 + countOf (x ∷ qs)) (length (x ∷ qs)) p) q)
       go ih f true p true q =

@@ -46,8 +46,8 @@ use Rattle.demands.proofs.AskLaws.{Reads, fits, reply-nothing, reply-ro
 use Rattle.demands.proofs.AskLaws.{written-formed}
 use Rattle.demands.proofs.KindLaws.{length-lists, states-T, pages-rise, may-ask, plain-answers, length-plain}
 use Rattle.demands.proofs.KindLaws.{common-told, common-lists, seeks-most, seeks-same, looks-most, counts-fit}
-use Rattle.demands.proofs.PhraseLaws.{paired-terms, paired-offsets, paired-length, may-pair, length-row, first-row}
-use Rattle.demands.proofs.PhraseLaws.{rising-row, row-answer, length-named}
+use Rattle.demands.proofs.PhraseLaws.{paired-terms, paired-offsets, paired-length, may-pair, length-named}
+use Rattle.demands.proofs.PhraseLaws.{length-row, first-row, rising-row, row-answer}
 use Rattle.demands.proofs.SameLaws.{begins-length, begins-times, times-twice, runs-twice}
 use Rattle.demands.proofs.PlainLaws.{rank-in, rank-past, bound-at, bound-none, bound-last, rank-length}
 use Rattle.demands.proofs.PlainLaws.{bound-length}
@@ -327,12 +327,14 @@ module _ (N : ℕ) (ts : List Word) (v : validCard N ts ≡ true) (room : List �
         let e = paired-terms terms offsets same in
         let f = paired-offsets terms offsets same in
         let g : goodQuestion (length ts) 4 (paired terms offsets) ≡ true =
-        good-phrase (length ts) 4 (paired terms offsets) refl ∙ may-pair (length ts) terms offsets same some few below first rises in
+        good-phrase (length ts) 4 (paired terms offsets) refl
+        ∙ may-pair (length ts) terms offsets same some few below first rises in
         let a = one-answered q g (rw (paired-length terms offsets same) p) (rw (e, f) l) in
         (a .0, rw (e, f) at (a .2))
 
     -- Offsets 0, 1, 2 and so on: the pages by the rule that word i stands at p + i.
-    pub in-a-row : HostAnswered (card N ts) (4 ∷ (2 * length terms ∷ paired terms (stepped (length terms) 0 1))) room r after
+    pub in-a-row :
+        HostAnswered (card N ts) (4 ∷ (2 * length terms ∷ paired terms (stepped (length terms) 0 1))) room r after
         → length (byRow (named ts terms)) ≤ length room
         → (r .refusal ≡ 0) × (after ≡ laid (byRow (named ts terms)) room)
     in-a-row p l =
@@ -340,8 +342,8 @@ module _ (N : ℕ) (ts : List Word) (v : validCard N ts ≡ true) (room : List �
         let n : length (named ts terms) ≡ k = length-named ts terms in
         let e : byPhrase (phraseOf (named ts terms) (stepped k 0 1)) ≡ byRow (named ts terms) =
         rw n at (row-answer (named ts terms)) in
-        rw e at (by-phrase (stepped k 0 1) (length-row k 0) (first-row k) (rising-row k 0 (offsetLimit + 1) (omega arith)) p
-        (rw e l))
+        let rises = rising-row k 0 (offsetLimit + 1) (omega arith) in
+        rw e at (by-phrase (stepped k 0 1) (length-row k 0) (first-row k) rises p (rw e l))
 
     abbrev ls : List (List ℕ)
     ls = pagesNamed ts terms

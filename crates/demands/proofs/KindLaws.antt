@@ -100,7 +100,9 @@ module _ (N : ℕ) (ts : List Word) (v : validCard N ts ≡ true) where
           | yes e ↦ rw (e, holds-pages (getD (q .numbers) 0 0) (of-pair (omega arith) (omega arith)))
           | no b ↦ elim (ℕ-discrete (q .kind) 3) [
             | yes e ↦ rw (e, states-N, holds-lists (q .numbers) (of-words e))
-            | no c ↦ rw (ne-eqb (q .kind) 1 a, ne-eqb (q .kind) 2 b, ne-eqb (q .kind) 3 c, holds-words (termsOf (q .numbers)) (of-phrase a b c))
+            | no c ↦
+                let f = ne-eqb (q .kind) 3 c in
+                rw (ne-eqb (q .kind) 1 a, ne-eqb (q .kind) 2 b, f, holds-words (termsOf (q .numbers)) (of-phrase a b c))
           ]
         ]
       ]

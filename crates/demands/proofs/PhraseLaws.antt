@@ -1,18 +1,17 @@
 -- Phrases as a host writes them: their pairs, and those of which no word is dropped.
-use mathlib.Core.Bool.{Bool, true, cond, _&&_}
-use mathlib.Core.Path.{_≡_, refl, sym, ap, _∙_}
-use mathlib.Core.List.{List, [], _∷_, _++_}
+use mathlib.Core.Bool.{Bool, true, _&&_}
+use mathlib.Core.Path.{_≡_, refl, ap, _∙_}
+use mathlib.Core.List.{List, [], _∷_}
 use Prim.Native.Nat.{ℕ, zero, suc, _+_, _*_, _≤_}
 use native.Mathlib.Nat.{add-zero}
 use native.Mathlib.Omega.{arith}
 use borrow.Author.Tests.{eq-eqb, le-leb, lt-ltb}
-use lib.Dec.{ltb}
 use lib.ListN.{length, getD}
 use Rattle.rules.specs.Limits.{offsetLimit}
 use Rattle.rules.specs.List.{rising}
 use Rattle.rules.specs.Term.{Word}
 use Rattle.rules.specs.Table.{stepped}
-use Rattle.rules.specs.Questions.{member, positionsOn, InPhrase, phraseOf, stands, startsAmong, starts, withStarts, numbered}
+use Rattle.rules.specs.Questions.{member, positionsOn, phraseOf, stands, startsAmong, starts, withStarts, numbered}
 use Rattle.rules.specs.Questions.{byPhrase, termsOf, offsetsOf, allBelow, wordsGood, offsetsGood, phraseGood}
 use Rattle.demands.specs.Asking.{named, paired}
 use Rattle.demands.specs.InRow.{standsInRow, amongInRow, startsInRow, pagesInRow, byRow}

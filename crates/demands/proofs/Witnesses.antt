@@ -27,10 +27,10 @@ use Rattle.rules.specs.Seek.{placeOf, bitsOf, cursorBit, startOf, looksTo, walk
 use Rattle.rules.specs.Seek.{fresh, rankOf, seek}
 use Rattle.rules.specs.Common.{leadFrom, leadOf, readersOf, before, stopped, agree, counted, nothing, rounds, common}
 use Rattle.rules.specs.Questions.{firstFrom, below, member, inAll, sharedBy, commonPages, positionsAmong, positionsOn}
-use Rattle.rules.specs.Questions.{phraseOf, stands, startsAmong, starts, withStarts, numbered, pagesIn, listsIn, wordsIn}
-use Rattle.rules.specs.Questions.{byRank, byBound, byCommon, byPhrase, termsOf, offsetsOf, phraseIn, answer, allBelow}
-use Rattle.rules.specs.Questions.{wordsGood, offsetsGood, phraseGood, goodQuestion, kindOf, countOf, argsOf, behind}
-use Rattle.rules.specs.Questions.{wellFormed, replies}
+use Rattle.rules.specs.Questions.{phraseOf, stands, startsAmong, starts, withStarts, numbered, pagesIn, listsIn}
+use Rattle.rules.specs.Questions.{wordsIn, byRank, byBound, byCommon, byPhrase, termsOf, offsetsOf, phraseIn, answer}
+use Rattle.rules.specs.Questions.{allBelow, wordsGood, offsetsGood, phraseGood, goodQuestion, kindOf, countOf, argsOf}
+use Rattle.rules.specs.Questions.{behind, wellFormed, replies}
 use Rattle.rules.specs.Ask.{fitting, fitted, reply, joined, put, ask}
 use Rattle.rules.specs.Table.{s1List, s9, s9Word}
 use Rattle.seeklaws.specs.Cursors.{answers, neverDown, ranks, belows}

@@ -1,7 +1,7 @@
--- What can be wrong with a question, in the words of document 01 and of request b: "an unknown kind, a wrong c, a term not
--- below T or a question cut short is 8" [01 Questions], and "the first offset is 0, offsets rise strictly, none is above
--- 255, and there are 1 to 8 pairs, so c is twice their number; anything else is 8" [02 b]. T words are asked; qs are the
--- numbers of a run from one question on.
+-- What can be wrong with a question, in the words of document 01 and of request b: "an unknown kind, a wrong c, a term
+-- not below T or a question cut short is 8" [01 Questions], and "the first offset is 0, offsets rise strictly, none is
+-- above 255, and there are 1 to 8 pairs, so c is twice their number; anything else is 8" [02 b]. T words are asked; qs
+-- are the numbers of a run from one question on.
 --
 --   UnknownKind qs    "an unknown kind"
 --   WrongCount qs     "a wrong c": not 2 in kinds 1 and 2, not 1 to 8 in kind 3, not twice 1 to 8 in kind 4

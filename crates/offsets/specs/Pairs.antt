@@ -1,6 +1,7 @@
 -- The pairs of a phrase, gone through from the front.
 --
---   pairsGood T b args  each pair is a term below T and an offset up to the limit, the first from b on and the next further on
+--   pairsGood T b args  each pair is a term below T and an offset up to the limit, the first from b on and each next
+--                       further than the one before
 --   Even args           no number is left over behind the pairs
 --   Split args ts ds    the first of the eight numbers ts are the terms of the pairs, and so are the offsets among ds
 use mathlib.Core.Bool.{Bool, true, false, _&&_}

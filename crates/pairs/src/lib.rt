@@ -8,7 +8,7 @@ ghost use mathlib.Core.List.{_∷_};
 ghost use Rattle.rules.specs.Questions.{numbered};
 ghost use Rattle.rules.specs.Write.{laid};
 ghost use Rattle.questions.specs.Wrote.{Wrote};
-ghost use Rattle.triallaws.specs.Asked.{foundIn, offsetsIn, AskedIn};
+ghost use Rattle.triallaws.specs.Asked.{foundBy, AskedIn};
 use querylaws::LENGTH;
 use querylaws::Query;
 use triallaws::COUNTS;
@@ -17,9 +17,9 @@ use walklaws::SPENT;
 // Lists the pairs behind the room's first number, as far as there is room, and counts their numbers.
 fn list_starts(card: &[u8], terms: &[u32], lists: &[u32], room: &mut [u32]) -> usize
     requires { ⌜ AskedIn (now card) (now terms) (now lists) × (0 < length (now room)) ⌝ }
-    ensures { λ r. ⌜ (r ≡ length (foundIn (now (card .entry)) (now (terms .entry)) (offsetsIn (now (lists .entry))))) × (r < 2 ^ 32)
-        × (r < length (now (room .entry)) → now (room .exit)
-        ≡ laid (0 ∷ foundIn (now (card .entry)) (now (terms .entry)) (offsetsIn (now (lists .entry)))) (now (room .entry))) ⌝ }
+    ensures { λ r. ⌜ (r ≡ length (foundBy (now (card .entry)) (now (terms .entry)) (now (lists .entry))))
+        × (r < 2 ^ 32) × (r < length (now (room .entry)) → now (room .exit)
+        ≡ laid (0 ∷ foundBy (now (card .entry)) (now (terms .entry)) (now (lists .entry))) (now (room .entry))) ⌝ }
 {
     room[0] = 0;
     let mut q = Query::new();
@@ -42,7 +42,7 @@ fn list_starts(card: &[u8], terms: &[u32], lists: &[u32], room: &mut [u32]) -> u
 // Whether the answer fits so many numbers; it is counted only where two numbers for each page of the lead may not fit.
 fn fits(card: &[u8], terms: &[u32], lists: &[u32], size: usize) -> bool
     requires { ⌜ AskedIn (now card) (now terms) (now lists) ⌝ }
-    ensures { λ r. ⌜ r ≡ ltb (length (foundIn (now (card .entry)) (now (terms .entry)) (offsetsIn (now (lists .entry))))) size ⌝ }
+    ensures { λ r. ⌜ r ≡ ltb (length (foundBy (now (card .entry)) (now (terms .entry)) (now (lists .entry)))) size ⌝ }
 {
     if 2 * rows::number(&lists[0..COUNTS], 0, LENGTH) < size {
         return true;
@@ -54,8 +54,7 @@ fn fits(card: &[u8], terms: &[u32], lists: &[u32], size: usize) -> bool
 // Puts the pairs, with the number of their numbers before them, at the front of the room; 0 where they do not fit.
 pub fn put_starts(card: &[u8], terms: &[u32], lists: &[u32], room: &mut [u32]) -> usize
     requires { ⌜ AskedIn (now card) (now terms) (now lists) ⌝ }
-    ensures { λ r. ⌜ Wrote
-        (numbered (foundIn (now (card .entry)) (now (terms .entry)) (offsetsIn (now (lists .entry)))))
+    ensures { λ r. ⌜ Wrote (numbered (foundBy (now (card .entry)) (now (terms .entry)) (now (lists .entry))))
         (now (room .entry)) r (now (room .exit)) ⌝ }
 {
     if !fits(card, terms, lists, room.len()) {

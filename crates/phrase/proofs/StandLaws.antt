@@ -1,4 +1,4 @@
--- Laws of seeking a position: what passing a word's elements leaves, and what the word tells by where reading stands then.
+-- Laws of seeking a position: what passing a word's elements leaves, and what where reading stands then tells.
 use mathlib.Core.Bool.{Bool, true, false}
 use mathlib.Core.Path.{_≡_, refl, sym, ap, _∙_}
 use mathlib.Core.List.{List}
@@ -83,7 +83,8 @@ module _ (s sh ws : List ℕ) (b i : ℕ) (r : Bool) (after : List ℕ)
       (none-left (partAt s sh i) (shapeIn sh i) (endIn after i) least (positionWalk after i) (p .ready .passing)
       (p .ready .short) l (p .all l) (baseIn after i + d) (omega (arith, same)))
 
-  module _ (found : least < positionWalk after i .past) (n : ℕ) (is : n ≡ positionWalk after i .past - 1 - baseIn ws i) where
+  module _ (found : least < positionWalk after i .past) (n : ℕ)
+      (is : n ≡ positionWalk after i .past - 1 - baseIn ws i) where
     -- the first position from there on, and none before
     word-has : (b ≤ n) × (n < limit) × (member n (pageAt s sh after i) ≡ true)
     unfolding pageAt shapeIn

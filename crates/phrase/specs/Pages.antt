@@ -4,8 +4,8 @@
 --   pageAt s sh ws i    the positions of word i on the page
 --   Ready s sh ws i b   no element of word i at least b is passed but for the last, and none behind the page
 --   PassedOn s sh ws i b r after  what passing word i's elements up to b leaves; r: whether the page has one from b on
---   Sought s sh ws i b r after  what seeking a position of word i leaves: r is the page's first from b on, or 2 ^ 32 where
---                       there is none
+--   Sought s sh ws i b r after  what seeking a position of word i leaves: r is the page's first from b on, or 2 ^ 32
+--                       where there is none
 use mathlib.Core.Bool.{Bool, true, false}
 use mathlib.Core.Path.{_≡_}
 use mathlib.Core.List.{List}

@@ -1,5 +1,5 @@
 -- Which questions may be asked: a law for each way through the tests.
-use mathlib.Core.Bool.{true, false, _&&_, _||_}
+use mathlib.Core.Bool.{true, false, _&&_}
 use mathlib.Core.Path.{_≡_}
 use mathlib.Core.List.{List}
 use Prim.Native.Nat.{ℕ, _+_, _≤_, _<_}

@@ -11,8 +11,8 @@ use Rattle.rules.specs.declared.Refusal.the-variants.{Accepted}
 use Rattle.rules.specs.Common.{leadOf}
 use Rattle.rules.specs.Index.{indexT, indexRefusal}
 use Rattle.rules.specs.Term.{Word}
-use Rattle.rules.specs.Questions.{listsIn, numbered, wordsIn, byPhrase, InPhrase, phraseOf, termsOf, offsetsOf, phraseIn}
-use Rattle.rules.specs.Questions.{wordsGood, phraseGood}
+use Rattle.rules.specs.Questions.{listsIn, numbered, wordsIn, byPhrase, InPhrase, phraseOf, termsOf, offsetsOf}
+use Rattle.rules.specs.Questions.{phraseIn, wordsGood, phraseGood}
 use Rattle.rules.specs.Write.{laid}
 use Rattle.cardlaws.proofs.Theorems.{accepted-term}
 use Rattle.questions.specs.Wrote.{Wrote}

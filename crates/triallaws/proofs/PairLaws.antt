@@ -6,7 +6,7 @@ use Prim.Native.Nat.{ℕ, zero, suc, _+_, _-_, _*_, _^_, _≤_, _<_}
 use native.Mathlib.Omega.{arith}
 use borrow.Author.Tests.{lt-ltb}
 use lib.Dec.{ltb}
-use lib.ListN.{length, set, drop, length-set, length-append, length-drop}
+use lib.ListN.{length, set, length-append}
 use Rattle.rules.specs.Common.{Tally, counted}
 use Rattle.rules.specs.Questions.{InPhrase, starts, withStarts}
 use Rattle.rules.specs.Write.{laid}
@@ -22,7 +22,7 @@ use Rattle.querylaws.proofs.ListingLaws.{Partway, partway-start, partway-few, p
 use Rattle.querylaws.specs.Listings.{wholeIn}
 use Rattle.openlists.proofs.FewLaws.{whole-few}
 use Rattle.wordlists.proofs.OpenLaws.{opened-listed}
-use Rattle.questions.proofs.WroteLaws.{laid-snoc, laid-first}
+use Rattle.questions.proofs.WroteLaws.{laid-first}
 use Rattle.trial.specs.Tries.{pairOf, Paired}
 use Rattle.triallaws.specs.Asked.{phraseAt, foundIn, newWords, Asked, Ahead}
 use Rattle.triallaws.proofs.PageLaws.{ahead-new}

@@ -5,8 +5,9 @@ use mathlib.Core.List.{List, [], _++_, append-nil}
 use Prim.Native.Nat.{ℕ, _+_, _-_, _≤_, _<_}
 use native.Mathlib.Omega.{arith}
 use borrow.Rule.Slice.PartMut.{postOf, putMid, same-len-mid, drop-put}
-use lib.ListN.{length, getD, take, drop, set, length-set, length-take, length-drop, take-append-drop, drop-of-length-le}
-use lib.Seq.{length-take-le, take-append-le, drop-append-le, take-at, drop-at, take-set-le, drop-set-lt, getD-set-same, drop-drop, getD-take}
+use lib.ListN.{length, getD, take, drop, set, length-set, length-drop, take-append-drop, drop-of-length-le}
+use lib.Seq.{length-take-le, take-append-le, drop-append-le, take-at, drop-at}
+use lib.Seq.{take-set-le, drop-set-lt, getD-set-same, drop-drop, getD-take}
 use Rattle.rules.specs.declared.Refusal.the-variants.{Accepted}
 use Rattle.rules.specs.Common.{leadOf}
 use Rattle.rules.specs.Index.{indexT, indexRefusal}
@@ -65,7 +66,7 @@ module _ (a : ℕ) (l ys : List ℕ) (within : a + 64 ≤ length l) (full : leng
 
 -- ---- the offsets put
 
-pub row-offsets : (l ds : List ℕ) → length l ≡ 201 → length ds ≡ 8 → (length (putMid 193 8 l ds) ≡ 201)
+row-offsets : (l ds : List ℕ) → length l ≡ 201 → length ds ≡ 8 → (length (putMid 193 8 l ds) ≡ 201)
     × (offsetsIn (putMid 193 8 l ds) ≡ ds)
 row-offsets l ds n m =
     let rest : postOf 193 8 l ≡ [] =
@@ -107,7 +108,8 @@ row-asked s ts a g l pg ct ps lead n f e x y z =
     let positions : window 128 l₄ ≡ ps = kept 128 (omega arith) ∙ put-here 128 l₂ ps (omega arith) full₃ in
     let offsets : drop 193 l₄ ≡ drop 193 l =
     drop-set-lt 193 l₃ 192 lead (omega arith) ∙ put-behind 128 l₂ ps (omega arith) full₃ 193 (omega arith)
-    ∙ put-behind 64 l₁ ct (omega arith) full₂ 193 (omega arith) ∙ put-behind 0 l pg (omega arith) full₁ 193 (omega arith) in (
+    ∙ put-behind 64 l₁ ct (omega arith) full₂ 193 (omega arith)
+    ∙ put-behind 0 l pg (omega arith) full₁ 193 (omega arith) in (
       record {
         row = n₄;
         asked =

@@ -145,8 +145,8 @@ module _ (s ts : List ℕ) (lead : ℕ) (pg ct ps : List ℕ) (a : Asked s ts le
                 (baseIn after j + (n + getD ds j 0)) (omega arith)
                 (elim (ℕ-discrete j i) [
                   | yes e ↦ rw e (t .ready)
-                  | no e ↦ rw (v .1) (ready-same s ps ws after j (baseIn ws j + (at .start + getD ds j 0)) (t .ready .room)
-                      (same j e .positions) (v .2) (u .ready))
+                  | no e ↦ rw (v .1) (ready-same s ps ws after j (baseIn ws j + (at .start + getD ds j 0))
+                      (t .ready .room) (same j e .positions) (v .2) (u .ready))
                 ]);
           }
 
@@ -230,8 +230,8 @@ module _ (s ts : List ℕ) (lead : ℕ) (pg ct ps : List ℕ) (a : Asked s ts le
                     (goes-on (at .start) (at .standing + 1) (at .count) (omega arith) (y .small) h (omega arith)
                     (all-stand e) (y .counted))
                 | no h ↦ rw (eq-eqb next (at .start) e, le-ltb (at .standing + 1) k (omega arith))
-                    (goes-on (at .start + 1) 0 (at .count + 1) (omega arith) (omega (arith, f .2)) (omega (arith, y .some))
-                    (omega arith) (λ j l g. absurd (omega arith))
+                    (goes-on (at .start + 1) 0 (at .count + 1) (omega arith) (omega (arith, f .2))
+                    (omega (arith, y .some)) (omega arith) (λ j l g. absurd (omega arith))
                     (ap (λ (c : ℕ). c + 1) (y .counted) ∙ sym (below-found phrase p (at .start) (all-there e h))))
               ]
               | no e ↦ rw (ne-eqb next (at .start) e)

@@ -2,6 +2,7 @@
 --
 --   phraseAt s ts ds    the words ts of the card s as a phrase, with their offsets ds
 --   foundIn s ts ds     the pairs of pages and starts of that phrase
+--   foundBy s ts ls     so they are with the offsets of the row ls
 --   newWords            reading of eight words of which no element is passed
 --   pagesIn ls, countsIn ls, positionsIn ls  the numbers of the lists of pages, of counts and of positions in the row ls
 --   leadIn ls           the number of the word whose pages lead, behind them
@@ -9,8 +10,8 @@
 --   Asked s ts lead pg ct ps  the lists of the words ts: the pages with those of word number lead first, counts and positions
 --                       each in its word's slot
 --   AskedIn s ts ls     so it is by the row ls of their numbers, and the first word has offset 0
---   PhraseOpened s args k ts ls  the first k numbers of ts are the terms of the pairs args, and by the row ls their lists
---                       are opened, with their offsets
+--   PhraseOpened s args k ts ls  the first k numbers of ts are the terms of the pairs args, and by the row ls their
+--                       lists are opened, with their offsets
 --   OnAll s ts pg q p   the cursor of each list of pages is on page p
 --   AheadOf s ts ct ps ws b i  of word i's counts and positions nothing of a page from b on is passed; reading stands where
 --                       ws says
@@ -20,14 +21,13 @@
 --   positionsHere s ts p i  the positions of word i on page p
 --   TurnedTo s ts ct ps p b ws i  word i is turned to page p, ws has its span there, and reading stands ready for a
 --                       position at b or behind it
---   Trying s ts ds lead ct ps p at ws  counting the starts on page p stands at `at`: the words of the first slots are turned
---                       to the page and the others have it ahead, some stand, and the starts before are counted
+--   Trying s ts ds lead ct ps p at ws  counting the starts on page p stands at `at`: the words of the first slots are
+--                       turned to the page and the others have it ahead, some stand, and the starts before are counted
 --   TryingIn s ts ls p at ws  so it is by the row ls
-use mathlib.Core.Bool.{true, cond, not}
+use mathlib.Core.Bool.{true}
 use mathlib.Core.Path.{_≡_}
-use mathlib.Core.List.{List, [], _∷_, _++_}
+use mathlib.Core.List.{List}
 use Prim.Native.Nat.{ℕ, _+_, _-_, _^_, _≤_, _<_}
-use lib.Dec.{eqb, ltb}
 use lib.ListN.{length, getD, take, drop, replicate}
 use Rattle.rules.specs.declared.Refusal.the-variants.{Accepted}
 use Rattle.rules.specs.Limits.{limit}
@@ -37,7 +37,6 @@ use Rattle.rules.specs.Index.{termPart}
 use Rattle.rules.specs.Common.{leadOf}
 use Rattle.rules.specs.Questions.{member, positionsOn, InPhrase, phraseOf, starts, withStarts, commonPages, listsIn}
 use Rattle.rules.specs.Questions.{wordsIn, termsOf, offsetsOf}
-use Rattle.rules.specs.Write.{laid}
 use Rattle.commonlaws.specs.Readers.{OnPage}
 use Rattle.querylaws.specs.declared.Query.{Query}
 use Rattle.querylaws.specs.declared.Turn.{Turn}
@@ -80,6 +79,9 @@ leadIn ls = getD ls 192 0
 
 abbrev pub offsetsIn : List ℕ → List ℕ
 offsetsIn ls = drop 193 ls
+
+abbrev pub foundBy : List ℕ → List ℕ → List ℕ → List ℕ
+foundBy s ts ls = foundIn s ts (offsetsIn ls)
 
 pub record Asked (s ts : List ℕ) (lead : ℕ) (pg ct ps : List ℕ) : Type 0 where
   pub accepts : (i : ℕ) → i < length ts → termRefusal (termAt s ts i) ≡ Accepted

@@ -40,10 +40,14 @@ open-row-requires c κs =
     let r = pairs-ready _ _ (b .pre .1) _ _ (e .0) _ (b .args .lists .now) (e .1) (b .pre .3) in
     (b .pre .0, r .0, r .1, r .2)
 
+-- where the pairs were put apart, seen from the end
+abbrev apart : tie.After-slice-known5 → tie.After-split-pairs
+apart c = c .before .before .before .before .before .before .before .before .before .before
+
 returns : tie.Need-returns
 returns c =
     let o = c .before .before .open-row .ensures in
-    let t = c .before .before .before .before .before .before .before .before .before .before in
+    let t = apart c in
     let b = start t in
     let e = t .split-pairs .ensures in
     phrase-opened _ _ (b .pre .1) _ _ (e .0) _ (b .args .lists .now) (e .1) (b .pre .3) _ (o .0) (o .1)
@@ -60,6 +64,6 @@ open-phrase-spec =
     (λ c. search needs)
     few
     open-row-requires
-    (λ c. returns c .eight ∙ sym (start (c .before .before .before .before .before .before .before .before .before .before) .pre .2))
-    (λ c. returns c .asked .row ∙ sym (start (c .before .before .before .before .before .before .before .before .before .before) .pre .3))
+    (λ c. returns c .eight ∙ sym (start (apart c) .pre .2))
+    (λ c. returns c .asked .row ∙ sym (start (apart c) .pre .3))
     returns)

@@ -17,17 +17,27 @@ find-terms-requires c κs =
     let ts = b .args .terms .now in
     (b .pre .0, word-below T ts (b .pre .1), words-parts T ts (b .pre .1) .1)
 
+-- where the lists of counts and the pages were opened, seen from the end
+abbrev counts : tie.After-slice-known4 → tie.After-open-words
+counts c = c .before .before .before .before .before .before .before
+
+abbrev pages : tie.After-slice-known4 → tie.After-open-found
+pages c = counts c .before .before .before .before .before
+
+abbrev start : tie.After-slice-known4 → tie.Start
+start c = pages c .before .before .before .before .before .before .before .before .before
+
 cast-lists : tie.Need-cast-lists
 cast-lists c =
-    let o = c .before .before .before .before .before .before .before .before .before .before .before .before .open-found .ensures in
+    let o = pages c .open-found .ensures in
     omega (arith, lead-within _ _ _ (o .1) _ (o .0), o .1 .lists .few)
 
 returns : tie.Need-returns
 returns c =
-    let b = c .before .before .before .before .before .before .before .before .before .before .before .before .before .before .before .before .before .before .before .before .before in
-    let o = c .before .before .before .before .before .before .before .before .before .before .before .before .open-found .ensures in
-    row-asked _ _ (b .pre .0) (b .pre .1) (b .args .lists .now) _ _ _ _ (b .pre .2) (b .pre .3) (o .0) (o .1) (c .before .before .before .before .before .before .before .open-words .ensures)
-    (c .before .before .open-words2 .ensures)
+    let b = start c in
+    let o = pages c .open-found .ensures in
+    row-asked _ _ (b .pre .0) (b .pre .1) (b .args .lists .now) _ _ _ _ (b .pre .2) (b .pre .3) (o .0) (o .1)
+    (counts c .open-words .ensures) (c .before .before .open-words2 .ensures)
 
 pub open-row-spec : {M : Type 1} → statement M
 open-row-spec =
@@ -52,5 +62,5 @@ open-row-spec =
     (λ c κs. search needs)
     cast-lists
     (λ c. search needs)
-    (λ c. returns c .0 .row ∙ sym (c .before .before .before .before .before .before .before .before .before .before .before .before .before .before .before .before .before .before .before .before .before .pre .2))
+    (λ c. returns c .0 .row ∙ sym (start c .pre .2))
     returns)

@@ -114,7 +114,8 @@ pairs-good-spec =
     (λ c. omega (arith, c .shared-slice-known2 .given (c .before .before .before .before .loop .i + 1)))
     returns-2
     returns-3
-    (λ c. omega (arith, c .before .before .shared-slice-known2 .given (c .before .before .before .before .before .before .loop .i + 1)))
+    (λ c. let e = c .before .before in
+    omega (arith, e .shared-slice-known2 .given (e .before .before .before .before .loop .i + 1)))
     (λ c. omega (arith, whole (c .before .before .before .before .before)))
     (λ c. omega (arith, whole (c .before .before .before .before .before)))
     loop-again

@@ -1,9 +1,8 @@
 -- `phrase_good` tests the number of numbers, the first offset, and then each pair.
 use mathlib.Core.Logic.{inl, inr}
-use mathlib.Core.Path.{_≡_, sym, _∙_}
+use mathlib.Core.Path.{sym, _∙_}
 use native.Mathlib.Omega.{arith}
 use borrow.Author.Needs.{needs}
-use lib.ListN.{length}
 use Rattle.offsets.specs.Pairs.{Even}
 use Rattle.offsets.proofs.PairLaws.{pairs-few, phrase-odd, phrase-out, phrase-late, phrase-pairs}
 use Rattle.offsets.proofs.phrase_good.Statement.{statement}

@@ -2,7 +2,6 @@
 use mathlib.Core.Path.{sym, _∙_}
 use Prim.Native.Nat.{_+_, _*_, _-_, _<_}
 use native.Mathlib.Omega.{arith}
-use borrow.Author.Needs.{needs}
 use lib.ListN.{length}
 use Rattle.offsets.proofs.PairLaws.{Apart, apart-none, apart-more, apart-all}
 use Rattle.offsets.proofs.split_pairs.Statement.{statement}

@@ -10,7 +10,9 @@ use Rattle.pairs.proofs.fits.Statement.{statement}
 use Rattle.pairs.proofs.fits.Tie as tie
 
 mul-if1 : tie.Need-mul-if1
-mul-if1 c = omega (arith, c .number .ensures, found-few _ _ _ _ _ _ (c .before .before .before .before .before .pre .asked) (offsetsIn (c .before .before .before .before .before .args .lists .now)) .1)
+mul-if1 c =
+    let b = c .before .before .before .before .before in
+    omega (arith, c .number .ensures, found-few _ _ _ _ _ _ (b .pre .asked) (offsetsIn (b .args .lists .now)) .1)
 
 returns : tie.Need-returns
 returns c =

@@ -16,8 +16,8 @@ use Rattle.pairs.proofs.list_starts.Tie as tie
 abbrev Inv-loop : tie.InvT-loop
 Inv-loop card terms lists room₀ q₀ words₀ page₀ b₀ found₀ room q words page b found =
     (a : AskedIn card terms lists)
-    × Going card terms (leadIn lists) (pagesIn lists) (countsIn lists) (positionsIn lists) room₀ (a .asked) (offsetsIn lists) q words b
-    found room × (length page ≡ 1)
+    × Going card terms (leadIn lists) (pagesIn lists) (countsIn lists) (positionsIn lists) room₀ (a .asked)
+    (offsetsIn lists) q words b found room × (length page ≡ 1)
 
 abbrev μ-loop : tie.MeasureT-loop
 μ-loop card terms lists room₀ q₀ words₀ page₀ b₀ found₀ room q words page b found = leftIn b (leadReader card (pagesIn lists) q)
@@ -48,7 +48,8 @@ returns c =
     let g = l .inv .1 in
     let a = l .inv .0 .asked in
     let e =
-    going-end _ _ _ _ _ _ _ a _ (l .q) (l .words) (l .b) (l .found) (l .room) g (n .batch .result) (turned n) (c .if1 .taken) in (
+    going-end _ _ _ _ _ _ _ a _ (l .q) (l .words) (l .b) (l .found) (l .room) g (n .batch .result) (turned n)
+    (c .if1 .taken) in (
       e .0,
       omega (arith, going-few _ _ _ _ _ _ _ a _ (l .q) (l .words) (l .b) (l .found) (l .room) g),
       λ h. e .1 (rw (← e .0, length-set room 0 0) h) ∙ laid-zero _ room,
@@ -99,8 +100,9 @@ loop-again c =
     let g = l .inv .1 in
     let put = c .before .before .before .before .put-pair .ensures _ (sym (g .found-is)) in (
       l .inv .0,
-      going-on _ _ _ _ _ _ _ (l .inv .0 .asked) _ (l .q) (l .words) (l .b) (l .found) (l .room) g (n .batch .result) (turned n)
-          (c .before .before .before .before .before .before .before .before .before .before .if1 .left) (p .result) _ (p .ensures .0) (p .ensures .2) _ _ put,
+      going-on _ _ _ _ _ _ _ (l .inv .0 .asked) _ (l .q) (l .words) (l .b) (l .found) (l .room) g (n .batch .result)
+          (turned n) (c .before .before .before .before .before .before .before .before .before .before .if1 .left)
+          (p .result) _ (p .ensures .0) (p .ensures .2) _ _ put,
       batched-long _ _ _ (l .q) (l .b) (l .page) (n .batch .result) _ (n .batch .ensures) ∙ l .inv .2,
     )
 

@@ -6,14 +6,14 @@ use native.Mathlib.Omega.{arith}
 use borrow.Author.Needs.{needs}
 use borrow.Author.Tests.{ltb-true, not-true, not-false}
 use lib.ListN.{length}
-use Rattle.triallaws.specs.Asked.{foundIn, offsetsIn}
+use Rattle.triallaws.specs.Asked.{foundBy}
 use Rattle.triallaws.proofs.AnswerLaws.{found-none, found-whole, laid-some}
 use Rattle.pairs.proofs.put_starts.Statement.{statement}
 use Rattle.pairs.proofs.put_starts.Tie as tie
 
 -- what the phrase finds
 abbrev found : tie.Start → List ℕ
-found c = foundIn (c .args .card .now) (c .args .terms .now) (offsetsIn (c .args .lists .now))
+found c = foundBy (c .args .card .now) (c .args .terms .now) (c .args .lists .now)
 
 abbrev start : tie.After-fits2 → tie.Start
 start c = c .before .before .before .before .before

@@ -54,7 +54,8 @@ returns c =
 -- the word stands at the bound or behind it
 beyond : (c : tie.Else1)
     → let a = c .before .before .before .before .before .before .before .before .before .args in
-    baseIn (a .words .now) (a .i) + a .b < getD (c .before .before .before .pass-on .last .1 .1 .1 .1 .0) (8 * a .i + 3 + 1) 0
+    baseIn (a .words .now) (a .i) + a .b
+    < getD (c .before .before .before .pass-on .last .1 .1 .1 .1 .0) (8 * a .i + 3 + 1) 0
 beyond c =
     let p = c .before .before .before .pass-on in
     ltb-true _ _ (sym (p .ensures .found) ∙ not-false _ (c .if1 .left))
@@ -81,7 +82,8 @@ position-from-spec =
     (λ c. places (start (c .before .before .before) .pre .0 .few) .number _ (lit< tt))
     (λ c. places (start (c .before .before .before) .pre .0 .few) .past)
     (λ c. places (start (c .before .before .before) .pre .0 .few) .past-byte)
-    (λ c. let p = c .before .before .before .before in past-in (start p .pre .0 .few) (p .pass-on .ensures .ready .room))
+    (λ c. let p = c .before .before .before .before in
+    past-in (start p .pre .0 .few) (p .pass-on .ensures .ready .room))
     (λ c. omega (arith, beyond (c .before)))
     (λ c. omega (arith, beyond (c .before)))
     (λ c. same-length (c .before .before .before .before))

@@ -4,7 +4,7 @@ use mathlib.Core.List.{List}
 use Prim.Native.Nat.{ℕ, _+_, _-_, _^_, _<_}
 use native.Mathlib.Omega.{arith}
 use borrow.Author.Needs.{needs}
-use lib.ListN.{length, getD, length-drop}
+use lib.ListN.{getD, length-drop}
 use lib.Seq.{getD-drop}
 use Rattle.openlists.specs.Places.{sourceOf}
 use Rattle.turning.specs.Words.{baseIn, BlockAt}
@@ -74,8 +74,9 @@ position-from-requires c κs =
     let b = start (turned s) in
     let y = turned s .turn-next .ensures in
     let small = k .shared-slice-known5 .given (193 + s .source-of .result) in
-    ready-so (b .args .lists .now) (turned s .turn-next .result .start) e
-    (seek-ready _ _ _ _ _ _ (b .pre .0 .asked) _ _ _ _ (y .0) (y .1) (omega (arith, offset-at (b .args .lists .now) e, small)))
+    let ls = b .args .lists .now in
+    ready-so ls (turned s .turn-next .result .start) e
+    (seek-ready _ _ _ _ _ _ (b .pre .0 .asked) _ _ _ _ (y .0) (y .1) (omega (arith, offset-at ls e, small)))
 
 -- the position that was sought
 sought : (c : tie.After-position-from Inv-loop μ-loop)
@@ -131,7 +132,8 @@ loop-less c =
     let t = trial e in
     let a = start t .pre .0 .asked in
     let y = t .turn-next .ensures in
-    let l = trying-less _ _ _ _ _ _ a _ _ _ _ (y .0) (y .1) _ _ (sought (seek e)) (e .if1 .left) (a .pages .lists .few) in
+    let few = a .pages .lists .few in
+    let l = trying-less _ _ _ _ _ _ a _ _ _ _ (y .0) (y .1) _ _ (sought (seek e)) (e .if1 .left) few in
     rw (c .tried .ensures, same-offset e) (omega (arith, l, y .2, y .3))
 
 loop-again : tie.Need-loop-again Inv-loop μ-loop
@@ -162,9 +164,11 @@ count-starts-spec =
     (λ c. search needs)
     (λ c. search needs)
     (λ c. let k = c .before .before in
-    omega (arith, turned (k .before) .turn-next .ensures .0 .small, k .shared-slice-known5 .given (193 + k .before .source-of .result)))
+    let small = k .shared-slice-known5 .given (193 + k .before .source-of .result) in
+    omega (arith, turned (k .before) .turn-next .ensures .0 .small, small))
     position-from-requires
-    (λ c. let s = c .before .before .before in s .position-from .ensures .ready .room ∙ sym (start (turned (source s)) .pre .2 .room))
+    (λ c. let s = c .before .before .before in
+    s .position-from .ensures .ready .room ∙ sym (start (turned (source s)) .pre .2 .room))
     returns
     sub-tried
     tried-requires

@@ -93,8 +93,8 @@ returns-2 c =
     let n = next (source t) in
     let y = b .pre .2 in
     let e = rw (ranked (rank t)) at (t .ranks-at .ensures) in (
-      trying-turned _ _ _ _ _ _ (b .pre .0 .asked) _ _ (b .pre .1) _ (n .0) (t .ranks-at .result) (e .0) _ _ (e .1) _ _ _ y
-          (n .1 ∙ n .2) (c .before .before .before .turn-to .ensures),
+      trying-turned _ _ _ _ _ _ (b .pre .0 .asked) _ _ (b .pre .1) _ (n .0) (t .ranks-at .result) (e .0) _ _ (e .1)
+          _ _ _ y (n .1 ∙ n .2) (c .before .before .before .turn-to .ensures),
       omega (arith, y .order),
       refl,
       refl,
