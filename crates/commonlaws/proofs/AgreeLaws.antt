@@ -9,7 +9,7 @@ use borrow.Author.Tests.{lt-ltb, le-ltb}
 use lib.ListN.{length, getD}
 use Rattle.rules.specs.Seek.{Found, none, page, Sought, seek}
 use Rattle.rules.specs.Common.{Reader, Ended, agreed, exhausted, larger, Round, before, stopped, agree}
-use Rattle.rules.specs.Questions.{firstFrom, member, inAll}
+use Rattle.rules.specs.Plain.{firstFrom, member, inAll}
 use Rattle.seeklaws.specs.Cursors.{firstAt}
 use Rattle.seeklaws.proofs.FirstLaws.{firstAt-at}
 use Rattle.seeklaws.proofs.SeekLaws.{seek-first, seek-placed, seek-behind, behind-more, cursorAt-on}

@@ -12,7 +12,7 @@ use lib.ListN.{length, getD}
 use Rattle.rules.specs.List.{rising}
 use Rattle.rules.specs.Seek.{fresh}
 use Rattle.rules.specs.Common.{readersOf, common}
-use Rattle.rules.specs.Questions.{member, inAll, sharedBy, commonPages}
+use Rattle.rules.specs.Plain.{member, inAll, sharedBy, commonPages}
 use Rattle.listlaws.proofs.RisingLaws.{rising-parts}
 use Rattle.seeklaws.proofs.SeekLaws.{behind-fresh}
 use Rattle.commonlaws.specs.Readers.{pagesOf, Rise, Ready, AllReady, reachedBy, wordsOf}

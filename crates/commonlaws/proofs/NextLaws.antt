@@ -11,7 +11,7 @@ use lib.ListN.{length, getD}
 use Rattle.rules.specs.List.{rising}
 use Rattle.rules.specs.Seek.{Found, none, page}
 use Rattle.rules.specs.Common.{Reader, Tally, counted, nothing}
-use Rattle.rules.specs.Questions.{firstFrom}
+use Rattle.rules.specs.Plain.{firstFrom}
 use Rattle.seeklaws.specs.Cursors.{firstAt, foundAt}
 use Rattle.seeklaws.proofs.FirstLaws.{firstAt-self, firstAt-le, first-found, foundAt-none}
 use Rattle.commonlaws.specs.Readers.{pagesOf, Ready, AllReady}

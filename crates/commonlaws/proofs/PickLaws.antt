@@ -12,7 +12,7 @@ use lib.ListN.{length, getD, take, drop, length-drop}
 use lib.Seq.{getD-drop, drop-drop}
 use Rattle.rules.specs.List.{rising}
 use Rattle.rules.specs.Common.{leadFrom, leadOf}
-use Rattle.rules.specs.Questions.{member, inAll}
+use Rattle.rules.specs.Plain.{member, inAll}
 use Rattle.commonlaws.specs.Readers.{Rise, wordsOf, leadPages, otherPages, Leads}
 
 -- ---- the shortest list, the first of equals

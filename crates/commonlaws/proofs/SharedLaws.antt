@@ -9,7 +9,7 @@ use borrow.Author.Tests.{le-leb, lt-leb, eq-eqb, ne-eqb}
 use lib.ListN.{length, getD}
 use Rattle.rules.specs.List.{rising}
 use Rattle.rules.specs.Seek.{none, page}
-use Rattle.rules.specs.Questions.{firstFrom, member, inAll, sharedBy}
+use Rattle.rules.specs.Plain.{firstFrom, member, inAll, sharedBy}
 use Rattle.listlaws.proofs.RisingLaws.{rising-parts}
 use Rattle.seeklaws.specs.Cursors.{firstAt}
 use Rattle.seeklaws.proofs.FirstLaws.{rising-lt, firstAt-here, firstAt-past, firstAt-le, firstAt-before}

@@ -8,7 +8,7 @@ use native.Mathlib.Omega.{arith}
 use lib.ListN.{length}
 use Rattle.rules.specs.Seek.{Found, none, page, Sought, seek}
 use Rattle.rules.specs.Common.{Reader, Ended, agreed, exhausted, larger, Round, stopped, agree}
-use Rattle.rules.specs.Questions.{firstFrom, sharedBy}
+use Rattle.rules.specs.Plain.{firstFrom, sharedBy}
 use Rattle.seeklaws.specs.Cursors.{firstAt}
 use Rattle.seeklaws.proofs.FirstLaws.{firstAt-self, first-found, foundAt-page}
 use Rattle.seeklaws.proofs.SeekLaws.{seek-placed}

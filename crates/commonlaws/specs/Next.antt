@@ -26,7 +26,7 @@ use lib.ListN.{length}
 use Rattle.rules.specs.Seek.{fresh, Found, none, page, Sought, seek}
 use Rattle.rules.specs.Common.{Reader, Tally, Ended, agreed, exhausted, larger, Round}
 use Rattle.rules.specs.Common.{stopped, agree, readersOf, counted, nothing, rounds}
-use Rattle.rules.specs.Questions.{firstFrom, sharedBy}
+use Rattle.rules.specs.Plain.{firstFrom, sharedBy}
 use Rattle.commonlaws.specs.Readers.{from, leadPages, otherPages}
 
 pub data Turn : Type 0 where

@@ -13,7 +13,7 @@ use Prim.Native.Nat.{ℕ, _+_, _*_, _≤_, _<_}
 use lib.ListN.{length}
 use Rattle.rules.specs.Seek.{Found, none, page}
 use Rattle.rules.specs.Common.{Reader, Tally}
-use Rattle.rules.specs.Questions.{firstFrom}
+use Rattle.rules.specs.Plain.{firstFrom}
 use Rattle.commonlaws.specs.Readers.{pagesOf, Ready, AllReady, AllOnPage, reachedBy, wordsOf, sharedFrom, leftIn}
 use Rattle.commonlaws.specs.Next.{Turn, over, again, hit, Turned, Next}
 

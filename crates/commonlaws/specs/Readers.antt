@@ -25,7 +25,7 @@ use lib.ListN.{length, getD, take, drop}
 use Rattle.rules.specs.List.{rising}
 use Rattle.rules.specs.Seek.{on, upperWords, seek}
 use Rattle.rules.specs.Common.{Reader, leadOf}
-use Rattle.rules.specs.Questions.{sharedBy}
+use Rattle.rules.specs.Plain.{sharedBy}
 use Rattle.seeklaws.specs.Cursors.{Placed, Behind, reached}
 
 unfoldable pub pagesOf : List Reader → List (List ℕ)

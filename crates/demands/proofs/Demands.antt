@@ -21,8 +21,8 @@ use Rattle.rules.specs.ReadTerm.{termRefusal}
 use Rattle.rules.specs.Index.{validCard, card, indexN, indexT, indexRefusal, closeIndex}
 use Rattle.rules.specs.Seek.{upperWords}
 use Rattle.rules.specs.Common.{rounds, common}
-use Rattle.rules.specs.Questions.{below, commonPages, phraseOf, byBound, byCommon, byPhrase, allBelow, pairGood}
-use Rattle.rules.specs.Questions.{goodQuestion, wellFormed, replies}
+use Rattle.rules.specs.Plain.{below, commonPages, phraseOf}
+use Rattle.rules.specs.Questions.{byBound, byCommon, byPhrase, allBelow, pairGood, goodQuestion, wellFormed, replies}
 use Rattle.rules.specs.Table.{stepped}
 use Rattle.rules.specs.Ask.{Replied, fitting, joined, reply}
 use Rattle.laws.proofs.RefusalLaws.{number-inj}

@@ -17,8 +17,9 @@ use Rattle.rules.specs.Term.{Word}
 use Rattle.rules.specs.Index.{card, validCard, indexN, indexT, wordOf}
 use Rattle.rules.specs.Seek.{widthOf, bitsOf, upperWords}
 use Rattle.rules.specs.Common.{common}
-use Rattle.rules.specs.Questions.{commonPages, numbered, pagesIn, listsIn, wordsIn, byCommon, answer, allBelow}
-use Rattle.rules.specs.Questions.{termsOf, phraseIn, wordsGood, goodQuestion, replies}
+use Rattle.rules.specs.Plain.{commonPages}
+use Rattle.rules.specs.Questions.{numbered, pagesIn, listsIn, wordsIn, byCommon, answer, allBelow, termsOf, phraseIn}
+use Rattle.rules.specs.Questions.{wordsGood, goodQuestion, replies}
 use Rattle.listlaws.proofs.RisingLaws.{and-parts, rising-length}
 use Rattle.termlaws.proofs.WordLaws.{valid-agreeing}
 use Rattle.cardlaws.proofs.PassedLaws.{card-valid}

@@ -11,8 +11,9 @@ use Rattle.rules.specs.Limits.{offsetLimit}
 use Rattle.rules.specs.List.{rising}
 use Rattle.rules.specs.Term.{Word}
 use Rattle.rules.specs.Table.{stepped}
-use Rattle.rules.specs.Questions.{member, positionsOn, phraseOf, stands, startsAmong, starts, withStarts, numbered}
-use Rattle.rules.specs.Questions.{byPhrase, termsOf, offsetsOf, allBelow, wordsGood, offsetsGood, phraseGood}
+use Rattle.rules.specs.Plain.{member, positionsOn, phraseOf, stands, startsAmong, starts, withStarts}
+use Rattle.rules.specs.Questions.{numbered, byPhrase, termsOf, offsetsOf, allBelow, wordsGood, offsetsGood}
+use Rattle.rules.specs.Questions.{phraseGood}
 use Rattle.demands.specs.Asking.{named, paired}
 use Rattle.demands.specs.InRow.{standsInRow, amongInRow, startsInRow, pagesInRow, byRow}
 

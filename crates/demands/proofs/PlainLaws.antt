@@ -11,7 +11,8 @@ use lib.ListN.{length, getD}
 use Rattle.rules.specs.List.{rising}
 use Rattle.rules.specs.Write.{laid}
 use Rattle.rules.specs.Seek.{Found, none, page, rankOf}
-use Rattle.rules.specs.Questions.{firstFrom, below, numbered, byRank, byBound}
+use Rattle.rules.specs.Plain.{firstFrom, below}
+use Rattle.rules.specs.Questions.{numbered, byRank, byBound}
 use Rattle.seeklaws.proofs.FirstLaws.{first-rank}
 use Rattle.demands.specs.Asking.{lastOf}
 

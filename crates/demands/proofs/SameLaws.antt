@@ -9,7 +9,7 @@ use Rattle.rules.specs.Bytes.{same}
 use Rattle.rules.specs.Term.{Word}
 use Rattle.rules.specs.Seek.{Found, none, page, seek, upperWords}
 use Rattle.rules.specs.Common.{Reader, readersOf, agreed, before, stopped, agree, counted, nothing, common}
-use Rattle.rules.specs.Questions.{firstFrom}
+use Rattle.rules.specs.Plain.{firstFrom}
 use Rattle.listlaws.proofs.BlockLaws.{same-refl}
 use Rattle.seeklaws.specs.Cursors.{firstAt}
 use Rattle.seeklaws.proofs.FirstLaws.{firstAt-self, first-found, foundAt-page}

@@ -26,11 +26,11 @@ use Rattle.rules.specs.Index.{termsRefusal, indexRefusal, closeRefusal, closeIn
 use Rattle.rules.specs.Seek.{placeOf, bitsOf, cursorBit, startOf, looksTo, walk, gone, arrived, walked, walkFrom, move}
 use Rattle.rules.specs.Seek.{fresh, rankOf, seek}
 use Rattle.rules.specs.Common.{leadFrom, leadOf, readersOf, before, stopped, agree, counted, nothing, rounds, common}
-use Rattle.rules.specs.Questions.{firstFrom, below, member, inAll, sharedBy, commonPages, positionsAmong, positionsOn}
-use Rattle.rules.specs.Questions.{phraseOf, stands, startsAmong, starts, withStarts, numbered, pagesIn, listsIn}
-use Rattle.rules.specs.Questions.{wordsIn, byRank, byBound, byCommon, byPhrase, termsOf, offsetsOf, phraseIn, answer}
-use Rattle.rules.specs.Questions.{allBelow, wordsGood, offsetsGood, phraseGood, goodQuestion, kindOf, countOf, argsOf}
-use Rattle.rules.specs.Questions.{behind, wellFormed, replies}
+use Rattle.rules.specs.Plain.{firstFrom, below, member, inAll, sharedBy, commonPages, positionsAmong, positionsOn}
+use Rattle.rules.specs.Plain.{phraseOf, stands, startsAmong, starts, withStarts}
+use Rattle.rules.specs.Questions.{numbered, pagesIn, listsIn, wordsIn, byRank, byBound, byCommon, byPhrase, termsOf}
+use Rattle.rules.specs.Questions.{offsetsOf, phraseIn, answer, allBelow, wordsGood, offsetsGood, phraseGood}
+use Rattle.rules.specs.Questions.{goodQuestion, kindOf, countOf, argsOf, behind, wellFormed, replies}
 use Rattle.rules.specs.Ask.{fitting, fitted, reply, joined, put, ask}
 use Rattle.rules.specs.Table.{s1List, s9, s9Word}
 use Rattle.seeklaws.specs.Cursors.{answers, neverDown, ranks, belows}

@@ -28,7 +28,8 @@ use Rattle.rules.specs.Bytes.{same}
 use Rattle.rules.specs.Term.{Word, next, places, validWord}
 use Rattle.rules.specs.Seek.{fresh, upperWords}
 use Rattle.rules.specs.Common.{Reader, leadOf, readersOf}
-use Rattle.rules.specs.Questions.{phraseOf, byRank, byBound, byCommon, byPhrase, termsOf, offsetsOf, goodQuestion}
+use Rattle.rules.specs.Plain.{phraseOf}
+use Rattle.rules.specs.Questions.{byRank, byBound, byCommon, byPhrase, termsOf, offsetsOf, goodQuestion}
 
 abbrev pub ValidWord : ℕ → Word → Type 0
 ValidWord N t = (validWord N t ≡ true) × (N ≤ limit) × (next 0 (places t) ≤ limit)

@@ -9,7 +9,8 @@ use mathlib.Core.List.{List, [], _∷_, _++_}
 use Prim.Native.Nat.{ℕ, _+_}
 use lib.Dec.{ltb}
 use Rattle.rules.specs.Term.{Word}
-use Rattle.rules.specs.Questions.{member, positionsOn, numbered}
+use Rattle.rules.specs.Plain.{member, positionsOn}
+use Rattle.rules.specs.Questions.{numbered}
 
 unfoldable pub standsInRow : List Word → ℕ → ℕ → Bool
 standsInRow [] p a = true

@@ -5,7 +5,8 @@ use Prim.Native.Nat.{ℕ, _-_, _<_}
 use native.Mathlib.Omega.{arith}
 use Rattle.rules.specs.Seek.{none, page, rankOf}
 use Rattle.rules.specs.ReadList.{decode}
-use Rattle.rules.specs.Questions.{firstFrom, numbered, byBound}
+use Rattle.rules.specs.Plain.{firstFrom}
+use Rattle.rules.specs.Questions.{numbered, byBound}
 use Rattle.commonlaws.specs.Readers.{pagesOf}
 use Rattle.commonlaws.proofs.NextLaws.{next-first, alone-first}
 use Rattle.walklaws.specs.Cursors.{spentMark}

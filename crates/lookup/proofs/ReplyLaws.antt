@@ -13,9 +13,9 @@ use Rattle.rules.specs.Refusal.{accepted}
 use Rattle.rules.specs.Index.{indexN, indexT, indexRefusal}
 use Rattle.rules.specs.Seek.{Found, none, page}
 use Rattle.rules.specs.Common.{common}
-use Rattle.rules.specs.Questions.{firstFrom, commonPages, InPhrase, withStarts, numbered, pagesIn, listsIn, byRank}
-use Rattle.rules.specs.Questions.{byBound, byCommon, byPhrase, phraseIn, answer, kindOf, argsOf, behind, wellFormed}
-use Rattle.rules.specs.Questions.{replies}
+use Rattle.rules.specs.Plain.{firstFrom, commonPages, InPhrase, withStarts}
+use Rattle.rules.specs.Questions.{numbered, pagesIn, listsIn, byRank, byBound, byCommon, byPhrase, phraseIn, answer}
+use Rattle.rules.specs.Questions.{kindOf, argsOf, behind, wellFormed, replies}
 use Rattle.rules.specs.Ask.{Replied, fitting, fitted, reply, joined}
 use Rattle.text.specs.Answers.{Counted}
 

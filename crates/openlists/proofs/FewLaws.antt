@@ -5,7 +5,7 @@ use mathlib.Core.List.{List, [], _∷_}
 use Prim.Native.Nat.{ℕ, _≤_}
 use native.Mathlib.Omega.{arith}
 use lib.ListN.{length}
-use Rattle.rules.specs.Questions.{inAll, sharedBy}
+use Rattle.rules.specs.Plain.{inAll, sharedBy}
 use Rattle.commonlaws.specs.Readers.{pagesOf, from}
 use Rattle.commonlaws.proofs.SharedLaws.{shared-yes, shared-no, from-le}
 use Rattle.commonlaws.proofs.TallyLaws.{rounds-tallied}

@@ -10,7 +10,7 @@ use lib.Seq.{slice, length-slice, getD-take, getD-drop}
 use Rattle.rules.specs.List.{rising}
 use Rattle.rules.specs.ReadList.{listU, decode}
 use Rattle.rules.specs.ReadTerm.{less}
-use Rattle.rules.specs.Questions.{member}
+use Rattle.rules.specs.Plain.{member}
 use Rattle.shape.specs.declared.Shape.{Shape}
 use Rattle.seeklaws.specs.Cursors.{firstAt}
 use Rattle.seeklaws.proofs.FirstLaws.{rising-lt, firstAt-before, firstAt-at}

@@ -10,7 +10,7 @@ use lib.ListN.{length}
 use Rattle.rules.specs.Limits.{limit}
 use Rattle.rules.specs.List.{rising}
 use Rattle.rules.specs.ReadList.{listU}
-use Rattle.rules.specs.Questions.{member}
+use Rattle.rules.specs.Plain.{member}
 use Rattle.walklaws.proofs.OpenLaws.{open-within, open-length, open-rising}
 use Rattle.querylaws.specs.Lists.{partAt, shapeIn}
 use Rattle.span.specs.declared.Walk.{Walk}

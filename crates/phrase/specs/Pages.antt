@@ -15,7 +15,7 @@ use lib.ListN.{length}
 use lib.Seq.{slice}
 use Rattle.rules.specs.Limits.{limit}
 use Rattle.rules.specs.ReadTerm.{less}
-use Rattle.rules.specs.Questions.{member}
+use Rattle.rules.specs.Plain.{member}
 use Rattle.seeklaws.specs.Cursors.{firstAt}
 use Rattle.querylaws.specs.Lists.{numberOf, partAt, shapeIn}
 use Rattle.upto.specs.Bounds.{Passing}

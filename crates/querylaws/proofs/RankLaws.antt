@@ -8,7 +8,7 @@ use lib.ListN.{length, getD}
 use Rattle.rules.specs.ReadList.{decode}
 use Rattle.rules.specs.Seek.{on, rankOf, widthOf, placeOf, cursorBit}
 use Rattle.rules.specs.Common.{Reader}
-use Rattle.rules.specs.Questions.{firstFrom}
+use Rattle.rules.specs.Plain.{firstFrom}
 use Rattle.commonlaws.specs.Readers.{OnPage, AllOnPage}
 use Rattle.commonlaws.proofs.AgreeLaws.{seek-plain}
 use Rattle.readlaws.proofs.ReadLaws.{open-reads}

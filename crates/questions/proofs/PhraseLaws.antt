@@ -8,9 +8,9 @@ use lib.Dec.{eqb}
 use lib.ListN.{length, drop}
 use Rattle.rules.specs.Term.{Word}
 use Rattle.rules.specs.Index.{wordOf}
-use Rattle.rules.specs.Questions.{member, inAll, sharedBy, commonPages, positionsAmong, positionsOn, InPhrase, phraseOf}
-use Rattle.rules.specs.Questions.{stands, startsAmong, starts, withStarts, numbered, pagesIn, listsIn, wordsIn}
-use Rattle.rules.specs.Questions.{byPhrase}
+use Rattle.rules.specs.Plain.{member, inAll, sharedBy, commonPages, positionsAmong, positionsOn, InPhrase, phraseOf}
+use Rattle.rules.specs.Plain.{stands, startsAmong, starts, withStarts}
+use Rattle.rules.specs.Questions.{numbered, pagesIn, listsIn, wordsIn, byPhrase}
 use Rattle.laws.proofs.RefusalLaws.{or-parts}
 
 among-off : (p : ℕ) (qs cs ps : List ℕ) → member p qs ≡ false → positionsAmong p qs cs ps ≡ []

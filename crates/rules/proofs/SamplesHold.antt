@@ -18,11 +18,12 @@ use Rattle.rules.specs.Seek.{placeOf, bitsOf, cursorBit, startOf, looksT
 use Rattle.rules.specs.Seek.{move, seek}
 use Rattle.rules.specs.Common.{leadFrom, leadOf, readersOf, before, stopped, agree, counted, nothing, rounds}
 use Rattle.rules.specs.Common.{common}
-use Rattle.rules.specs.Questions.{firstFrom, member, inAll, sharedBy, commonPages, positionsAmong, positionsOn}
-use Rattle.rules.specs.Questions.{phraseOf, stands, startsAmong, starts, withStarts, numbered, pagesIn, listsIn}
-use Rattle.rules.specs.Questions.{wordsIn, byRank, byBound, byCommon, byPhrase, termsOf, offsetsOf, phraseIn}
-use Rattle.rules.specs.Questions.{answer, allBelow, pairGood, wordsGood, offsetsGood, phraseGood, goodQuestion}
-use Rattle.rules.specs.Questions.{kindOf, countOf, argsOf, behind, wellFormed, replies}
+use Rattle.rules.specs.Plain.{firstFrom, member, inAll, sharedBy, commonPages, positionsAmong, positionsOn}
+use Rattle.rules.specs.Plain.{phraseOf, stands, startsAmong, starts, withStarts}
+use Rattle.rules.specs.Questions.{numbered, pagesIn, listsIn, wordsIn, byRank, byBound, byCommon, byPhrase}
+use Rattle.rules.specs.Questions.{termsOf, offsetsOf, phraseIn, answer, allBelow, pairGood, wordsGood}
+use Rattle.rules.specs.Questions.{offsetsGood, phraseGood, goodQuestion, kindOf, countOf, argsOf, behind}
+use Rattle.rules.specs.Questions.{wellFormed, replies}
 use Rattle.rules.specs.Ask.{fitting, fitted, reply, joined, put, ask}
 use Rattle.rules.specs.Program.{decimal, digits, line, lines, refusedWord, refusedLine, numbersOf, printedReply}
 use Rattle.rules.specs.Program.{printed}

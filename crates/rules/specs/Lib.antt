@@ -12,6 +12,7 @@ pub mod ReadTerm
 pub mod Index
 pub mod Seek
 pub mod Common
+pub mod Plain
 pub mod Questions
 pub mod Ask
 pub mod Program

@@ -19,7 +19,7 @@ use Rattle.rules.specs.Term.{Word}
 use Rattle.rules.specs.Index.{validCard, card, indexRefusal}
 use Rattle.rules.specs.Seek.{Cursor, fresh, Found, none, page, Sought, seek}
 use Rattle.rules.specs.Common.{common}
-use Rattle.rules.specs.Questions.{commonPages}
+use Rattle.rules.specs.Plain.{commonPages}
 use Rattle.rules.specs.Ask.{Asked, ask}
 use Rattle.rules.specs.Program.{printed}
 

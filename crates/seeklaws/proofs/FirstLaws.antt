@@ -12,7 +12,7 @@ use lib.Dec.{leb, eqb, eqb·zero-suc, eqb·suc-suc}
 use lib.ListN.{length, getD}
 use Rattle.rules.specs.List.{rising}
 use Rattle.rules.specs.Seek.{none, page, rankOf, walk}
-use Rattle.rules.specs.Questions.{firstFrom, below}
+use Rattle.rules.specs.Plain.{firstFrom, below}
 use Rattle.listlaws.proofs.RisingLaws.{rising-parts, rising-at, rising-gap}
 use Rattle.seeklaws.specs.Cursors.{firstAt, foundAt}
 

@@ -12,7 +12,7 @@ use lib.ListN.{length, getD}
 use Rattle.rules.specs.List.{rising, upper, pointer}
 use Rattle.rules.specs.Seek.{Cursor, fresh, on, spent, rankOf, widthOf, bitsOf, cursorBit}
 use Rattle.rules.specs.Seek.{startOf, walk, gone, arrived, walked, walkFrom, move, seek}
-use Rattle.rules.specs.Questions.{below}
+use Rattle.rules.specs.Plain.{below}
 use Rattle.listlaws.proofs.RisingLaws.{and-parts}
 use Rattle.seeklaws.specs.Cursors.{firstAt, cursorAt, floor, Placed, Behind, Ahead}
 use Rattle.seeklaws.specs.Cursors.{Answered, moveBy, seekBy, answers, firsts, neverDown}

@@ -25,7 +25,7 @@ use lib.Dec.{leb, eqb}
 use lib.ListN.{length, getD}
 use Rattle.rules.specs.Seek.{Cursor, fresh, on, spent, Found, none, page, Sought, widthOf}
 use Rattle.rules.specs.Seek.{rankOf, placeOf, upperWords, cursorBit, gone, arrived, walkFrom, seek}
-use Rattle.rules.specs.Questions.{firstFrom, below}
+use Rattle.rules.specs.Plain.{firstFrom, below}
 
 unfoldable pub firstAt : ℕ → List ℕ → ℕ
 firstAt b [] = 0

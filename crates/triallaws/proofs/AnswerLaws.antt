@@ -11,8 +11,9 @@ use Rattle.rules.specs.declared.Refusal.the-variants.{Accepted}
 use Rattle.rules.specs.Common.{leadOf}
 use Rattle.rules.specs.Index.{indexT, indexRefusal}
 use Rattle.rules.specs.Term.{Word}
-use Rattle.rules.specs.Questions.{listsIn, numbered, wordsIn, byPhrase, InPhrase, phraseOf, termsOf, offsetsOf}
-use Rattle.rules.specs.Questions.{phraseIn, wordsGood, phraseGood}
+use Rattle.rules.specs.Plain.{InPhrase, phraseOf}
+use Rattle.rules.specs.Questions.{listsIn, numbered, wordsIn, byPhrase, termsOf, offsetsOf, phraseIn, wordsGood}
+use Rattle.rules.specs.Questions.{phraseGood}
 use Rattle.rules.specs.Write.{laid}
 use Rattle.cardlaws.proofs.Theorems.{accepted-term}
 use Rattle.questions.specs.Wrote.{Wrote}

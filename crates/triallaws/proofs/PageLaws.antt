@@ -8,7 +8,7 @@ use lib.ListN.{length, getD, length-replicate, getD-replicate}
 use Rattle.rules.specs.declared.Refusal.the-variants.{Accepted}
 use Rattle.rules.specs.ReadList.{listU, decode}
 use Rattle.rules.specs.ReadTerm.{pagesOf, termRefusal}
-use Rattle.rules.specs.Questions.{starts}
+use Rattle.rules.specs.Plain.{starts}
 use Rattle.termlaws.proofs.ReadLaws.{pages-listed}
 use Rattle.seeklaws.proofs.FirstLaws.{rising-lt}
 use Rattle.commonlaws.specs.Readers.{OnPage, AllOnPage}

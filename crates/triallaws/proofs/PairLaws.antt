@@ -8,7 +8,7 @@ use borrow.Author.Tests.{lt-ltb}
 use lib.Dec.{ltb}
 use lib.ListN.{length, set, length-append}
 use Rattle.rules.specs.Common.{Tally, counted}
-use Rattle.rules.specs.Questions.{InPhrase, starts, withStarts}
+use Rattle.rules.specs.Plain.{InPhrase, starts, withStarts}
 use Rattle.rules.specs.Write.{laid}
 use Rattle.querylaws.specs.Lists.{numberOf, boundIn}
 use Rattle.commonlaws.specs.Next.{allRounds}

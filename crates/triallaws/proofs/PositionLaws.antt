@@ -10,7 +10,8 @@ use Rattle.rules.specs.List.{rising}
 use Rattle.rules.specs.ReadList.{listU, decode}
 use Rattle.rules.specs.ReadTerm.{pagesOf, positionsOf, readWord, termRefusal}
 use Rattle.rules.specs.Index.{termPart, wordOf}
-use Rattle.rules.specs.Questions.{positionsOn, wordsIn, phraseOf, starts}
+use Rattle.rules.specs.Plain.{positionsOn, phraseOf, starts}
+use Rattle.rules.specs.Questions.{wordsIn}
 use Rattle.termlaws.proofs.ReadLaws.{positions-listed}
 use Rattle.seeklaws.specs.Cursors.{firstAt}
 use Rattle.seeklaws.proofs.FirstLaws.{rising-lt, rising-below}

@@ -15,7 +15,7 @@ use Rattle.rules.specs.Term.{total, next, inOrder}
 use Rattle.rules.specs.declared.Refusal.the-variants.{Accepted}
 use Rattle.rules.specs.ReadList.{listU, decode}
 use Rattle.rules.specs.ReadTerm.{pagesOf, countsOf, positionsOf, gaps, less, lowered, readWord, termRefusal}
-use Rattle.rules.specs.Questions.{positionsAmong, positionsOn}
+use Rattle.rules.specs.Plain.{positionsAmong, positionsOn}
 use Rattle.termlaws.proofs.PassedLaws.{accepted-passed}
 use Rattle.termlaws.proofs.ReadLaws.{pages-listed, counts-listed, positions-listed, total-places}
 use Rattle.listlaws.proofs.RisingLaws.{rising-parts, rising-at}

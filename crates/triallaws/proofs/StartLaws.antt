@@ -10,7 +10,8 @@ use borrow.Author.Tests.{ne-eqb}
 use lib.ListN.{length, getD}
 use Rattle.rules.specs.ReadTerm.{readWord}
 use Rattle.rules.specs.Index.{termPart, wordOf}
-use Rattle.rules.specs.Questions.{member, positionsOn, wordsIn, InPhrase, phraseOf, stands, startsAmong, starts}
+use Rattle.rules.specs.Plain.{member, positionsOn, InPhrase, phraseOf, stands, startsAmong, starts}
+use Rattle.rules.specs.Questions.{wordsIn}
 use Rattle.commonlaws.proofs.SharedLaws.{member-at, member-none}
 use Rattle.triallaws.specs.Starts.{startsBelow}
 use Rattle.triallaws.specs.Asked.{phraseAt, positionsHere}

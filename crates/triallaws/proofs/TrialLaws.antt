@@ -10,7 +10,7 @@ use lib.ListN.{length, getD}
 use Rattle.rules.specs.ReadList.{listU}
 use Rattle.rules.specs.ReadTerm.{positionsOf}
 use Rattle.rules.specs.Limits.{limit}
-use Rattle.rules.specs.Questions.{member, InPhrase, stands, starts}
+use Rattle.rules.specs.Plain.{member, InPhrase, stands, starts}
 use Rattle.walklaws.proofs.OpenLaws.{open-within}
 use Rattle.querylaws.specs.declared.Query.{Query}
 use Rattle.querylaws.specs.Lists.{partAt, shapeIn}

@@ -35,8 +35,8 @@ use Rattle.rules.specs.ReadList.{decode}
 use Rattle.rules.specs.ReadTerm.{pagesOf, readWord, termRefusal}
 use Rattle.rules.specs.Index.{termPart}
 use Rattle.rules.specs.Common.{leadOf}
-use Rattle.rules.specs.Questions.{member, positionsOn, InPhrase, phraseOf, starts, withStarts, commonPages, listsIn}
-use Rattle.rules.specs.Questions.{wordsIn, termsOf, offsetsOf}
+use Rattle.rules.specs.Plain.{member, positionsOn, InPhrase, phraseOf, starts, withStarts, commonPages}
+use Rattle.rules.specs.Questions.{listsIn, wordsIn, termsOf, offsetsOf}
 use Rattle.commonlaws.specs.Readers.{OnPage}
 use Rattle.querylaws.specs.declared.Query.{Query}
 use Rattle.querylaws.specs.declared.Turn.{Turn}

@@ -10,7 +10,7 @@ use lib.ListN.{length, getD}
 use Rattle.rules.specs.declared.Refusal.the-variants.{Accepted}
 use Rattle.rules.specs.ReadList.{decode}
 use Rattle.rules.specs.ReadTerm.{pagesOf, countsOf, positionsOf, readWord, termRefusal}
-use Rattle.rules.specs.Questions.{positionsOn}
+use Rattle.rules.specs.Plain.{positionsOn}
 use Rattle.querylaws.specs.Lists.{partAt}
 use Rattle.span.specs.Walks.{past}
 use Rattle.turning.specs.Words.{baseIn, endIn}

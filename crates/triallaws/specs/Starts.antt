@@ -4,7 +4,7 @@
 use mathlib.Core.Bool.{cond}
 use mathlib.Core.List.{List}
 use Prim.Native.Nat.{ℕ, zero, suc, _+_}
-use Rattle.rules.specs.Questions.{InPhrase, stands}
+use Rattle.rules.specs.Plain.{InPhrase, stands}
 
 unfoldable pub startsBelow : List InPhrase → ℕ → ℕ → ℕ
 startsBelow ts p zero = 0

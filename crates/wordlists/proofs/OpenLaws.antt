@@ -11,7 +11,8 @@ use Rattle.rules.specs.ReadList.{listU, decode}
 use Rattle.rules.specs.ReadTerm.{pagesOf, readWord}
 use Rattle.rules.specs.Index.{indexN, indexT, termPart, wordOf, indexRefusal}
 use Rattle.rules.specs.Common.{Tally, leadOf}
-use Rattle.rules.specs.Questions.{commonPages, pagesIn, listsIn, wordsGood}
+use Rattle.rules.specs.Plain.{commonPages}
+use Rattle.rules.specs.Questions.{pagesIn, listsIn, wordsGood}
 use Rattle.termlaws.proofs.Theorems.{accepted-lists}
 use Rattle.cardlaws.proofs.Theorems.{accepted-term}
 use Rattle.commonlaws.proofs.PickLaws.{lead-leads}
