@@ -1,5 +1,5 @@
 -- What the customer asks, sentence by sentence. Each theorem is of any result that the promise of an exported call
--- allows (crates/jundefola/specs/Host.antt), and of nothing else of the program. Its words are document 01's
+-- allows (crates/hostlaws/specs/Host.antt), and of nothing else of the program. Its words are document 01's
 -- definitions (crates/rules/specs) and those of specs/Asking.antt. Witnesses.antt shows that the premises can be met.
 use mathlib.Core.Bool.{true}
 use mathlib.Core.Logic.{_↔_}

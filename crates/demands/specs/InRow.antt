@@ -1,7 +1,7 @@
--- Phrases of which no word is dropped, by the line of document 01 that request b changed: "Start: p such that word i
--- stands at p+i for each i from 0".
+-- Phrases of which no word is dropped, by the line of document 01 that request b changed: "A start is a position p such
+-- that word i of the phrase stands at p+i on that page, for every i from 0."
 --
---   standsInRow ts p a  word i of ts stands at a + i on page p, for each i from 0
+--   standsInRow ts p a  word i of ts stands at a + i on page p, for every i from 0
 --   startsInRow ts p    how many starts the words ts have on page p
 --   byRow ts            the answer: each page that has a start, with the number of its starts
 use mathlib.Core.Bool.{Bool, true, cond, _&&_}
