@@ -7,8 +7,9 @@
  *   several threads may run at once, as long as nobody writes what another call reads or writes.
  * - A slice is a pointer and a length, the length counted in elements. Where the length is 0 the pointer may be null.
  *   Else it points to that many elements, and numbers are aligned as uint32_t. A room overlaps no other slice.
- * - Every input has an answer; nothing is left undefined by the bytes or numbers in a slice.
- * - A refusal leaves the room as it was, but for jf_ask with JF_ROOM, whose earlier answers stand.
+ * - Every input has an answer; nothing is left undefined by the bytes or numbers in a slice or a session.
+ * - A refusal leaves the room as it was, with two exceptions: where jf_ask refuses with JF_ROOM its earlier answers
+ *   stand, and where a word written in runs gets bad postings or totals its block is cleared.
  *
  * The bytes of the blocks are described in docs/FORMAT.md.
  */
@@ -34,7 +35,7 @@ typedef enum jf_refusal {
     JF_PARTS = 7,    /* the parts of a term or a card disagree */
     JF_QUESTION = 8, /* a bad question: an unknown kind, a wrong count, word or offset, or cut short */
     JF_ROOM = 9,     /* the room lent is too small */
-    JF_LISTS = 10    /* the lists handed to a writer are not valid */
+    JF_LISTS = 10    /* the lists handed to a writer are not valid or not as announced, or its session is over */
 } jf_refusal;
 
 /* The kinds of question; what each is asked and answers is told at jf_ask. */
@@ -67,6 +68,29 @@ typedef struct jf_written {
     size_t length;
 } jf_written;
 
+/*
+ * A session: where the writing of a word in runs stands. The fields are the library's own, and a host hands them back
+ * as they came. A session that is over is all zeros.
+ */
+typedef struct jf_stream {
+    uint32_t mark;
+    uint32_t n;
+    uint32_t pages;
+    uint32_t positions;
+    uint32_t u;
+    uint32_t laid;
+    uint32_t filled;
+    uint32_t page;
+    uint32_t base;
+} jf_stream;
+
+/* What a session's call reports: a refusal, the bytes of the finished block (else 0), and the session to go on with. */
+typedef struct jf_streamed {
+    uint32_t refusal;
+    size_t length;
+    jf_stream stream;
+} jf_streamed;
+
 /* What asking reports: a refusal, the questions answered whole, and the numbers of the room that they use. */
 typedef struct jf_asked {
     uint32_t refusal;
@@ -92,6 +116,43 @@ uint32_t jf_check_list(const uint8_t *block, size_t block_len);
 jf_written jf_write_term(uint32_t n, const uint32_t *pages, size_t pages_len, const uint32_t *counts,
                          size_t counts_len, const uint32_t *positions, size_t positions_len, uint8_t *room,
                          size_t room_len);
+
+/*
+ * Announces a word that is written in runs, for a host that does not hold all of its postings at once: so many of a
+ * card's n pages, so many positions in all, and the positions' u, which is the sum over the word's pages of the last
+ * position there plus 1. Writes the headers of its block to the start of the room, and clears the rest of the block.
+ * Refuses with JF_LIMIT (n or u), JF_LISTS (more pages than n or than positions, more positions than u, positions but
+ * no pages, u without positions) or JF_ROOM; the room is then as it was, and the session that comes back is over.
+ * JF_TERM_ROOM(pages, positions) bytes are enough.
+ *
+ * Hand the session to jf_put_postings with each run, and to jf_end_term behind the last: each time the session that the
+ * last call gave, and the room as that call left it, here or at another address. The finished block is then that of
+ * jf_write_term, byte for byte, wherever the word was cut. In a room that was changed ones are set into what is there,
+ * and pointers are taken from what is there. No call changes a byte past the block.
+ *
+ * What both of them refuse, in this order:
+ * - JF_LISTS, with the room as it was, where the session is over: behind a refused announcement, behind JF_LISTS and
+ *   behind a finished block. So is any value that is not live: its mark is not 1, its announcement would be refused,
+ *   or it has more pages or positions laid than announced.
+ * - JF_ROOM, with the room and the session as they were, where the room is shorter than the block: go on with more.
+ * - JF_LISTS, with the block all zero and the session over, where the postings or the totals are bad.
+ */
+jf_streamed jf_begin_term(uint32_t n, uint32_t pages, uint32_t positions, uint32_t u, uint8_t *room, size_t room_len);
+
+/*
+ * Lays the next run of a word's postings behind those in the room: pages, counts and positions as jf_write_term takes
+ * them, cut between two pages, and each page above those before; a run may be empty. Postings are bad where
+ * jf_write_term would refuse them with JF_LISTS, or where they go past the announced pages, positions or u.
+ */
+jf_streamed jf_put_postings(jf_stream stream, const uint32_t *pages, size_t pages_len, const uint32_t *counts,
+                            size_t counts_len, const uint32_t *positions, size_t positions_len, uint8_t *room,
+                            size_t room_len);
+
+/*
+ * Closes a word: writes its pointers and reports the length of its block. Totals are bad where the announced pages,
+ * positions or u are not reached.
+ */
+jf_streamed jf_end_term(jf_stream stream, uint8_t *room, size_t room_len);
 
 /* Checks a term block, which must fill the bytes given; returns the refusal. */
 uint32_t jf_check_term(const uint8_t *block, size_t block_len);

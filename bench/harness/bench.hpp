@@ -19,6 +19,9 @@ struct Bench {
     Pace pace;
 };
 
+// the archive's own writer of whole lists, where words written in runs are measured
+constexpr const char *whole_lists = "whole lists";
+
 using Times = std::vector<std::pair<std::string, double>>;
 
 // another contender's work on the first `count` questions of a run: it writes what it finds, and returns how much
@@ -47,6 +50,7 @@ void measure_common(Bench &bench);
 void measure_phrases(Bench &bench);
 void measure_lookup(Bench &bench);
 void measure_cards(Bench &bench);
+void measure_streams(Bench &bench);
 void measure_runs(Bench &bench);
 void measure_program(Bench &bench, const char *folder);
 void measure_growth(Bench &bench);
@@ -65,6 +69,9 @@ using MakeGroup = std::function<std::vector<List>(Random &, uint32_t u, uint32_t
 
 // common pages of k words
 void one_common(Bench &bench, const std::string &family, uint32_t u, uint32_t k, const MakeGroup &make);
+
+// a word on n of a card's pages, with one to four positions on each
+Word realistic_word(Random &random, uint32_t pages, uint32_t n);
 
 // words as a manual has them: a few on most pages, most on a few
 std::vector<Word> zipf_words(Random &random, uint32_t n, uint32_t t, uint32_t most_pages);

@@ -1,4 +1,4 @@
-// The two sides that have the same seven calls: the proved archive and the Rust peer, each as a host calls it.
+// The two sides that have the same calls: the proved archive and the Rust peer, each as a host calls it.
 #pragma once
 
 #include <cstddef>
@@ -12,6 +12,10 @@ struct Engine {
     uint32_t (*check_list)(const uint8_t *, size_t);
     jf_written (*write_term)(uint32_t, const uint32_t *, size_t, const uint32_t *, size_t, const uint32_t *, size_t,
                              uint8_t *, size_t);
+    jf_streamed (*begin_term)(uint32_t, uint32_t, uint32_t, uint32_t, uint8_t *, size_t);
+    jf_streamed (*put_postings)(jf_stream, const uint32_t *, size_t, const uint32_t *, size_t, const uint32_t *, size_t,
+                                uint8_t *, size_t);
+    jf_streamed (*end_term)(jf_stream, uint8_t *, size_t);
     uint32_t (*check_term)(const uint8_t *, size_t);
     jf_written (*close_index)(uint8_t *, size_t, size_t, uint32_t, uint32_t);
     uint32_t (*check_index)(const uint8_t *, size_t);

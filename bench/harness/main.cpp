@@ -24,6 +24,7 @@ int main(int count, char **arguments) {
     if (wanted("phrases")) measure_phrases(bench);
     if (wanted("lookup")) measure_lookup(bench);
     if (wanted("cards")) measure_cards(bench);
+    if (wanted("streams")) measure_streams(bench);
     if (wanted("runs")) measure_runs(bench);
     if (wanted("program")) measure_program(bench, arguments[2]);
     if (wanted("growth")) measure_growth(bench);

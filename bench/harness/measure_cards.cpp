@@ -6,19 +6,6 @@
 
 namespace {
 
-// a word on n of the card's pages, with one to four positions on each
-Word realistic_word(Random &random, uint32_t pages, uint32_t n) {
-    Word word;
-    word.pages = of_length(random, pages, n);
-    for (size_t i = 0; i < word.pages.size(); i++) {
-        const uint32_t count = 1 + random.below(4);
-        word.counts.push_back(count);
-        uint32_t position = random.below(60);
-        for (uint32_t j = 0; j < count; j++, position += 1 + random.below(60)) word.positions.push_back(position);
-    }
-    return word;
-}
-
 // both engines' work on a whole card, the time for one card
 Times race_both(const Bench &bench, const std::function<void(int)> &work) {
     Race race;
@@ -88,6 +75,18 @@ void close_and_check(Bench &bench, uint32_t n, Blocks &made, const std::string &
 }
 
 } // namespace
+
+Word realistic_word(Random &random, uint32_t pages, uint32_t n) {
+    Word word;
+    word.pages = of_length(random, pages, n);
+    for (size_t i = 0; i < word.pages.size(); i++) {
+        const uint32_t count = 1 + random.below(4);
+        word.counts.push_back(count);
+        uint32_t position = random.below(60);
+        for (uint32_t j = 0; j < count; j++, position += 1 + random.below(60)) word.positions.push_back(position);
+    }
+    return word;
+}
 
 std::vector<Word> zipf_words(Random &random, uint32_t n, uint32_t t, uint32_t most_pages) {
     std::vector<Word> words;

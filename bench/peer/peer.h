@@ -27,6 +27,17 @@ typedef struct peer_asked {
     size_t used;
 } peer_asked;
 
+/* A session that writes a word run by run, and what each of its calls reports. */
+typedef struct peer_stream {
+    uint32_t mark, n, pages, positions, u, laid, filled, page, base;
+} peer_stream;
+
+typedef struct peer_streamed {
+    uint32_t refusal;
+    size_t length;
+    peer_stream stream;
+} peer_streamed;
+
 peer_written peer_write_list(uint32_t u, const uint32_t *list, size_t list_len, uint8_t *room, size_t room_len);
 
 uint32_t peer_check_list(const uint8_t *block, size_t block_len);
@@ -34,6 +45,15 @@ uint32_t peer_check_list(const uint8_t *block, size_t block_len);
 peer_written peer_write_term(uint32_t n, const uint32_t *pages, size_t pages_len, const uint32_t *counts,
                              size_t counts_len, const uint32_t *positions, size_t positions_len, uint8_t *room,
                              size_t room_len);
+
+peer_streamed peer_begin_term(uint32_t n, uint32_t pages, uint32_t positions, uint32_t u, uint8_t *room,
+                              size_t room_len);
+
+peer_streamed peer_put_postings(peer_stream stream, const uint32_t *pages, size_t pages_len, const uint32_t *counts,
+                                size_t counts_len, const uint32_t *positions, size_t positions_len, uint8_t *room,
+                                size_t room_len);
+
+peer_streamed peer_end_term(peer_stream stream, uint8_t *room, size_t room_len);
 
 uint32_t peer_check_term(const uint8_t *block, size_t block_len);
 

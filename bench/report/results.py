@@ -5,7 +5,8 @@ import math
 from dataclasses import dataclass, field
 
 ARCHIVE = "archive"
-CONTENDERS = ["peer", "sdsl", "CRoaring", "galloping"]
+WHOLE_LISTS = "whole lists"
+CONTENDERS = ["peer", "sdsl", "CRoaring", "galloping", WHOLE_LISTS]
 GROWTH = "growth with "
 
 

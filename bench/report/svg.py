@@ -3,7 +3,8 @@
 import math
 from xml.sax.saxutils import escape
 
-COLOURS = {"archive": "#000000", "peer": "#d55e00", "sdsl": "#0072b2", "CRoaring": "#009e73", "galloping": "#999999"}
+COLOURS = {"archive": "#000000", "peer": "#d55e00", "sdsl": "#0072b2", "CRoaring": "#009e73", "galloping": "#999999",
+           "whole lists": "#cc79a7"}
 FONT = 'font-family="sans-serif"'
 
 

@@ -1,6 +1,6 @@
 """TABLE.md: what was measured, as tables, with the aims and whether they are met."""
 
-from results import ARCHIVE, CONTENDERS, geometric_mean, ratios
+from results import ARCHIVE, CONTENDERS, WHOLE_LISTS, geometric_mean, ratios
 
 GROUPS = [
     ("One list", ["write a list", "check a list"]),
@@ -9,6 +9,7 @@ GROUPS = [
     ("Phrases", ["phrase", "phrase with gaps"]),
     ("Word lookup", ["word lookup"]),
     ("Words and cards", ["write words", "check words", "close a card", "check a card"]),
+    ("Words written in runs", ["write in runs of 256", "write in runs of 1"]),
     ("Runs of questions, the check included", ["run of questions"]),
     ("The program, from start to end", ["program"]),
 ]
@@ -16,6 +17,8 @@ GROUPS = [
 INTERSECTIONS = {"common pages", "seek in common pages"}
 PEER_MOST = 1.2
 PEER_MOST_INTERSECTION = 1.0
+# the most of the time for whole lists that a word written in runs may take
+WHOLE_LISTS_MOST = {"write in runs of 256": 1.3, "write in runs of 1": 3.0}
 DENSE = ("3 in 4", "1 in 2", "1 in 16")
 
 NOTES = """\
@@ -31,6 +34,8 @@ again, large enough that no pages need counting beforehand. Lists and questions 
 - Each run of questions checks its card first. So one question is (a run of M questions, less a run of none on that \
 card) / M, where M is such that the questions take about as long as the check, or longer. The others have no check.
 - Phrases are drawn from the manual's text; those with gaps leave words out between, at the offsets 0, 2 and 0, 2, 3, 5.
+- A word written in runs is announced, handed over in runs of 256 pages or of one page, and closed; `whole lists` is \
+the archive's own writer, handed the same word at once.
 - CRoaring's seek is by its iterator, which is faster than rank and select, and finds no rank.\
 """
 
@@ -128,6 +133,11 @@ def aims(measurements):
         met(f"Peer, intersections at or below {PEER_MOST_INTERSECTION}",
             misses(crossing, "peer", PEER_MOST_INTERSECTION)),
     ]
+    for operation, most in WHOLE_LISTS_MOST.items():
+        streamed = [m for m in measurements if m.operation == operation]
+        if streamed:
+            lines.append(met(f"{operation[0].upper()}{operation[1:]}, at most {most} of whole lists",
+                             misses(streamed, WHOLE_LISTS, most)))
     if any("sdsl" in m.ns for m in measurements):
         lines.append(met("sdsl, faster everywhere", misses(measurements, "sdsl", 1)))
     if any("CRoaring" in m.ns for m in measurements):

@@ -1,7 +1,8 @@
-/* Writes a list, makes a card of two words, asks it the four kinds of question and prints the answers. */
+/* Writes a list, a word in runs and a card of two words, asks it the four kinds of question and prints the answers. */
 #include <inttypes.h>
 #include <stdio.h>
 #include <stdlib.h>
+#include <string.h>
 
 #include "jundefola.h"
 
@@ -44,6 +45,46 @@ static void show_list(void)
         printf(" %02X", (unsigned)block[i]);
     }
     printf("\n");
+}
+
+/* The positions' u of a word: each page adds its last position and 1. */
+static uint32_t positions_u(const uint32_t *counts, size_t counts_len, const uint32_t *positions)
+{
+    uint32_t u = 0;
+    for (size_t i = 0; i < counts_len; i++) {
+        positions += counts[i];
+        u += positions[-1] + 1;
+    }
+    return u;
+}
+
+/* Writes "torque" in two runs, four pages each, to the start of the room and returns the length of its block. */
+static size_t write_in_runs(uint8_t *room, size_t room_len)
+{
+    uint32_t u = positions_u(torque_counts, LENGTH(torque_counts), torque_positions);
+    jf_streamed torque = jf_begin_term(PAGES, LENGTH(torque_pages), LENGTH(torque_positions), u, room, room_len);
+    expect_accepted("jf_begin_term", torque.refusal);
+    torque = jf_put_postings(torque.stream, torque_pages, 4, torque_counts, 4, torque_positions, 4, room, room_len);
+    expect_accepted("jf_put_postings", torque.refusal);
+    torque = jf_put_postings(torque.stream, torque_pages + 4, 4, torque_counts + 4, 4, torque_positions + 4, 5, room,
+                             room_len);
+    expect_accepted("jf_put_postings", torque.refusal);
+    torque = jf_end_term(torque.stream, room, room_len);
+    expect_accepted("jf_end_term", torque.refusal);
+    return torque.length;
+}
+
+/* Prints whether "torque" has the same block in runs as written at once. */
+static void show_runs(void)
+{
+    uint8_t in_runs[JF_TERM_ROOM(LENGTH(torque_pages), LENGTH(torque_positions))];
+    uint8_t at_once[sizeof in_runs];
+    size_t length = write_in_runs(in_runs, sizeof in_runs);
+    jf_written torque = jf_write_term(PAGES, torque_pages, LENGTH(torque_pages), torque_counts, LENGTH(torque_counts),
+                                      torque_positions, LENGTH(torque_positions), at_once, sizeof at_once);
+    expect_accepted("jf_write_term", torque.refusal);
+    int same = length == torque.length && memcmp(in_runs, at_once, length) == 0;
+    printf("torque in two runs: %zu bytes, %s\n", length, same ? "the same as at once" : "and others at once");
 }
 
 /* Writes the two words behind the card's header, closes the card and returns its length. */
@@ -140,6 +181,7 @@ int main(void)
     uint8_t buffer[JF_CARD_HEADER + JF_TERM_ROOM(LENGTH(torque_pages), LENGTH(torque_positions)) +
                    JF_TERM_ROOM(LENGTH(bolt_pages), LENGTH(bolt_positions))];
     show_list();
+    show_runs();
     size_t card_len = make_card(buffer, sizeof buffer);
     expect_accepted("jf_check_index", jf_check_index(buffer, card_len));
     printf("card of %d words, %zu bytes\n", WORDS, card_len);

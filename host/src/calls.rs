@@ -1,5 +1,7 @@
 //! The archive's calls made safe, slices in and a typed report out; all of the crate's `unsafe` is here.
 
+use std::mem;
+
 use crate::Refusal;
 
 /// The report of a writer, as the archive returns it.
@@ -7,6 +9,14 @@ use crate::Refusal;
 struct RawWritten {
     refusal: u32,
     length: usize,
+}
+
+/// The report of a session's call, as the archive returns it.
+#[repr(C)]
+struct RawStreamed {
+    refusal: u32,
+    length: usize,
+    stream: Stream,
 }
 
 /// The report of asking, as the archive returns it.
@@ -37,6 +47,26 @@ extern "C" {
         room: *mut u8,
         room_len: usize,
     ) -> RawWritten;
+    fn jf_begin_term(
+        n: u32,
+        pages: u32,
+        positions: u32,
+        u: u32,
+        room: *mut u8,
+        room_len: usize,
+    ) -> RawStreamed;
+    fn jf_put_postings(
+        stream: Stream,
+        pages: *const u32,
+        pages_len: usize,
+        counts: *const u32,
+        counts_len: usize,
+        positions: *const u32,
+        positions_len: usize,
+        room: *mut u8,
+        room_len: usize,
+    ) -> RawStreamed;
+    fn jf_end_term(stream: Stream, room: *mut u8, room_len: usize) -> RawStreamed;
     fn jf_check_term(block: *const u8, block_len: usize) -> u32;
     fn jf_close_index(
         buffer: *mut u8,
@@ -54,6 +84,23 @@ extern "C" {
         room: *mut u32,
         room_len: usize,
     ) -> RawAsked;
+}
+
+/// A session: where the writing of a word in runs stands. [`begin_term`] opens it, and each later call moves it on.
+///
+/// Its numbers are the library's own. The default is a session that is over.
+#[repr(C)]
+#[derive(Clone, Debug, Default, PartialEq, Eq)]
+pub struct Stream {
+    mark: u32,
+    n: u32,
+    pages: u32,
+    positions: u32,
+    u: u32,
+    laid: u32,
+    filled: u32,
+    page: u32,
+    base: u32,
 }
 
 /// What asking reports.
@@ -116,6 +163,66 @@ pub fn write_term(
     })
 }
 
+/// Announces a word that is written in runs: so many of a card's `n` pages, so many positions, and the positions' U.
+///
+/// All headers are written to the start of the room and the rest of the block is cleared;
+/// [`term_room`](crate::term_room) tells how many bytes are enough. [`Refusal::Limit`] (`n` or `u`), [`Refusal::Lists`]
+/// (numbers that no word has) and [`Refusal::Room`] leave the room as it was.
+///
+/// [`TermWriter`](crate::TermWriter) holds session and room together, so that no other hand changes the room.
+pub fn begin_term(
+    n: u32,
+    pages: u32,
+    positions: u32,
+    u: u32,
+    room: &mut [u8],
+) -> Result<Stream, Refusal> {
+    // SAFETY: the room is lent alone for the call.
+    let begun = unsafe { jf_begin_term(n, pages, positions, u, room.as_mut_ptr(), room.len()) };
+    accepted(begun.refusal).map(|()| begun.stream)
+}
+
+/// Lays the next run of a word's postings behind those in the room, which is lent as the last call left it.
+///
+/// The lists are those of [`write_term`], cut between two pages; a run may be empty. [`Refusal::Room`] leaves the room
+/// and the session as they were. Bad postings are [`Refusal::Lists`]: the session is then over and its block all zero.
+/// A session that is over is [`Refusal::Lists`] too, and leaves the room as it was.
+pub fn put_postings(
+    stream: &mut Stream,
+    pages: &[u32],
+    counts: &[u32],
+    positions: &[u32],
+    room: &mut [u8],
+) -> Result<(), Refusal> {
+    // SAFETY: the slices are lent for the call, and the room is lent alone.
+    let put = unsafe {
+        jf_put_postings(
+            mem::take(stream),
+            pages.as_ptr(),
+            pages.len(),
+            counts.as_ptr(),
+            counts.len(),
+            positions.as_ptr(),
+            positions.len(),
+            room.as_mut_ptr(),
+            room.len(),
+        )
+    };
+    *stream = put.stream;
+    accepted(put.refusal)
+}
+
+/// Closes a word written in runs: writes its pointers and gives the length of its block.
+///
+/// It refuses as [`put_postings`] does, with totals in place of postings: they are bad where the announced pages,
+/// positions or U are not reached.
+pub fn end_term(stream: &mut Stream, room: &mut [u8]) -> Result<usize, Refusal> {
+    // SAFETY: the room is lent alone for the call.
+    let ended = unsafe { jf_end_term(mem::take(stream), room.as_mut_ptr(), room.len()) };
+    *stream = ended.stream;
+    accepted(ended.refusal).map(|()| ended.length)
+}
+
 /// Checks a term block, which has to fill the bytes given.
 pub fn check_term(block: &[u8]) -> Result<(), Refusal> {
     // SAFETY: the slice is lent for the call.
@@ -171,4 +278,105 @@ fn accepted(number: u32) -> Result<(), Refusal> {
     Err(Refusal::from_number(number).unwrap_or_else(|| {
         panic!("the archive refused with {number}, which is no number of this edition")
     }))
+}
+
+#[cfg(test)]
+mod tests {
+    use super::*;
+
+    const FILL: u8 = 0xA5;
+
+    /// The session of a word on two of 44 pages, with the first, page 4, laid at position 5.
+    fn live() -> Stream {
+        Stream {
+            mark: 1,
+            n: 44,
+            pages: 2,
+            positions: 3,
+            u: 9,
+            laid: 1,
+            filled: 1,
+            page: 5,
+            base: 6,
+        }
+    }
+
+    /// What both later calls answer to a session, and the session and the room behind them.
+    fn answers(stream: &Stream, bytes: usize) -> [(Option<Refusal>, Stream, Vec<u8>); 2] {
+        let (mut put, mut put_room) = (stream.clone(), vec![FILL; bytes]);
+        let put_refusal = put_postings(&mut put, &[15], &[2], &[0, 2], &mut put_room).err();
+        let (mut end, mut end_room) = (stream.clone(), vec![FILL; bytes]);
+        let end_refusal = end_term(&mut end, &mut end_room).err();
+        [(put_refusal, put, put_room), (end_refusal, end, end_room)]
+    }
+
+    #[test]
+    fn the_structs_are_laid_as_in_the_header() {
+        assert_eq!((size_of::<Stream>(), align_of::<Stream>()), (36, 4));
+        assert_eq!(mem::offset_of!(Stream, base), 32);
+        assert_eq!(mem::offset_of!(RawStreamed, length), size_of::<usize>());
+        assert_eq!(mem::offset_of!(RawStreamed, stream), 2 * size_of::<usize>());
+    }
+
+    #[test]
+    fn a_session_is_the_announcement_and_how_far_it_is_laid() {
+        let mut room = [FILL; 200];
+        let mut stream = begin_term(44, 2, 3, 9, &mut room).unwrap();
+        put_postings(&mut stream, &[4], &[1], &[5], &mut room).unwrap();
+        assert_eq!(stream, live());
+    }
+
+    #[test]
+    fn a_session_that_is_not_live_is_refused_in_any_room() {
+        let wrong: [fn(&mut Stream); 11] = [
+            |stream| stream.mark = 0,
+            |stream| stream.mark = u32::MAX,
+            |stream| stream.n = 16_777_217,
+            |stream| stream.u = 16_777_217,
+            |stream| stream.n = 1,
+            |stream| stream.pages = 4,
+            |stream| stream.u = 2,
+            |stream| (stream.pages, stream.laid) = (0, 0),
+            |stream| {
+                (stream.pages, stream.positions) = (0, 0);
+                (stream.laid, stream.filled) = (0, 0);
+            },
+            |stream| stream.laid = 3,
+            |stream| stream.filled = 4,
+        ];
+        for change in wrong {
+            let mut stream = live();
+            change(&mut stream);
+            for bytes in [0, 200] {
+                let over = (Some(Refusal::Lists), Stream::default(), vec![FILL; bytes]);
+                let expected = [over.clone(), over];
+                assert_eq!(answers(&stream, bytes), expected, "{stream:?}");
+            }
+        }
+    }
+
+    /// Sessions that no call gave, but that are live: their postings, or totals, are refused.
+    #[test]
+    fn a_live_session_of_any_numbers_is_answered() {
+        let strange: [fn(&mut Stream); 4] = [
+            |stream| stream.page = u32::MAX,
+            |stream| stream.base = u32::MAX,
+            |stream| stream.laid = 2,
+            |stream| stream.filled = 3,
+        ];
+        let length = crate::term_block(44, &[4, 15], &[1, 2], &[5, 0, 2])
+            .unwrap()
+            .len();
+        let cleared = [&vec![0; length][..], &[FILL; 3]].concat();
+        for change in strange {
+            let mut stream = live();
+            change(&mut stream);
+            let over = (Some(Refusal::Lists), Stream::default(), cleared.clone());
+            let expected = [over.clone(), over];
+            assert_eq!(answers(&stream, length + 3), expected, "{stream:?}");
+            let short = (Some(Refusal::Room), stream.clone(), vec![FILL; length - 1]);
+            let expected = [short.clone(), short];
+            assert_eq!(answers(&stream, length - 1), expected, "{stream:?}");
+        }
+    }
 }

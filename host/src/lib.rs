@@ -5,6 +5,9 @@
 //! the same on vectors ([`list_block`], [`term_block`], [`CardWriter`], [`ask_all`]), and names for what they
 //! take and answer ([`Question`], [`PhraseWord`], [`Answer`], [`Refusal`]).
 //!
+//! A word whose postings are not all at hand at once is written in runs of them: by [`TermWriter`], or by the calls
+//! [`begin_term`], [`put_postings`] and [`end_term`].
+//!
 //! A card has N pages, numbered from 0, and T words, its terms, numbered from 0:
 //!
 //! ```
@@ -45,13 +48,16 @@ mod calls;
 mod question;
 mod refusal;
 mod room;
+mod stream;
 
 pub use answer::{Answer, AnswerIter, Answers, PageStarts, Starts};
 pub use ask::ask_all;
 pub use blocks::{list_block, term_block, CardWriter};
 pub use calls::{
-    ask, check_index, check_list, check_term, close_index, write_list, write_term, Asked,
+    ask, begin_term, check_index, check_list, check_term, close_index, end_term, put_postings,
+    write_list, write_term, Asked, Stream,
 };
 pub use question::{question_numbers, PhraseWord, Question};
 pub use refusal::Refusal;
 pub use room::{list_room, term_room, CARD_HEADER};
+pub use stream::{Announcement, TermWriter};

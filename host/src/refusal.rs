@@ -24,7 +24,7 @@ pub enum Refusal {
     Question = 8,
     /// The room lent is too small.
     Room = 9,
-    /// The lists handed to a writer are not valid.
+    /// The lists handed to a writer are not valid or not as announced, or its session is over.
     Lists = 10,
 }
 
@@ -79,7 +79,7 @@ impl Refusal {
             Refusal::Parts => "the parts disagree",
             Refusal::Question => "the question has a wrong form or names a term that is not there",
             Refusal::Room => "the room lent is too small",
-            Refusal::Lists => "the lists handed to the writer are not valid",
+            Refusal::Lists => "the lists handed to the writer are not valid or not as announced",
         }
     }
 }

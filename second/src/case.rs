@@ -1,6 +1,8 @@
 //! One case, the run of it on one side, and its outcome.
 
 use crate::host_calls::HostCalls;
+use crate::plain::stream::Stream;
+use crate::stream_case::StreamCase;
 
 /// The calls that are compared, and the program.
 #[derive(Clone, Copy, Debug, PartialEq, Eq)]
@@ -11,6 +13,12 @@ pub enum Kind {
     CheckList,
     /// `jf_write_term`.
     WriteTerm,
+    /// `jf_begin_term`.
+    BeginTerm,
+    /// `jf_put_postings`.
+    PutPostings,
+    /// `jf_end_term`.
+    EndTerm,
     /// `jf_check_term`.
     CheckTerm,
     /// `jf_close_index`.
@@ -25,10 +33,13 @@ pub enum Kind {
 
 impl Kind {
     /// Every kind, the program last.
-    pub const ALL: [Kind; 8] = [
+    pub const ALL: [Kind; 11] = [
         Kind::WriteList,
         Kind::CheckList,
         Kind::WriteTerm,
+        Kind::BeginTerm,
+        Kind::PutPostings,
+        Kind::EndTerm,
         Kind::CheckTerm,
         Kind::CloseIndex,
         Kind::CheckIndex,
@@ -42,6 +53,9 @@ impl Kind {
             Kind::WriteList => "write_list",
             Kind::CheckList => "check_list",
             Kind::WriteTerm => "write_term",
+            Kind::BeginTerm => "begin_term",
+            Kind::PutPostings => "put_postings",
+            Kind::EndTerm => "end_term",
             Kind::CheckTerm => "check_term",
             Kind::CloseIndex => "close_index",
             Kind::CheckIndex => "check_index",
@@ -53,7 +67,8 @@ impl Kind {
     /// The numbers of refusal that can occur, 0 for none.
     pub fn can_occur(self) -> &'static [u32] {
         match self {
-            Kind::WriteList | Kind::WriteTerm => &[0, 4, 9, 10],
+            Kind::WriteList | Kind::WriteTerm | Kind::BeginTerm => &[0, 4, 9, 10],
+            Kind::PutPostings | Kind::EndTerm => &[0, 9, 10],
             Kind::CheckList => &[0, 1, 2, 3, 4, 5, 6],
             Kind::CheckTerm | Kind::CheckIndex => &[0, 1, 2, 3, 4, 5, 6, 7],
             Kind::CloseIndex => &[0, 1, 2, 3, 4, 5, 6, 7, 9],
@@ -102,6 +117,8 @@ pub enum Case {
         positions: Vec<u32>,
         room: Vec<u8>,
     },
+    /// A call of a session.
+    Stream(StreamCase),
     /// The block of `jf_check_term`.
     CheckTerm { block: Vec<u8> },
     /// The buffer, used length, N and T of `jf_close_index`.
@@ -133,6 +150,7 @@ impl Case {
             Case::WriteList { .. } => Kind::WriteList,
             Case::CheckList { .. } => Kind::CheckList,
             Case::WriteTerm { .. } => Kind::WriteTerm,
+            Case::Stream(case) => case.kind(),
             Case::CheckTerm { .. } => Kind::CheckTerm,
             Case::CloseIndex { .. } => Kind::CloseIndex,
             Case::CheckIndex { .. } => Kind::CheckIndex,
@@ -162,6 +180,13 @@ pub enum Outcome {
         length: usize,
         after: RoomAfter<u8>,
     },
+    /// What a call of a session gives.
+    Streamed {
+        refusal: u32,
+        length: usize,
+        stream: Stream,
+        after: RoomAfter<u8>,
+    },
     /// What asking gives.
     Asked {
         refusal: u32,
@@ -179,6 +204,7 @@ impl Outcome {
         match self {
             Outcome::Checked { refusal }
             | Outcome::Written { refusal, .. }
+            | Outcome::Streamed { refusal, .. }
             | Outcome::Asked { refusal, .. } => *refusal,
             Outcome::Printed { text } => printed_refusal(text),
         }
@@ -191,7 +217,7 @@ fn printed_refusal(text: &str) -> u32 {
     number.and_then(|digits| digits.parse().ok()).unwrap_or(0)
 }
 
-/// Runs a host call on one side. A program case gives `None`.
+/// Runs a host call on one side; a call of a session and a program case give `None`.
 pub fn run_call(side: &dyn HostCalls, case: &Case) -> Option<Outcome> {
     let outcome = match case {
         Case::WriteList { bound, list, room } => {
@@ -255,7 +281,7 @@ pub fn run_call(side: &dyn HostCalls, case: &Case) -> Option<Outcome> {
                 after,
             }
         }
-        Case::Program { .. } => return None,
+        Case::Stream(_) | Case::Program { .. } => return None,
     };
     Some(outcome)
 }
@@ -264,7 +290,7 @@ pub fn run_call(side: &dyn HostCalls, case: &Case) -> Option<Outcome> {
 const SURROUNDING: usize = 13;
 
 /// Lends a copy of a room to a call, and tells how the copy came back.
-fn lend<T, R>(room: &[T], call: impl FnOnce(&mut [T]) -> R) -> (R, RoomAfter<T>)
+pub fn lend<T, R>(room: &[T], call: impl FnOnce(&mut [T]) -> R) -> (R, RoomAfter<T>)
 where
     T: Copy + PartialEq + From<u8>,
 {

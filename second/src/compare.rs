@@ -3,20 +3,56 @@
 use crate::case::{run_call, Case, FileGiven, Outcome};
 use crate::host_calls::{HostCalls, Plain};
 use crate::plain::program::printed;
+use crate::stream_calls::StreamCalls;
 use crate::text::{case_text, comment_text, outcome_text, Stored};
 use std::fs;
 use std::io;
 use std::path::{Path, PathBuf};
 use std::process::Command;
 
+/// The library, or what stands for it.
+#[derive(Clone, Copy)]
+pub struct Side<'a> {
+    /// The calls that stand alone.
+    pub calls: &'a dyn HostCalls,
+    /// The calls of a session.
+    pub streams: &'a dyn StreamCalls,
+}
+
+impl<'a> Side<'a> {
+    /// The side that answers all calls by itself.
+    pub fn of<T: HostCalls + StreamCalls>(library: &'a T) -> Side<'a> {
+        Side {
+            calls: library,
+            streams: library,
+        }
+    }
+}
+
 /// What the plain program is compared with.
 pub struct Other<'a> {
-    /// The library's calls.
-    pub calls: &'a dyn HostCalls,
+    /// The library.
+    pub side: Side<'a>,
     /// The program, if its printed text is compared too.
     pub program: Option<&'a Path>,
     /// A folder for the files that the program is given.
     pub scratch: PathBuf,
+}
+
+/// A case with what the plain program gives for it.
+pub struct Decided {
+    /// The case itself.
+    pub stored: Stored,
+    /// What the plain program gives.
+    pub plain: Outcome,
+}
+
+impl Decided {
+    /// A case that the plain program decides now.
+    pub fn now(stored: Stored) -> Decided {
+        let plain = plain_outcome(&stored.case);
+        Decided { stored, plain }
+    }
 }
 
 /// What came of one comparison.
@@ -36,9 +72,9 @@ impl Other<'_> {
     }
 
     /// The same for a case whose plain outcome has been worked out.
-    pub fn compare_decided(&self, stored: &Stored, plain: Outcome) -> Option<Compared> {
-        let given = self.outcome(&stored.case)?;
-        Some(compared(stored, plain, given))
+    pub fn compare_decided(&self, decided: &Decided) -> Option<Compared> {
+        let given = self.outcome(&decided.stored.case)?;
+        Some(compared(&decided.stored, decided.plain.clone(), given))
     }
 
     fn outcome(&self, case: &Case) -> Option<Result<Outcome, String>> {
@@ -46,7 +82,8 @@ impl Other<'_> {
             Case::Program { card, questions } => self
                 .program
                 .map(|program| run_program(program, &self.scratch, card, questions)),
-            _ => run_call(self.calls, case).map(Ok),
+            Case::Stream(case) => Some(Ok(case.run(self.side.streams))),
+            _ => run_call(self.side.calls, case).map(Ok),
         }
     }
 }
@@ -64,6 +101,7 @@ pub fn plain_outcome(case: &Case) -> Outcome {
         Case::Program { card, questions } => Outcome::Printed {
             text: printed(card.readable(), questions.readable()),
         },
+        Case::Stream(case) => case.run(&Plain),
         _ => run_call(&Plain, case).expect("every other case is a call"),
     }
 }
@@ -244,7 +282,10 @@ mod tests {
     /// The number of differences on the edges and some seeded calls.
     fn differences(slip: &Slip) -> usize {
         let other = Other {
-            calls: slip,
+            side: Side {
+                calls: slip,
+                streams: &Plain,
+            },
             program: None,
             scratch: PathBuf::new(),
         };

@@ -2,36 +2,22 @@
 //! once, and then lent to many calls.
 
 use crate::case::{Case, Outcome, RoomAfter};
-use crate::compare::plain_outcome;
+use crate::compare::Decided;
 use crate::gen::cards::Card;
 use crate::gen::full_size::{self, LONG};
 use crate::gen::random::Random;
 use crate::gen::raw::{RawCard, RawList};
-use crate::gen::{calls, questions, rooms};
+use crate::gen::{calls, questions, rooms, streams};
 use crate::plain::ask::{reply_over, Reply};
 use crate::plain::index::check_index;
 use crate::plain::list::List;
 use crate::plain::term::Term;
 use crate::plain::GREATEST_WORDS;
+use crate::text::Stored;
 use std::cmp::Reverse;
 
 /// The calls that are made with one card.
 pub const CALLS: u64 = 48;
-
-/// A case with what the plain program gives for it.
-pub struct Decided {
-    /// The case itself.
-    pub case: Case,
-    /// What the plain program gives.
-    pub plain: Outcome,
-}
-
-impl Decided {
-    fn now(case: Case) -> Decided {
-        let plain = plain_outcome(&case);
-        Decided { case, plain }
-    }
-}
 
 /// A card with its pieces, its bytes and the terms read from them.
 pub struct FullCard {
@@ -83,7 +69,14 @@ impl FullCard {
             _ if call == 0 => return self.tour(random),
             _ => return self.questions(random),
         };
-        Decided::now(case)
+        Decided::now(Stored::seeded(case))
+    }
+
+    /// The calls that write its longest word run by run.
+    pub fn session(&self) -> Vec<Decided> {
+        let mut random = Random::of_case(self.seed, 8, self.number);
+        let longest = self.longest()[0] as usize;
+        streams::session_of(&mut random, self.card.pages, &self.card.words[longest])
     }
 
     /// The numbers of the words that stand anywhere, the longest first.
@@ -147,13 +140,17 @@ impl FullCard {
             questions,
             room,
         };
-        Decided { case, plain }
+        Decided {
+            stored: Stored::seeded(case),
+            plain,
+        }
     }
 }
 
 #[cfg(test)]
 mod tests {
     use super::*;
+    use crate::compare::plain_outcome;
     use crate::gen::full_size::SHAPES;
 
     #[test]
@@ -161,8 +158,9 @@ mod tests {
         for number in 0..SHAPES {
             let card = FullCard::around(4, number, 1_024);
             for call in 0..CALLS {
-                let Decided { case, plain } = card.call(call);
-                assert!(plain == plain_outcome(&case), "card {number}, call {call}");
+                let Decided { stored, plain } = card.call(call);
+                let alone = plain_outcome(&stored.case);
+                assert!(plain == alone, "card {number}, call {call}");
             }
         }
     }

@@ -1,6 +1,8 @@
 //! The library's C interface.
 
 use second::host_calls::{Asked, HostCalls, Written};
+use second::plain::stream::{Announced, Run, Stream, Streamed};
+use second::stream_calls::StreamCalls;
 use std::ptr;
 
 #[link(name = "jundefola", kind = "static")]
@@ -24,6 +26,26 @@ extern "C" {
         room: *mut u8,
         room_len: usize,
     ) -> Written;
+    fn jf_begin_term(
+        n: u32,
+        pages: u32,
+        positions: u32,
+        u: u32,
+        room: *mut u8,
+        room_len: usize,
+    ) -> Streamed;
+    fn jf_put_postings(
+        stream: Stream,
+        pages: *const u32,
+        pages_len: usize,
+        counts: *const u32,
+        counts_len: usize,
+        positions: *const u32,
+        positions_len: usize,
+        room: *mut u8,
+        room_len: usize,
+    ) -> Streamed;
+    fn jf_end_term(stream: Stream, room: *mut u8, room_len: usize) -> Streamed;
     fn jf_check_term(block: *const u8, block_len: usize) -> u32;
     fn jf_close_index(buffer: *mut u8, buffer_len: usize, used: usize, n: u32, t: u32) -> Written;
     fn jf_check_index(card: *const u8, card_len: usize) -> u32;
@@ -123,5 +145,40 @@ impl HostCalls for Archive {
                 size,
             )
         }
+    }
+}
+
+impl StreamCalls for Archive {
+    fn begin_term(&self, announced: Announced, room: &mut [u8]) -> Streamed {
+        let (at, size) = (room_address(room), room.len());
+        let Announced {
+            card_pages,
+            pages,
+            positions,
+            bound,
+        } = announced;
+        unsafe { jf_begin_term(card_pages, pages, positions, bound, at, size) }
+    }
+
+    fn put_postings(&self, stream: Stream, run: &Run, room: &mut [u8]) -> Streamed {
+        let (at, size) = (room_address(room), room.len());
+        unsafe {
+            jf_put_postings(
+                stream,
+                address(&run.pages),
+                run.pages.len(),
+                address(&run.counts),
+                run.counts.len(),
+                address(&run.positions),
+                run.positions.len(),
+                at,
+                size,
+            )
+        }
+    }
+
+    fn end_term(&self, stream: Stream, room: &mut [u8]) -> Streamed {
+        let (at, size) = (room_address(room), room.len());
+        unsafe { jf_end_term(stream, at, size) }
     }
 }

@@ -1,4 +1,4 @@
-//! The seven calls a host can make, and the plain program behind them.
+//! The seven calls of a host that stand alone, and the plain program behind them.
 
 use crate::plain;
 
@@ -24,7 +24,7 @@ pub struct Asked {
     pub used: usize,
 }
 
-/// One side of the comparison: something that answers the host's calls.
+/// One side of the comparison: something that answers the host's calls that stand alone.
 pub trait HostCalls: Sync {
     /// Writes a list's block.
     fn write_list(&self, bound: u32, list: &[u32], room: &mut [u8]) -> Written;

@@ -12,5 +12,12 @@ pub mod phrase_faults;
 pub mod plain;
 pub mod sights;
 pub mod stored;
+pub mod stream_calls;
+pub mod stream_case;
+pub mod stream_faults;
+pub mod stream_sights;
+#[cfg(test)]
+mod stream_slips;
+pub mod stream_text;
 pub mod tally;
 pub mod text;

@@ -10,6 +10,7 @@ mod work_files;
 mod worker;
 
 use options::{Options, Task};
+use second::compare::Side;
 use std::process::ExitCode;
 
 /// The side that the plain program is compared with.
@@ -28,10 +29,11 @@ fn main() -> ExitCode {
             return ExitCode::from(2);
         }
     };
+    let side = Side::of(&OTHER_SIDE);
     let result = match &options.task {
-        Task::Compare => session::compare_all(&options, &OTHER_SIDE),
-        Task::OneJob(job) => session::compare_one(&options, &OTHER_SIDE, *job),
-        Task::Replay(file) => session::replay(&options, &OTHER_SIDE, file),
+        Task::Compare => session::compare_all(&options, side),
+        Task::OneJob(job) => session::compare_one(&options, side, *job),
+        Task::Replay(file) => session::replay(&options, side, file),
     };
     match result {
         Ok(true) => ExitCode::SUCCESS,

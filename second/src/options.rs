@@ -6,12 +6,13 @@ use std::path::PathBuf;
 
 /// What the command line takes.
 pub const USAGE: &str = "\
-usage: second [--seed S] [--calls C] [--cards F] [--runs R] [--program PATH]
-              [--minutes M] [--threads K] [--out FOLDER]
+usage: second [--seed S] [--calls C] [--streams W] [--cards F] [--runs R]
+              [--program PATH] [--minutes M] [--threads K] [--out FOLDER]
               [--replay FILE | --case JOB]
 
   --seed S        the seed of the cases (default 1)
   --calls C       seeded host calls to compare (default 200000)
+  --streams W     seeded sessions that write a word run by run (default 6000)
   --cards F       cards of full size to make calls with (default 6)
   --runs R        seeded runs of the program to compare (default 1000)
   --program PATH  the program whose printed text is compared
@@ -19,8 +20,8 @@ usage: second [--seed S] [--calls C] [--cards F] [--runs R] [--program PATH]
   --threads K     threads at work (default: as many as there are cores)
   --out FOLDER    where differences are written (default target/differences)
   --replay FILE   compare the cases of a case file only
-  --case JOB      compare one job only, such as call:17, full:3 or run:4, and
-                  write its case file before it is tried";
+  --case JOB      compare one job only, such as call:17, stream:5, full:3 or
+                  run:4, and write its case file before it is tried";
 
 /// One piece of work, numbered so that it can be done again.
 #[derive(Clone, Copy, Debug, PartialEq, Eq)]
@@ -29,6 +30,12 @@ pub enum Job {
     Stored(usize),
     /// A call with a card of full size.
     Full(u64),
+    /// The session that writes the longest word of a card of full size.
+    Long(u64),
+    /// A session of a word that is cut in every way.
+    Cut(u64),
+    /// A seeded session.
+    Stream(u64),
     /// A seeded host call.
     Call(u64),
     /// A seeded run of the program.
@@ -40,6 +47,9 @@ impl fmt::Display for Job {
         match self {
             Job::Stored(number) => write!(f, "stored:{number}"),
             Job::Full(number) => write!(f, "full:{number}"),
+            Job::Long(number) => write!(f, "long:{number}"),
+            Job::Cut(number) => write!(f, "cut:{number}"),
+            Job::Stream(number) => write!(f, "stream:{number}"),
             Job::Call(number) => write!(f, "call:{number}"),
             Job::Run(number) => write!(f, "run:{number}"),
         }
@@ -52,6 +62,9 @@ impl Job {
         match kind {
             "stored" => number.parse().ok().map(Job::Stored),
             "full" => number.parse().ok().map(Job::Full),
+            "long" => number.parse().ok().map(Job::Long),
+            "cut" => number.parse().ok().map(Job::Cut),
+            "stream" => number.parse().ok().map(Job::Stream),
             "call" => number.parse().ok().map(Job::Call),
             "run" => number.parse().ok().map(Job::Run),
             _ => None,
@@ -77,6 +90,8 @@ pub struct Options {
     pub seed: u64,
     /// Seeded host calls.
     pub calls: u64,
+    /// Seeded sessions.
+    pub streams: u64,
     /// Cards of full size.
     pub cards: u64,
     /// Seeded runs of the program.
@@ -99,6 +114,7 @@ impl Options {
         let mut options = Options {
             seed: 1,
             calls: 200_000,
+            streams: 6_000,
             cards: SHAPES,
             runs: 1_000,
             program: None,
@@ -119,6 +135,7 @@ impl Options {
         match name {
             "--seed" => self.seed = number(name, value)?,
             "--calls" => self.calls = number(name, value)?,
+            "--streams" => self.streams = number(name, value)?,
             "--cards" => self.cards = number(name, value)?,
             "--minutes" => self.minutes = Some(number(name, value)?),
             "--runs" => self.runs = number(name, value)?,

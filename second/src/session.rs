@@ -5,10 +5,9 @@ use crate::pace::Pace;
 use crate::work_files::{write_case, Scratch};
 use crate::worker::Worker;
 use second::case::Kind;
-use second::compare::{Compared, Other};
+use second::compare::{Compared, Decided, Other, Side};
 use second::full_size::{FullCard, CALLS};
-use second::gen::{calls, files};
-use second::host_calls::HostCalls;
+use second::gen::{calls, cuts, files, streams};
 use second::long_closing;
 use second::stored;
 use second::tally::Tally;
@@ -32,16 +31,16 @@ pub enum Work {
 pub struct Shared<'a> {
     /// The command line.
     pub options: &'a Options,
-    side: &'a dyn HostCalls,
+    side: Side<'a>,
     stored: Vec<Stored>,
     pace: Pace,
     next: AtomicU64,
     differences: AtomicU64,
 }
 
-/// Compares stored edges, cards of full size, program runs and seeded calls.
+/// Compares stored edges, cards of full size, program runs, sessions and seeded calls.
 /// Gives whether all was equal and everything that must be seen was seen.
-pub fn compare_all(options: &Options, side: &dyn HostCalls) -> Result<bool, String> {
+pub fn compare_all(options: &Options, side: Side) -> Result<bool, String> {
     let shared = Shared::new(options, side)?;
     let mut tally = shared.work_on_all_threads()?;
     shared.compare_long_closings(&mut tally);
@@ -49,7 +48,7 @@ pub fn compare_all(options: &Options, side: &dyn HostCalls) -> Result<bool, Stri
 }
 
 impl<'a> Shared<'a> {
-    fn new(options: &'a Options, side: &'a dyn HostCalls) -> Result<Shared<'a>, String> {
+    fn new(options: &'a Options, side: Side<'a>) -> Result<Shared<'a>, String> {
         fs::create_dir_all(&options.out).map_err(|e| format!("{}: {e}", options.out.display()))?;
         let edges = stored::edges()?;
         let changes = stored::small_changes(&edges);
@@ -75,17 +74,21 @@ impl<'a> Shared<'a> {
         self.work(number)
     }
 
-    /// The work of this number: stored edges, cards, runs, then calls.
+    /// The work of this number: stored edges, cards, runs, sessions, then calls.
     fn work(&self, number: u64) -> Option<Work> {
         let runs = match self.options.program {
             Some(_) => self.options.runs,
             None => 0,
         };
         let stored = |number| Work::One(Job::Stored(number as usize));
-        let sections: [(u64, &dyn Fn(u64) -> Work); 4] = [
+        let sections: [(u64, &dyn Fn(u64) -> Work); 6] = [
             (self.stored.len() as u64, &stored),
             (self.options.cards, &Work::Card),
             (runs, &|number| Work::One(Job::Run(number))),
+            (cuts::SESSIONS, &|number| Work::One(Job::Cut(number))),
+            (self.options.streams, &|number| {
+                Work::One(Job::Stream(number))
+            }),
             (self.options.calls, &|number| Work::One(Job::Call(number))),
         ];
         let mut place = number;
@@ -98,18 +101,25 @@ impl<'a> Shared<'a> {
         None
     }
 
-    /// The case of a job.
-    pub fn case_of(&self, job: Job) -> Option<Stored> {
+    /// The cases of a job, in turn.
+    pub fn cases_of(&self, job: Job) -> Option<Vec<Decided>> {
         let seed = self.options.seed;
-        Some(match job {
+        let stored = match job {
             Job::Stored(number) => self.stored.get(number)?.clone(),
             Job::Full(number) => {
                 let card = FullCard::of(seed, number / CALLS);
-                Stored::seeded(card.call(number % CALLS).case)
+                return Some(vec![card.call(number % CALLS)]);
             }
+            Job::Long(number) => return Some(FullCard::of(seed, number).session()),
+            Job::Cut(number) => {
+                let in_range = number < cuts::SESSIONS;
+                return in_range.then(|| cuts::session(seed, number));
+            }
+            Job::Stream(number) => return Some(streams::session(seed, number)),
             Job::Call(number) => Stored::seeded(calls::call(seed, number)),
             Job::Run(number) => Stored::seeded(files::run(seed, number)),
-        })
+        };
+        Some(vec![Decided::now(stored)])
     }
 
     fn differences(&self) -> u64 {
@@ -132,7 +142,7 @@ impl<'a> Shared<'a> {
     }
 
     fn compare_long_closings(&self, tally: &mut Tally) {
-        match long_closing::compare(self.side, tally) {
+        match long_closing::compare(self.side.calls, tally) {
             Some(lines) => {
                 lines.iter().for_each(|line| println!("difference: {line}"));
                 let number = lines.len() as u64;
@@ -145,7 +155,7 @@ impl<'a> Shared<'a> {
     /// What the plain program is compared with.
     pub fn other(&self, scratch: &Scratch) -> Other<'_> {
         Other {
-            calls: self.side,
+            side: self.side,
             program: self.options.program.as_deref(),
             scratch: scratch.0.clone(),
         }
@@ -182,16 +192,18 @@ impl<'a> Shared<'a> {
 }
 
 /// Compares one job, whose case file is written before it is tried.
-pub fn compare_one(options: &Options, side: &dyn HostCalls, job: Job) -> Result<bool, String> {
+pub fn compare_one(options: &Options, side: Side, job: Job) -> Result<bool, String> {
     let shared = Shared::new(options, side)?;
-    let stored = shared.case_of(job).ok_or(format!("there is no {job}"))?;
-    let path = write_case(&options.out, &job.to_string(), &case_text(&stored.case))?;
+    let cases = shared.cases_of(job).ok_or(format!("there is no {job}"))?;
+    let cases: Vec<Stored> = cases.into_iter().map(|call| call.stored).collect();
+    let text: String = cases.iter().map(|stored| case_text(&stored.case)).collect();
+    let path = write_case(&options.out, &job.to_string(), &text)?;
     println!("case file: {}", path.display());
-    compare_cases(&shared, &job.to_string(), &[stored])
+    compare_cases(&shared, &job.to_string(), &cases)
 }
 
 /// Compares the cases of a file.
-pub fn replay(options: &Options, side: &dyn HostCalls, file: &Path) -> Result<bool, String> {
+pub fn replay(options: &Options, side: Side, file: &Path) -> Result<bool, String> {
     let text = fs::read_to_string(file).map_err(|e| format!("{}: {e}", file.display()))?;
     let cases = read_cases(&text).map_err(|e| format!("{}: {e}", file.display()))?;
     let shared = Shared::new(options, side)?;

@@ -4,6 +4,7 @@ use crate::case::{Case, Kind, Outcome};
 use crate::gen::lists::GREATEST_WIDTH;
 use crate::plain::list::Shape;
 use crate::sights::{sights, Sight};
+use crate::stream_sights::{stream_sights, StreamSight};
 use std::fmt::Write;
 
 /// One more than the greatest number of refusal.
@@ -15,6 +16,7 @@ pub struct Tally {
     seen: [[u64; REFUSALS]; Kind::ALL.len()],
     widths: [u64; GREATEST_WIDTH as usize + 1],
     sights: [u64; Sight::ALL.len()],
+    stream_sights: [u64; StreamSight::ALL.len()],
 }
 
 impl Default for Tally {
@@ -30,6 +32,7 @@ impl Tally {
             seen: [[times; REFUSALS]; Kind::ALL.len()],
             widths: [times; GREATEST_WIDTH as usize + 1],
             sights: [times; Sight::ALL.len()],
+            stream_sights: [times; StreamSight::ALL.len()],
         }
     }
 
@@ -45,6 +48,9 @@ impl Tally {
         for sight in sights(case, plain) {
             self.sights[sight.place()] += 1;
         }
+        for sight in stream_sights(case, plain) {
+            self.stream_sights[sight.place()] += 1;
+        }
     }
 
     /// Counts a comparison by its kind alone.
@@ -59,6 +65,15 @@ impl Tally {
         }
         add_each(&mut self.widths, &other.widths);
         add_each(&mut self.sights, &other.sights);
+        add_each(&mut self.stream_sights, &other.stream_sights);
+    }
+
+    /// How often each sight was seen, by its name.
+    fn sights_by_name(&self) -> Vec<(String, u64)> {
+        let names = Sight::ALL.into_iter().map(Sight::name);
+        let stream_names = StreamSight::ALL.into_iter().map(StreamSight::name);
+        let times = self.sights.iter().chain(&self.stream_sights).copied();
+        names.chain(stream_names).zip(times).collect()
     }
 
     /// The cases of a kind.
@@ -90,11 +105,12 @@ impl Tally {
                 lines.push(format!("no list of low width {width} was written"));
             }
         }
-        for sight in Sight::ALL {
-            if self.sights[sight.place()] == 0 {
-                lines.push(sight.name());
-            }
-        }
+        let sights = self.sights_by_name().into_iter();
+        lines.extend(
+            sights
+                .filter(|(_, times)| *times == 0)
+                .map(|(name, _)| name),
+        );
         lines
     }
 
@@ -117,8 +133,8 @@ impl Tally {
             "lists written of low width 0 to {last}: {}\n",
             widths.join(" ")
         );
-        for sight in Sight::ALL {
-            text += &format!("{}: {}\n", sight.name(), self.sights[sight.place()]);
+        for (name, times) in self.sights_by_name() {
+            text += &format!("{name}: {times}\n");
         }
         text
     }
@@ -159,6 +175,15 @@ mod tests {
         for sight in Sight::ALL {
             let mut tally = Tally::of_each(1);
             tally.sights[sight.place()] = 0;
+            assert_eq!(tally.unseen(true), [sight.name()]);
+        }
+    }
+
+    #[test]
+    fn a_tally_without_one_sight_of_sessions_lacks_it() {
+        for sight in StreamSight::ALL {
+            let mut tally = Tally::of_each(1);
+            tally.stream_sights[sight.place()] = 0;
             assert_eq!(tally.unseen(true), [sight.name()]);
         }
     }

@@ -7,6 +7,8 @@
 //! stands for 00FF00FF00FF.
 
 use crate::case::{Case, FileGiven, Kind, Outcome, RoomAfter};
+use crate::plain::stream::Stream;
+use crate::stream_text::{put_stream, put_stream_case, read_stream_case, read_streamed};
 use std::fmt::Write;
 
 /// A case, and what it must give if the file says so.
@@ -70,7 +72,7 @@ fn read_case(lines: &[String]) -> Result<Stored, String> {
 }
 
 /// The named lines of one case.
-struct Fields<'a>(&'a [String]);
+pub struct Fields<'a>(&'a [String]);
 
 impl Fields<'_> {
     fn all(&self, name: &str) -> Vec<&str> {
@@ -86,14 +88,16 @@ impl Fields<'_> {
         }
     }
 
-    fn number<T: TryFrom<u64>>(&self, name: &str) -> Result<T, String> {
+    /// The number of the one line of this name.
+    pub fn number<T: TryFrom<u64>>(&self, name: &str) -> Result<T, String> {
         let value = self.one(name)?;
         let number: Option<u64> = value.parse().ok();
         let number = number.and_then(|number| T::try_from(number).ok());
         number.ok_or(format!("`{name} {value}` is no number for this place"))
     }
 
-    fn numbers(&self, name: &str) -> Result<Vec<u32>, String> {
+    /// The numbers of the one line of this name.
+    pub fn numbers(&self, name: &str) -> Result<Vec<u32>, String> {
         let mut numbers = Vec::new();
         for token in self.one(name)?.split_whitespace() {
             numbers.extend(read_numbers(token).ok_or(format!("{name}: {token} is no number"))?);
@@ -101,8 +105,18 @@ impl Fields<'_> {
         Ok(numbers)
     }
 
-    fn bytes(&self, name: &str) -> Result<Vec<u8>, String> {
+    /// The bytes of the one line of this name.
+    pub fn bytes(&self, name: &str) -> Result<Vec<u8>, String> {
         read_all_bytes(self.one(name)?).ok_or(format!("{name}: not hexadecimal"))
+    }
+
+    /// The room that a call leaves: what is told of it, else what it was.
+    pub fn room_after(&self, before: &[u8]) -> Result<RoomAfter<u8>, String> {
+        let told = !self.all("after").is_empty();
+        Ok(kept(match told {
+            true => self.bytes("after")?,
+            false => before.to_vec(),
+        }))
     }
 
     fn file(&self, name: &str) -> Result<FileGiven, String> {
@@ -155,6 +169,9 @@ fn read_inputs(kind: Kind, fields: &Fields) -> Result<Case, String> {
             positions: fields.numbers("positions")?,
             room: fields.bytes("room")?,
         },
+        Kind::BeginTerm | Kind::PutPostings | Kind::EndTerm => {
+            Case::Stream(read_stream_case(kind, fields)?)
+        }
         Kind::CheckTerm => Case::CheckTerm {
             block: fields.bytes("block")?,
         },
@@ -181,7 +198,6 @@ fn read_inputs(kind: Kind, fields: &Fields) -> Result<Case, String> {
 
 /// Reads an outcome; a room that is not told of is unchanged.
 fn read_outcome(case: &Case, fields: &Fields) -> Result<Outcome, String> {
-    let has_after = !fields.all("after").is_empty();
     Ok(match case {
         Case::CheckList { .. } | Case::CheckTerm { .. } | Case::CheckIndex { .. } => {
             Outcome::Checked {
@@ -193,18 +209,16 @@ fn read_outcome(case: &Case, fields: &Fields) -> Result<Outcome, String> {
         | Case::CloseIndex { buffer: room, .. } => Outcome::Written {
             refusal: fields.number("refusal")?,
             length: fields.number("length")?,
-            after: kept(match has_after {
-                true => fields.bytes("after")?,
-                false => room.clone(),
-            }),
+            after: fields.room_after(room)?,
         },
+        Case::Stream(case) => read_streamed(case, fields)?,
         Case::Ask { room, .. } => Outcome::Asked {
             refusal: fields.number("refusal")?,
             answered: fields.number("answered")?,
             used: fields.number("used")?,
-            after: kept(match has_after {
-                true => fields.numbers("after")?,
-                false => room.clone(),
+            after: kept(match fields.all("after").is_empty() {
+                false => fields.numbers("after")?,
+                true => room.clone(),
             }),
         },
         Case::Program { .. } => Outcome::Printed {
@@ -248,6 +262,7 @@ pub fn case_text(case: &Case) -> String {
             put_numbers(&mut text, "positions", positions);
             put_bytes(&mut text, "room", room);
         }
+        Case::Stream(case) => put_stream_case(&mut text, case),
         Case::CloseIndex {
             buffer,
             used,
@@ -286,12 +301,13 @@ pub fn outcome_text(outcome: &Outcome) -> String {
             refusal,
             length,
             after,
-        } => {
-            put_number(&mut text, "refusal", *refusal);
-            put_number(&mut text, "length", *length);
-            put_bytes(&mut text, "after", &after.room);
-            put_surroundings(&mut text, after.surroundings_kept);
-        }
+        } => put_written(&mut text, *refusal, *length, None, after),
+        Outcome::Streamed {
+            refusal,
+            length,
+            stream,
+            after,
+        } => put_written(&mut text, *refusal, *length, Some(*stream), after),
         Outcome::Asked {
             refusal,
             answered,
@@ -313,6 +329,22 @@ pub fn outcome_text(outcome: &Outcome) -> String {
     text
 }
 
+fn put_written(
+    text: &mut String,
+    refusal: u32,
+    length: usize,
+    stream: Option<Stream>,
+    after: &RoomAfter<u8>,
+) {
+    put_number(text, "refusal", refusal);
+    put_number(text, "length", length);
+    if let Some(stream) = stream {
+        put_stream(text, stream);
+    }
+    put_bytes(text, "after", &after.room);
+    put_surroundings(text, after.surroundings_kept);
+}
+
 /// Writes what a comment says, a line for each line.
 pub fn comment_text(text: &str) -> String {
     text.lines().map(|line| format!("# {line}\n")).collect()
@@ -324,16 +356,19 @@ fn put_surroundings(text: &mut String, kept: bool) {
     }
 }
 
-fn put_number(text: &mut String, name: &str, number: impl std::fmt::Display) {
+/// Writes a line of this name.
+pub fn put_number(text: &mut String, name: &str, number: impl std::fmt::Display) {
     writeln!(text, "{name} {number}").expect("text takes text");
 }
 
-fn put_numbers(text: &mut String, name: &str, numbers: &[u32]) {
+/// Writes a line of this name.
+pub fn put_numbers(text: &mut String, name: &str, numbers: &[u32]) {
     let words: Vec<String> = numbers.iter().map(u32::to_string).collect();
     put_wrapped(text, name, words.chunks(16).map(|line| line.join(" ")));
 }
 
-fn put_bytes(text: &mut String, name: &str, bytes: &[u8]) {
+/// Writes a line of this name.
+pub fn put_bytes(text: &mut String, name: &str, bytes: &[u8]) {
     let digits = |line: &[u8]| line.iter().map(|byte| format!("{byte:02X}")).collect();
     put_wrapped(text, name, bytes.chunks(32).map(digits));
 }
@@ -359,12 +394,17 @@ fn put_wrapped(text: &mut String, name: &str, lines: impl Iterator<Item = String
 mod tests {
     use super::*;
     use crate::compare::plain_outcome;
-    use crate::gen::{calls, files};
+    use crate::gen::{calls, files, streams};
 
     #[test]
     fn a_case_file_reads_as_it_was_written() {
-        let cases = (0..150).map(|number| calls::call(5, number));
-        for case in cases.chain((0..50).map(|number| files::run(5, number))) {
+        let calls = (0..150).map(|number| calls::call(5, number));
+        let runs = (0..50).map(|number| files::run(5, number));
+        let sessions = (0..20).flat_map(|number| streams::session(5, number));
+        for case in calls
+            .chain(runs)
+            .chain(sessions.map(|call| call.stored.case))
+        {
             let outcome = plain_outcome(&case);
             let text = case_text(&case) + "gives\n" + &outcome_text(&outcome);
             let gives = Some(outcome);

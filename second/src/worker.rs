@@ -3,10 +3,9 @@
 use crate::options::Job;
 use crate::session::{Shared, Work};
 use crate::work_files::{Scratch, UnderWay};
-use second::compare::{Compared, Other};
+use second::compare::{Decided, Other};
 use second::full_size::{FullCard, CALLS};
 use second::tally::Tally;
-use second::text::Stored;
 
 /// What one thread holds while it works.
 pub struct Worker<'a> {
@@ -38,12 +37,22 @@ impl<'a> Worker<'a> {
 
     fn compare_job(&mut self, job: Job) -> Result<(), String> {
         self.under_way.note(job)?;
-        let stored = self.shared.case_of(job).ok_or("no such job")?;
-        let compared = self.other.compare(&stored);
-        self.count(job, &stored, compared)
+        let cases = self.shared.cases_of(job).ok_or("no such job")?;
+        self.compare_cases(job, &cases)
     }
 
-    /// Makes every call of a card of full size, which is built once.
+    fn compare_cases(&mut self, job: Job, cases: &[Decided]) -> Result<(), String> {
+        for (number, case) in cases.iter().enumerate() {
+            let name = match cases.len() {
+                1 => job.to_string(),
+                _ => format!("{job}-{number}"),
+            };
+            self.compare_case(&name, case)?;
+        }
+        Ok(())
+    }
+
+    /// Makes every call of a card of full size, which is built once, and writes its longest word run by run.
     fn compare_card(&mut self, number: u64) -> Result<(), String> {
         let first = number * CALLS;
         self.under_way.note(Job::Full(first))?;
@@ -51,24 +60,18 @@ impl<'a> Worker<'a> {
         for call in 0..CALLS {
             let job = Job::Full(first + call);
             self.under_way.note(job)?;
-            let decided = card.call(call);
-            let stored = Stored::seeded(decided.case);
-            let compared = self.other.compare_decided(&stored, decided.plain);
-            self.count(job, &stored, compared)?;
+            self.compare_case(&job.to_string(), &card.call(call))?;
         }
-        Ok(())
+        let session = Job::Long(number);
+        self.under_way.note(session)?;
+        self.compare_cases(session, &card.session())
     }
 
-    /// Counts a case, unless there was no program to run it.
-    fn count(
-        &mut self,
-        job: Job,
-        stored: &Stored,
-        compared: Option<Compared>,
-    ) -> Result<(), String> {
-        if let Some(compared) = compared {
-            self.tally.count(&stored.case, &compared.plain);
-            self.shared.note_difference(&job.to_string(), &compared)?;
+    /// Compares and counts a case, unless there is no program to run it.
+    fn compare_case(&mut self, name: &str, case: &Decided) -> Result<(), String> {
+        if let Some(compared) = self.other.compare_decided(case) {
+            self.tally.count(&case.stored.case, &compared.plain);
+            self.shared.note_difference(name, &compared)?;
         }
         Ok(())
     }

@@ -11,6 +11,7 @@ mod common;
 mod cursor;
 mod phrase;
 mod shape;
+mod stream;
 mod term;
 mod write;
 
@@ -50,6 +51,42 @@ pub struct Asked {
     pub answered: usize,
     /// The numbers of the room that they use.
     pub used: usize,
+}
+
+/// A session that writes a term run by run, as the host carries it.
+#[repr(C)]
+#[derive(Clone, Copy, Debug, PartialEq, Eq)]
+pub struct Stream {
+    /// 1 in a session that goes on.
+    pub mark: u32,
+    /// The pages of the card, as announced.
+    pub n: u32,
+    /// The pages announced.
+    pub pages: u32,
+    /// The positions announced.
+    pub positions: u32,
+    /// The positions' U announced.
+    pub u: u32,
+    /// The pages laid.
+    pub laid: u32,
+    /// The positions laid.
+    pub filled: u32,
+    /// The least page that may follow.
+    pub page: u32,
+    /// The base of the next page.
+    pub base: u32,
+}
+
+/// What a call of a session reports.
+#[repr(C)]
+#[derive(Clone, Copy, Debug, PartialEq, Eq)]
+pub struct Streamed {
+    /// The refusal, 0 if none.
+    pub refusal: u32,
+    /// The block's length at a finished close, else 0.
+    pub length: usize,
+    /// The session for the next call.
+    pub stream: Stream,
 }
 
 impl From<Result<usize, u32>> for Written {
@@ -121,6 +158,49 @@ pub unsafe extern "C" fn peer_write_term(
         positions: lent(positions, positions_len),
     };
     term::write_term(n, &word, lent_room(room, room_len)).into()
+}
+
+/// # Safety
+/// The address comes with its number of bytes.
+#[no_mangle]
+pub unsafe extern "C" fn peer_begin_term(
+    n: u32,
+    pages: u32,
+    positions: u32,
+    u: u32,
+    room: *mut u8,
+    room_len: usize,
+) -> Streamed {
+    stream::begin_term(n, pages, positions, u, lent_room(room, room_len))
+}
+
+/// # Safety
+/// Each address comes with its number of elements, and a room overlaps nothing.
+#[no_mangle]
+pub unsafe extern "C" fn peer_put_postings(
+    stream: Stream,
+    pages: *const u32,
+    pages_len: usize,
+    counts: *const u32,
+    counts_len: usize,
+    positions: *const u32,
+    positions_len: usize,
+    room: *mut u8,
+    room_len: usize,
+) -> Streamed {
+    let run = term::Word {
+        pages: lent(pages, pages_len),
+        counts: lent(counts, counts_len),
+        positions: lent(positions, positions_len),
+    };
+    stream::put_postings(stream, &run, lent_room(room, room_len))
+}
+
+/// # Safety
+/// The address comes with its number of bytes.
+#[no_mangle]
+pub unsafe extern "C" fn peer_end_term(stream: Stream, room: *mut u8, room_len: usize) -> Streamed {
+    stream::end_term(stream, lent_room(room, room_len))
 }
 
 /// # Safety

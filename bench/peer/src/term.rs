@@ -4,7 +4,8 @@ use crate::bits::put_number;
 use crate::check::TERM_OPENING;
 use crate::refusal;
 use crate::shape::GREATEST_BOUND;
-use crate::write::{block_size, falls, is_valid, Writer};
+use crate::write::{block_size, falls, is_valid, Elements, Writer};
+use std::mem::MaybeUninit;
 
 /// What the writer is lent of one word.
 pub struct Word<'a> {
@@ -43,17 +44,17 @@ pub fn write_term(n: u32, word: &Word, room: &mut [u8]) -> Result<usize, u32> {
         pages.put(word.pages);
         at = at.add(pages.finish());
         let mut counts = Writer::new(positions_n, pages_n, at);
-        put_counts(word.counts, &mut counts);
+        put_counts(word.counts, 0, &mut counts);
         at = at.add(counts.finish());
         let mut positions = Writer::new(positions_u, positions_n, at);
-        put_positions(word, &mut positions);
+        put_positions(word, 0, &mut positions);
         positions.finish();
     }
     Ok(size)
 }
 
 /// The positions' U, if counts and positions are valid.
-fn positions_bound(word: &Word) -> Option<u64> {
+pub fn positions_bound(word: &Word) -> Option<u64> {
     let positions = word.positions;
     let (mut end, mut bound) = (0_usize, 0_u64);
     // Positions may fall from one page to the next, and only there.
@@ -81,37 +82,46 @@ fn falls_in(list: &[u32]) -> usize {
 /// Elements that are worked out before they are written.
 const STRETCH: usize = 256;
 
-/// Writes the counts list.
-unsafe fn put_counts(counts: &[u32], writer: &mut Writer) {
-    let mut elements = [0; STRETCH];
-    let mut sum = 0_u32;
+const NOT_WORKED_OUT: [MaybeUninit<u32>; STRETCH] = [const { MaybeUninit::uninit() }; STRETCH];
+
+/// Elements that have all been worked out.
+#[inline(always)]
+unsafe fn worked_out(elements: &[MaybeUninit<u32>]) -> &[u32] {
+    &*(elements as *const [MaybeUninit<u32>] as *const [u32])
+}
+
+/// Writes the counts list, behind so many positions.
+pub unsafe fn put_counts(counts: &[u32], before: u32, writer: &mut impl Elements) {
+    let mut elements = NOT_WORKED_OUT;
+    let mut sum = before;
     for stretch in counts.chunks(STRETCH) {
         for (element, count) in elements.iter_mut().zip(stretch) {
             sum += count;
-            *element = sum - 1;
+            element.write(sum - 1);
         }
-        writer.put(&elements[..stretch.len()]);
+        writer.put(worked_out(&elements[..stretch.len()]));
     }
 }
 
-/// Writes the positions list.
-unsafe fn put_positions(word: &Word, writer: &mut Writer) {
-    let mut elements = [0; STRETCH];
+/// Writes the positions list, the first page's on this base.
+pub unsafe fn put_positions(word: &Word, first_base: u32, writer: &mut impl Elements) {
+    let mut elements = NOT_WORKED_OUT;
     let mut lasts = Lasts::of(word.counts);
-    let mut base = 0_u32;
+    let mut base = first_base;
     for stretch in word.positions.chunks(STRETCH) {
         let parts = elements.chunks_mut(64).zip(stretch.chunks(64));
         for (elements, positions) in parts {
             let mut last = lasts.next_64();
             for (element, position) in elements.iter_mut().zip(positions) {
-                *element = base + position;
+                let x = base + position;
+                element.write(x);
                 // The base of the next page, where this position is a page's last; without a branch.
                 let turn = 0_u32.wrapping_sub(last as u32 & 1);
-                base ^= (base ^ (*element + 1)) & turn;
+                base ^= (base ^ (x + 1)) & turn;
                 last >>= 1;
             }
         }
-        writer.put(&elements[..stretch.len()]);
+        writer.put(worked_out(&elements[..stretch.len()]));
     }
 }
 

@@ -62,6 +62,15 @@ pub fn write_list(u: u32, list: &[u32], room: &mut [u8]) -> Result<usize, u32> {
     }
 }
 
+/// What takes the elements of a list, some at a time.
+pub trait Elements {
+    /// Takes the next elements.
+    ///
+    /// # Safety
+    /// All elements put are strictly rising and below u, and not more than n.
+    unsafe fn put(&mut self, elements: &[u32]);
+}
+
 /// A block under way, in a room that is large enough.
 ///
 /// The upper run is cleared at the start, so that only words with ones are stored.
@@ -116,17 +125,6 @@ impl Writer {
             window: 0,
             filled: 0,
             rank: 0,
-        }
-    }
-
-    /// Writes the next elements.
-    ///
-    /// # Safety
-    /// All elements put are strictly rising and below u, and not more than n.
-    pub unsafe fn put(&mut self, elements: &[u32]) {
-        match self.width {
-            0 => self.put_runs::<false>(elements),
-            _ => self.put_runs::<true>(elements),
         }
     }
 
@@ -209,6 +207,15 @@ impl Writer {
             self.last_due + self.rank,
         );
         self.size
+    }
+}
+
+impl Elements for Writer {
+    unsafe fn put(&mut self, elements: &[u32]) {
+        match self.width {
+            0 => self.put_runs::<false>(elements),
+            _ => self.put_runs::<true>(elements),
+        }
     }
 }
 

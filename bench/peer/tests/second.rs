@@ -2,13 +2,15 @@
 
 use jundefola_peer as peer;
 use second::case::{Case, Kind};
-use second::compare::{Compared, Other};
+use second::compare::{Compared, Decided, Other, Side};
 use second::full_size::FullCard;
 use second::gen::full_size::SHAPES;
-use second::gen::{calls, files};
+use second::gen::{calls, cuts, files, streams};
 use second::host_calls::{Asked, HostCalls, Written};
 use second::long_closing;
+use second::plain::stream::{Announced, Run, Stream, Streamed};
 use second::stored;
+use second::stream_calls::StreamCalls;
 use second::tally::Tally;
 use second::text::Stored;
 use std::fs;
@@ -97,6 +99,76 @@ impl HostCalls for Peer {
     }
 }
 
+/// A session in the peer's own struct.
+fn peer_stream(stream: Stream) -> peer::Stream {
+    let [mark, n, pages, positions, u, laid, filled, page, base] = stream.numbers();
+    peer::Stream {
+        mark,
+        n,
+        pages,
+        positions,
+        u,
+        laid,
+        filled,
+        page,
+        base,
+    }
+}
+
+fn streamed(given: peer::Streamed) -> Streamed {
+    let stream = given.stream;
+    Streamed {
+        refusal: given.refusal,
+        length: given.length,
+        stream: Stream::of_numbers([
+            stream.mark,
+            stream.n,
+            stream.pages,
+            stream.positions,
+            stream.u,
+            stream.laid,
+            stream.filled,
+            stream.page,
+            stream.base,
+        ]),
+    }
+}
+
+impl StreamCalls for Peer {
+    fn begin_term(&self, announced: Announced, room: &mut [u8]) -> Streamed {
+        let (at, size) = (room_address(room), room.len());
+        let Announced {
+            card_pages,
+            pages,
+            positions,
+            bound,
+        } = announced;
+        streamed(unsafe { peer::peer_begin_term(card_pages, pages, positions, bound, at, size) })
+    }
+
+    fn put_postings(&self, stream: Stream, run: &Run, room: &mut [u8]) -> Streamed {
+        let (at, size) = (room_address(room), room.len());
+        streamed(unsafe {
+            peer::peer_put_postings(
+                peer_stream(stream),
+                address(&run.pages),
+                run.pages.len(),
+                address(&run.counts),
+                run.counts.len(),
+                address(&run.positions),
+                run.positions.len(),
+                at,
+                size,
+            )
+        })
+    }
+
+    fn end_term(&self, stream: Stream, room: &mut [u8]) -> Streamed {
+        let (at, size) = (room_address(room), room.len());
+        streamed(unsafe { peer::peer_end_term(peer_stream(stream), at, size) })
+    }
+}
+
 /// How many are compared, and by which seed: the usual number, or what the environment asks for.
 fn asked_for(name: &str, usual: u64) -> u64 {
     let given = std::env::var(name).ok();
@@ -111,7 +183,7 @@ fn scratch(name: &str) -> PathBuf {
 
 fn peer_side(name: &str) -> Other<'static> {
     Other {
-        calls: &Peer,
+        side: Side::of(&Peer),
         program: Some(Path::new(env!("CARGO_BIN_EXE_peer_lookup"))),
         scratch: scratch(name),
     }
@@ -134,18 +206,30 @@ fn compare_all(name: &str, cases: impl Iterator<Item = Stored>) -> Tally {
     tally
 }
 
-/// The first calls with a card of each shape at full size.
+fn compare_decided(tally: &mut Tally, other: &Other, cases: impl Iterator<Item = Decided>) {
+    for decided in cases {
+        let compared = other.compare_decided(&decided);
+        let compared = compared.expect("no program is needed");
+        count_same(tally, &decided.stored.case, compared);
+    }
+}
+
+/// The first calls with a card of each shape at full size, and its longest word written run by run.
 fn compare_full_size(tally: &mut Tally, seed: u64) {
     let other = peer_side("full");
     for number in 0..SHAPES {
         let card = FullCard::of(seed, number);
-        for call in 0..asked_for("PEER_FULL_CALLS", 16) {
-            let decided = card.call(call);
-            let stored = seeded(decided.case);
-            let compared = other.compare_decided(&stored, decided.plain);
-            count_same(tally, &stored.case, compared.expect("no program is needed"));
-        }
+        let calls = (0..asked_for("PEER_FULL_CALLS", 16)).map(|call| card.call(call));
+        compare_decided(tally, &other, calls.chain(card.session()));
     }
+}
+
+/// Words cut in every way, and sessions at random.
+fn compare_sessions(tally: &mut Tally, seed: u64) {
+    let cuts = (0..cuts::SESSIONS).flat_map(|number| cuts::session(seed, number));
+    let number = asked_for("PEER_STREAMS", 4_000);
+    let at_random = (0..number).flat_map(|number| streams::session(seed, number));
+    compare_decided(tally, &peer_side("sessions"), cuts.chain(at_random));
 }
 
 fn seeded(case: Case) -> Stored {
@@ -169,6 +253,7 @@ fn seeded_calls_and_runs_are_answered_alike() {
     let runs = (0..asked_for("PEER_RUNS", 500)).map(|i| files::run(seed, i));
     let mut tally = compare_all("seeded", calls.chain(runs).map(seeded));
     compare_full_size(&mut tally, seed);
+    compare_sessions(&mut tally, seed);
     if let Some(differences) = long_closing::compare(&Peer, &mut tally) {
         assert_eq!(differences, Vec::<String>::new());
     }
@@ -178,9 +263,14 @@ fn seeded_calls_and_runs_are_answered_alike() {
         tally.calls(),
         tally.of_kind(Kind::Program)
     );
-    let is_usual = ["PEER_SEED", "PEER_CALLS", "PEER_RUNS", "PEER_FULL_CALLS"]
-        .iter()
-        .all(|name| std::env::var_os(name).is_none());
+    let usual = [
+        "PEER_SEED",
+        "PEER_CALLS",
+        "PEER_RUNS",
+        "PEER_FULL_CALLS",
+        "PEER_STREAMS",
+    ];
+    let is_usual = usual.iter().all(|name| std::env::var_os(name).is_none());
     if is_usual {
         assert_eq!(tally.unseen(true), Vec::<String>::new());
     }

@@ -32,7 +32,7 @@ tests-not b P f g = (λ e. f (not-true b e), λ e. g (not-false b e))
 
 -- ---- a list in order, and below a bound
 
-order-least : (lo : ℕ) (xs : List ℕ) → inOrder lo xs ≡ true → 0 < length xs → lo ≤ getD xs 0 0
+pub order-least : (lo : ℕ) (xs : List ℕ) → inOrder lo xs ≡ true → 0 < length xs → lo ≤ getD xs 0 0
 order-least lo [] e h = absurd (omega arith)
 order-least lo (x ∷ xs) e h = order-parts lo x xs e .0
 
@@ -43,7 +43,7 @@ order-none lo (x ∷ xs) e zero h l = omega (arith, order-least (x + 1) xs (orde
 order-none lo (x ∷ xs) e (suc i) h l = order-none (x + 1) xs (order-parts lo x xs e .1) i (omega arith) l
 
 -- out of order, or it begins too low
-order-some : (lo : ℕ) (xs : List ℕ) → inOrder lo xs ≡ false
+pub order-some : (lo : ℕ) (xs : List ℕ) → inOrder lo xs ≡ false
     → ((0 < length xs) × (getD xs 0 0 < lo)) ⊎ OutOfOrder xs
 unfolding inOrder
 order-some lo [] e = absurd (true≢false e)
@@ -96,7 +96,7 @@ rising-both lo U (x ∷ xs) = rw (rising-both (x + 1) U xs)
     turn true true false d = refl
     turn true false false d = refl
 
-passes : (b : Bool) (P : Type 0) → Tests (not b) P → (P → ⊥) → b ≡ true
+pub passes : (b : Bool) (P : Type 0) → Tests (not b) P → (P → ⊥) → b ≡ true
 passes true P t n = refl
 passes false P t n = absurd (n (t .0 refl))
 

@@ -8,6 +8,13 @@ pub mod FirstLaws
 pub mod SentenceLaws
 pub mod FaultLaws
 pub mod BadLaws
+pub mod StreamFaultLaws
+pub mod StreamLaws
+pub mod KeptLaws
+pub mod LedLaws
 pub mod Demands
 pub mod Refusals
+pub mod StreamRefusals
+pub mod StreamSentences
 pub mod Witnesses
+pub mod StreamWitnesses

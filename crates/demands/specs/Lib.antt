@@ -3,3 +3,5 @@ pub mod InRow
 pub mod Faults
 pub mod BadQuestions
 pub mod Sentences
+pub mod Streams
+pub mod StreamFaults

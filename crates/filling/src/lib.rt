@@ -2,9 +2,12 @@
 
 ghost use mathlib.Core.Bool.{true};
 ghost use mathlib.Core.Path.{_≡_};
-ghost use mathlib.Core.List.{[]};
-ghost use Prim.Native.Nat.{_-_, _/_};
+ghost use mathlib.Core.List.{[], _∷_};
+ghost use Prim.Native.Nat.{_-_, _/_, _≤_};
 ghost use lib.ListN.{length};
+ghost use lib.Seq.{sets};
+ghost use Rattle.rules.specs.Limits.{version};
+ghost use Rattle.rules.specs.Bytes.{be};
 ghost use Rattle.rules.specs.List.{rising, block};
 ghost use Rattle.rules.specs.Write.{laid};
 ghost use Rattle.filllaws.specs.Filling.{Fitting, Partly};
@@ -18,15 +21,24 @@ use rules::VERSION;
 use rules::VERSION_AT;
 use shape::Shape;
 
-// Writes the header of a block of shape g; no element is laid yet.
-pub fn begin(room: &mut [u8], g: Shape) -> Filling
-    requires { ⌜ Fitting g (now room) ⌝ }
-    ensures { λ r. ⌜ Partly g [] r (now (room .entry)) (now (room .exit)) ⌝ }
+// Writes the header of a block of shape g.
+pub fn put_header(room: &mut [u8], g: Shape)
+    requires { ⌜ 13 ≤ length (now room) ⌝ }
+    ensures { λ _. ⌜ now (room .exit) ≡ sets
+        (sets (sets (sets (now (room .entry)) 0 (be 4 (g .end))) 4 (version ∷ [])) 5 (be 4 (g .u))) 9 (be 4 (g .n)) ⌝ }
 {
     numbers::write_u32(room, 0, g.end as u64);
     room[VERSION_AT] = VERSION;
     numbers::write_u32(room, LIST_U_AT, g.u as u64);
     numbers::write_u32(room, LIST_N_AT, g.n as u64);
+}
+
+// Begins a block of shape g: its header is written, and no element is laid yet.
+pub fn begin(room: &mut [u8], g: Shape) -> Filling
+    requires { ⌜ Fitting g (now room) ⌝ }
+    ensures { λ r. ⌜ Partly g [] r (now (room .entry)) (now (room .exit)) ⌝ }
+{
+    put_header(room, g);
     Filling {
         count: 0,
         lows: Lows {

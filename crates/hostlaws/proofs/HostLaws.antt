@@ -5,16 +5,26 @@ use Prim.Native.Nat.{ℕ}
 use Rattle.rules.specs.declared.Written.{Written}
 use Rattle.rules.specs.Refusal.{number}
 use Rattle.rules.specs.Write.{Made, made}
+use Rattle.rules.specs.declared.Streamed.{Streamed}
+use Rattle.rules.specs.Stream.{Streaming, streaming}
 use Rattle.rules.specs.declared.Outcome.{Outcome}
 use Rattle.rules.specs.Ask.{Asked, asked}
 use Rattle.hostlaws.specs.declared.HostAsked.{HostAsked}
 use Rattle.hostlaws.specs.declared.HostWritten.{HostWritten}
-use Rattle.hostlaws.specs.Host.{told, toldOf, heard, heardOf}
+use Rattle.hostlaws.specs.declared.HostStreamed.{HostStreamed}
+use Rattle.hostlaws.specs.Host.{told, toldOf, toldStream, toldStreamOf, heard, heardOf}
 
 pub told-made : (w : Written) (r : HostWritten) (room : List ℕ) (m : Made)
     → (r .refusal ≡ number (w .refusal)) × (r .length ≡ w .size) → made w room ≡ m → toldOf r room ≡ told m
 told-made w r room m e f =
     subst (λ (x : Made). toldOf r room ≡ told x) f (λ i. record { refusal = e .0 i; length = e .1 i; room = room })
+
+pub told-streaming : (w : Streamed) (r : HostStreamed) (room : List ℕ) (m : Streaming)
+    → (r .refusal ≡ number (w .refusal)) × (r .length ≡ w .size) × (r .stream ≡ w .stream)
+    → streaming w room ≡ m → toldStreamOf r room ≡ toldStream m
+told-streaming w r room m e f =
+    subst (λ (x : Streaming). toldStreamOf r room ≡ toldStream x) f
+    (λ i. record { refusal = e .0 i; length = e .1 i; stream = e .2 i; room = room })
 
 pub heard-asked : (o : Outcome) (r : HostAsked) (room : List ℕ) (a : Asked)
     → (r .refusal ≡ number (o .refusal)) × (r .answered ≡ o .answered) × (r .used ≡ o .used)

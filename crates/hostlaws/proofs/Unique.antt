@@ -3,13 +3,16 @@
 use mathlib.Core.Path.{_≡_, refl}
 use mathlib.Core.List.{List}
 use Prim.Native.Nat.{ℕ}
+use Rattle.rules.specs.declared.Stream.{Stream}
 use Rattle.rules.specs.Term.{Word}
 use Rattle.rules.specs.Promises.{Determined}
 use Rattle.rules.proofs.Unique.{by-equation}
 use Rattle.hostlaws.specs.declared.HostWritten.{HostWritten}
+use Rattle.hostlaws.specs.declared.HostStreamed.{HostStreamed}
 use Rattle.hostlaws.specs.declared.HostAsked.{HostAsked}
-use Rattle.hostlaws.specs.Host.{Told, toldOf, heardOf, HostListChecked, HostListWritten, HostTermChecked}
-use Rattle.hostlaws.specs.Host.{HostTermWritten, HostIndexChecked, HostIndexClosed, HostAnswered}
+use Rattle.hostlaws.specs.Host.{Told, toldOf, ToldStream, toldStreamOf, heardOf, HostListChecked}
+use Rattle.hostlaws.specs.Host.{HostListWritten, HostTermChecked, HostTermWritten, HostTermBegun}
+use Rattle.hostlaws.specs.Host.{HostPostingsPut, HostTermEnded, HostIndexChecked, HostIndexClosed, HostAnswered}
 
 pub check-list-unique : (s : List ℕ) → Determined {A = ℕ} (λ r. HostListChecked s r)
 check-list-unique s = by-equation (λ r. r) (λ r. r) (λ r. refl) _
@@ -35,6 +38,27 @@ write-list-unique U xs room = told-unique _
 pub write-term-unique : (N : ℕ) (t : Word) (room : List ℕ)
     → Determined {A = HostWritten × List ℕ} (λ p. HostTermWritten N t room (p .0) (p .1))
 write-term-unique N t room = told-unique _
+
+-- what the calls of a session promise
+told-stream-unique : (t : ToldStream)
+    → Determined {A = HostStreamed × List ℕ} (λ p. toldStreamOf (p .0) (p .1) ≡ t)
+told-stream-unique =
+    by-equation
+    (λ p. toldStreamOf (p .0) (p .1))
+    (λ t. (record { refusal = t .refusal; length = t .length; stream = t .stream }, t .room))
+    (λ p. refl)
+
+pub begin-term-unique : (N P Q U : ℕ) (room : List ℕ)
+    → Determined {A = HostStreamed × List ℕ} (λ p. HostTermBegun N P Q U room (p .0) (p .1))
+begin-term-unique N P Q U room = told-stream-unique _
+
+pub put-postings-unique : (s : Stream) (t : Word) (room : List ℕ)
+    → Determined {A = HostStreamed × List ℕ} (λ p. HostPostingsPut s t room (p .0) (p .1))
+put-postings-unique s t room = told-stream-unique _
+
+pub end-term-unique : (s : Stream) (room : List ℕ)
+    → Determined {A = HostStreamed × List ℕ} (λ p. HostTermEnded s room (p .0) (p .1))
+end-term-unique s room = told-stream-unique _
 
 pub close-index-unique : (buffer : List ℕ) (used N T : ℕ)
     → Determined {A = HostWritten × List ℕ} (λ p. HostIndexClosed buffer used N T (p .0) (p .1))

@@ -2,6 +2,8 @@
 --
 --   told m        a writer's result, its refusal as a number
 --   toldOf r room the same, of what an exported call answers and the room after it
+--   toldStream m  the result of a session's call, its refusal as a number
+--   toldStreamOf r room  the same, of what an exported call answers and the room after it
 --   heard a       the result of a run of questions, its refusal as a number
 --   heardOf r room the same, of what the exported call answers and the room after it
 --
@@ -11,20 +13,26 @@
 --   HostListWritten U xs room r after   jf_write_list answers r, and leaves the room as `after`
 --   HostTermChecked s r                 jf_check_term
 --   HostTermWritten N t room r after    jf_write_term, of the word t
+--   HostTermBegun N P Q U room r after  jf_begin_term, of P pages and Q positions whose elements end at U
+--   HostPostingsPut s t room r after    jf_put_postings, of the postings t that session s is handed
+--   HostTermEnded s room r after        jf_end_term, of session s
 --   HostIndexChecked s r                jf_check_index
 --   HostIndexClosed buffer used N T r after  jf_close_index
 --   HostAnswered s qs room r after      jf_ask, with the questions qs on the card s
 use mathlib.Core.Path.{_≡_}
 use mathlib.Core.List.{List}
 use Prim.Native.Nat.{ℕ}
+use Rattle.rules.specs.declared.Stream.{Stream}
 use Rattle.rules.specs.Refusal.{number}
 use Rattle.rules.specs.ReadList.{listRefusal}
 use Rattle.rules.specs.Write.{Made, writeList}
 use Rattle.rules.specs.Term.{Word, writeTerm}
+use Rattle.rules.specs.Stream.{Streaming, beginTerm, putPostings, endTerm}
 use Rattle.rules.specs.ReadTerm.{termRefusal}
 use Rattle.rules.specs.Index.{indexRefusal, closeIndex}
 use Rattle.rules.specs.Ask.{Asked, ask}
 use Rattle.hostlaws.specs.declared.HostWritten.{HostWritten}
+use Rattle.hostlaws.specs.declared.HostStreamed.{HostStreamed}
 use Rattle.hostlaws.specs.declared.HostAsked.{HostAsked}
 
 pub record Told : Type 0 where
@@ -37,6 +45,18 @@ told m = record { refusal = number (m .refusal); length = m .size; room = m .roo
 
 abbrev pub toldOf : HostWritten → List ℕ → Told
 toldOf r room = record { refusal = r .refusal; length = r .length; room = room }
+
+pub record ToldStream : Type 0 where
+  pub refusal : ℕ
+  pub length : ℕ
+  pub stream : Stream
+  pub room : List ℕ
+
+abbrev pub toldStream : Streaming → ToldStream
+toldStream m = record { refusal = number (m .refusal); length = m .size; stream = m .stream; room = m .room }
+
+abbrev pub toldStreamOf : HostStreamed → List ℕ → ToldStream
+toldStreamOf r room = record { refusal = r .refusal; length = r .length; stream = r .stream; room = room }
 
 pub record Heard : Type 0 where
   pub refusal : ℕ
@@ -61,6 +81,15 @@ HostTermChecked s r = r ≡ number (termRefusal s)
 
 abbrev pub HostTermWritten : ℕ → Word → List ℕ → HostWritten → List ℕ → Type 0
 HostTermWritten N t room r after = toldOf r after ≡ told (writeTerm N t room)
+
+abbrev pub HostTermBegun : ℕ → ℕ → ℕ → ℕ → List ℕ → HostStreamed → List ℕ → Type 0
+HostTermBegun N P Q U room r after = toldStreamOf r after ≡ toldStream (beginTerm N P Q U room)
+
+abbrev pub HostPostingsPut : Stream → Word → List ℕ → HostStreamed → List ℕ → Type 0
+HostPostingsPut s t room r after = toldStreamOf r after ≡ toldStream (putPostings s t room)
+
+abbrev pub HostTermEnded : Stream → List ℕ → HostStreamed → List ℕ → Type 0
+HostTermEnded s room r after = toldStreamOf r after ≡ toldStream (endTerm s room)
 
 abbrev pub HostIndexChecked : List ℕ → ℕ → Type 0
 HostIndexChecked s r = r ≡ number (indexRefusal s)

@@ -4,11 +4,15 @@ ghost use mathlib.Core.Path.{_≡_};
 ghost use Rattle.rules.specs.Refusal.{number};
 ghost use Rattle.rules.specs.Term.{lentWord};
 ghost use Rattle.hostlaws.specs.Host.{HostListChecked, HostListWritten, HostTermChecked, HostTermWritten};
+ghost use Rattle.hostlaws.specs.Host.{HostTermBegun, HostPostingsPut, HostTermEnded};
 ghost use Rattle.hostlaws.specs.Host.{HostIndexChecked, HostIndexClosed, HostAnswered};
 use hostlaws::HostAsked;
+use hostlaws::HostStreamed;
 use hostlaws::HostWritten;
 use rules::Outcome;
 use rules::Refusal;
+use rules::Stream;
+use rules::Streamed;
 use rules::Written;
 
 // A writer's answer with its number.
@@ -31,6 +35,19 @@ fn outcome(o: Outcome) -> HostAsked
         refusal: refusals::number_of(refusal),
         answered: o.answered,
         used: o.used,
+    }
+}
+
+// The answer of a session's call with its number.
+fn streamed(w: Streamed) -> HostStreamed
+    ensures { λ r. ⌜ (r .refusal ≡ number (w .refusal)) × (r .length ≡ w .size) × (r .stream ≡ w .stream) ⌝ }
+{
+    let refusal = w.refusal;
+    let stream = w.stream;
+    HostStreamed {
+        refusal: refusals::number_of(refusal),
+        length: w.size,
+        stream,
     }
 }
 
@@ -63,6 +80,44 @@ pub extern "C" fn jf_write_term(
         (now (room .entry)) r (now (room .exit)) ⌝ }
 {
     written(writeterm::write_term(n, pages, counts, positions, room))
+}
+
+// Announces a word that is handed over in runs: so many of n pages and so many positions, whose elements end at u.
+#[no_mangle]
+pub extern "C" fn jf_begin_term(
+    n: u32,
+    pages: u32,
+    positions: u32,
+    u: u32,
+    room: &mut [u8],
+) -> HostStreamed
+    ensures { λ r. ⌜ HostTermBegun n pages positions u (now (room .entry)) r (now (room .exit)) ⌝ }
+{
+    streamed(beginterm::begin_term(n, pages, positions, u, room))
+}
+
+// Lays the next postings of such a word behind those in the room.
+#[no_mangle]
+pub extern "C" fn jf_put_postings(
+    stream: Stream,
+    pages: &[u32],
+    counts: &[u32],
+    positions: &[u32],
+    room: &mut [u8],
+) -> HostStreamed
+    ensures { λ r. ⌜ HostPostingsPut stream
+        (lentWord (now (pages .entry)) (now (counts .entry)) (now (positions .entry)))
+        (now (room .entry)) r (now (room .exit)) ⌝ }
+{
+    streamed(putpostings::put_postings(stream, pages, counts, positions, room))
+}
+
+// Closes such a word.
+#[no_mangle]
+pub extern "C" fn jf_end_term(stream: Stream, room: &mut [u8]) -> HostStreamed
+    ensures { λ r. ⌜ HostTermEnded stream (now (room .entry)) r (now (room .exit)) ⌝ }
+{
+    streamed(endterm::end_term(stream, room))
 }
 
 // The refusal of a term block.

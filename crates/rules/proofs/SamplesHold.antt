@@ -9,6 +9,11 @@ use Rattle.rules.specs.ReadList.{stated, listU, listN, elements, readLis
 use Rattle.rules.specs.Write.{laid, stored, writeList}
 use Rattle.rules.specs.Term.{total, sums, next, raised, placed, places, positive, inOrder, inOrderByPage}
 use Rattle.rules.specs.Term.{validWord, termBlock}
+use Rattle.rules.specs.Term.{writeTerm}
+use Rattle.rules.specs.InPlace.{emptied, from, withOnes, numberOf, added, pointed}
+use Rattle.rules.specs.Stream.{announceRefusal, countsAt, positionsAt, streamSize, announced, opened, over, live}
+use Rattle.rules.specs.Stream.{addedWord, follows, advanced, complete, sizeOf, spoilt, beginTerm, going, putPostings}
+use Rattle.rules.specs.Stream.{pointedWord, endTerm, putAll, together, streamWord}
 use Rattle.rules.specs.Parts.{after, part, inside}
 use Rattle.rules.specs.ReadTerm.{listsOf, pagesOf, countsOf, positionsOf, gaps, less, lowered, readWord, disagree}
 use Rattle.rules.specs.ReadTerm.{termRefusal}
@@ -32,5 +37,5 @@ use Rattle.rules.specs.Table.{stepped, s1, s1List, s2, s8, s9, s9Word, a
 use Rattle.rules.specs.Table.{samples}
 
 pub samples-hold : T (every samples)
-unfolding accepted andThen be beAt sized same bit runWord runBit field wordsFor words rising validList greatest width zeros upper lower afterZero pointer pointers lowerAt upperAt size runs body block stated listU listN elements readList decode isBlock listRefusal laid stored writeList total sums next raised placed places positive inOrder inOrderByPage validWord termBlock after part inside listsOf pagesOf countsOf positionsOf gaps less lowered readWord disagree termRefusal indexFront terms card validWords validCard indexN indexT termPart wordOf termsRefusal indexRefusal placeOf bitsOf cursorBit startOf looksTo walk gone arrived walked walkFrom move seek leadFrom leadOf readersOf before stopped agree counted nothing rounds common firstFrom member inAll sharedBy commonPages positionsAmong positionsOn phraseOf stands startsAmong starts withStarts numbered pagesIn listsIn wordsIn byRank byBound byCommon byPhrase termsOf offsetsOf phraseIn answer allBelow pairGood wordsGood offsetsGood phraseGood goodQuestion kindOf countOf argsOf behind wellFormed replies fitting fitted reply joined put ask decimal digits line lines refusedWord refusedLine numbersOf printedReply printed sameRefusal sameFound soughtSo holds every stepped s1 s1List s2 s8 s9 s9Word atFront s12 torqueBolt samples
+unfolding accepted andThen be beAt sized same bit runWord runBit field wordsFor words rising validList greatest width zeros upper lower afterZero pointer pointers lowerAt upperAt size runs body block stated listU listN elements readList decode isBlock listRefusal laid stored writeList total sums next raised placed places positive inOrder inOrderByPage validWord termBlock writeTerm emptied from withOnes numberOf added pointed announceRefusal countsAt positionsAt streamSize announced opened over live addedWord follows advanced complete sizeOf spoilt beginTerm going putPostings pointedWord endTerm putAll together streamWord after part inside listsOf pagesOf countsOf positionsOf gaps less lowered readWord disagree termRefusal indexFront terms card validWords validCard indexN indexT termPart wordOf termsRefusal indexRefusal placeOf bitsOf cursorBit startOf looksTo walk gone arrived walked walkFrom move seek leadFrom leadOf readersOf before stopped agree counted nothing rounds common firstFrom member inAll sharedBy commonPages positionsAmong positionsOn phraseOf stands startsAmong starts withStarts numbered pagesIn listsIn wordsIn byRank byBound byCommon byPhrase termsOf offsetsOf phraseIn answer allBelow pairGood wordsGood offsetsGood phraseGood goodQuestion kindOf countOf argsOf behind wellFormed replies fitting fitted reply joined put ask decimal digits line lines refusedWord refusedLine numbersOf printedReply printed sameRefusal sameFound soughtSo holds every stepped s1 s1List s2 s8 s9 s9Word atFront s12 torqueBolt samples
 samples-hold = tt

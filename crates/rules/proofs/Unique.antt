@@ -6,11 +6,14 @@ use Prim.Native.Nat.{ℕ}
 use Rattle.rules.specs.declared.Refusal.{Refusal}
 use Rattle.rules.specs.declared.Written.{Written}
 use Rattle.rules.specs.declared.Outcome.{Outcome}
+use Rattle.rules.specs.declared.Stream.{Stream}
+use Rattle.rules.specs.declared.Streamed.{Streamed}
 use Rattle.rules.specs.Write.{Made, made}
 use Rattle.rules.specs.Term.{Word}
+use Rattle.rules.specs.Stream.{Streaming, streaming}
 use Rattle.rules.specs.Ask.{asked}
 use Rattle.rules.specs.Promises.{Determined, ListChecked, ListWritten, TermChecked, TermWritten, IndexChecked}
-use Rattle.rules.specs.Promises.{IndexClosed, Answered, Printed}
+use Rattle.rules.specs.Promises.{TermBegun, PostingsPut, TermEnded, IndexClosed, Answered, Printed}
 
 -- A promise that equates a view of the result, from which the result can be had back, determines it.
 pub by-equation : {A B : Type 0} (view : A → B) (back : B → A) → ((p : A) → back (view p) ≡ p) → (b : B)
@@ -41,6 +44,26 @@ write-list-unique U xs room = made-unique _
 pub write-term-unique : (N : ℕ) (t : Word) (room : List ℕ)
     → Determined {A = Written × List ℕ} (λ p. TermWritten N t room (p .0) (p .1))
 write-term-unique N t room = made-unique _
+
+-- what the calls of a session promise
+streaming-unique : (m : Streaming) → Determined {A = Streamed × List ℕ} (λ p. streaming (p .0) (p .1) ≡ m)
+streaming-unique =
+    by-equation
+    (λ p. streaming (p .0) (p .1))
+    (λ m. (record { refusal = m .refusal; size = m .size; stream = m .stream }, m .room))
+    (λ p. refl)
+
+pub begin-term-unique : (N P Q U : ℕ) (room : List ℕ)
+    → Determined {A = Streamed × List ℕ} (λ p. TermBegun N P Q U room (p .0) (p .1))
+begin-term-unique N P Q U room = streaming-unique _
+
+pub put-postings-unique : (s : Stream) (t : Word) (room : List ℕ)
+    → Determined {A = Streamed × List ℕ} (λ p. PostingsPut s t room (p .0) (p .1))
+put-postings-unique s t room = streaming-unique _
+
+pub end-term-unique : (s : Stream) (room : List ℕ)
+    → Determined {A = Streamed × List ℕ} (λ p. TermEnded s room (p .0) (p .1))
+end-term-unique s room = streaming-unique _
 
 pub close-index-unique : (buffer : List ℕ) (used N T : ℕ)
     → Determined {A = Written × List ℕ} (λ p. IndexClosed buffer used N T (p .0) (p .1))

@@ -6,7 +6,9 @@ pub mod Counts
 pub mod List
 pub mod ReadList
 pub mod Write
+pub mod InPlace
 pub mod Term
+pub mod Stream
 pub mod Parts
 pub mod ReadTerm
 pub mod Index

@@ -6,6 +6,9 @@
 --   ListWritten U xs room r after   r answers writing the list xs below U, and leaves the room as `after`
 --   TermChecked s r                 r is the refusal of the bytes s as a term
 --   TermWritten N t room r after    r answers writing the word t of N pages, and leaves the room as `after`
+--   TermBegun N P Q U room r after  r answers the announcement of a word, and leaves the room as `after`
+--   PostingsPut s t room r after    r answers the postings t that session s is handed, and leaves the room as `after`
+--   TermEnded s room r after        r answers the close of session s, and leaves the room as `after`
 --   IndexChecked s r                r is the refusal of the bytes s as an index
 --   IndexClosed buffer used N T r after  r answers closing an index, and leaves the buffer as `after`
 --   Answered s qs room r after      r is the outcome of the questions qs on the card s, and leaves the room as `after`
@@ -17,9 +20,12 @@ use lib.ListN.{length}
 use Rattle.rules.specs.declared.Refusal.{Refusal}
 use Rattle.rules.specs.declared.Written.{Written}
 use Rattle.rules.specs.declared.Outcome.{Outcome}
+use Rattle.rules.specs.declared.Stream.{Stream}
+use Rattle.rules.specs.declared.Streamed.{Streamed}
 use Rattle.rules.specs.ReadList.{listRefusal}
 use Rattle.rules.specs.Write.{made, laid, writeList}
 use Rattle.rules.specs.Term.{Word, writeTerm}
+use Rattle.rules.specs.Stream.{streaming, beginTerm, putPostings, endTerm}
 use Rattle.rules.specs.ReadTerm.{termRefusal}
 use Rattle.rules.specs.Index.{indexRefusal, closeIndex}
 use Rattle.rules.specs.Ask.{asked, ask}
@@ -39,6 +45,15 @@ TermChecked s r = r ≡ termRefusal s
 
 abbrev pub TermWritten : ℕ → Word → List ℕ → Written → List ℕ → Type 0
 TermWritten N t room r after = made r after ≡ writeTerm N t room
+
+abbrev pub TermBegun : ℕ → ℕ → ℕ → ℕ → List ℕ → Streamed → List ℕ → Type 0
+TermBegun N P Q U room r after = streaming r after ≡ beginTerm N P Q U room
+
+abbrev pub PostingsPut : Stream → Word → List ℕ → Streamed → List ℕ → Type 0
+PostingsPut s t room r after = streaming r after ≡ putPostings s t room
+
+abbrev pub TermEnded : Stream → List ℕ → Streamed → List ℕ → Type 0
+TermEnded s room r after = streaming r after ≡ endTerm s room
 
 abbrev pub IndexChecked : List ℕ → Refusal → Type 0
 IndexChecked s r = r ≡ indexRefusal s

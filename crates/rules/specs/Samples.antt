@@ -1,21 +1,22 @@
 -- What a sample of document 01 says, and whether the definitions give it [01 Sample cards]. The samples are in Table.antt.
 --
---   Row       a sample of one of nine kinds
+--   Row       a sample of one of eleven kinds
 --   holds r   whether the definitions give what the row says
 --   every rs  whether they do so for all of the rows
-use mathlib.Core.Bool.{Bool, true, false, _&&_}
+use mathlib.Core.Bool.{Bool, true, false, not, _&&_, _||_}
 use mathlib.Core.List.{List, [], _∷_}
 use Prim.Native.Nat.{ℕ}
 use lib.Dec.{eqb}
 use lib.ListN.{length, take, replicate}
 use Rattle.rules.specs.declared.Refusal.the-variants.{Accepted}
 use Rattle.rules.specs.declared.Refusal.{Refusal}
-use Rattle.rules.specs.Refusal.{number}
+use Rattle.rules.specs.Refusal.{number, accepted}
 use Rattle.rules.specs.Bytes.{same}
 use Rattle.rules.specs.List.{validList, block}
 use Rattle.rules.specs.ReadList.{listU, decode, listRefusal}
-use Rattle.rules.specs.Write.{writeList}
-use Rattle.rules.specs.Term.{Word}
+use Rattle.rules.specs.Write.{Made, writeList}
+use Rattle.rules.specs.Term.{Word, writeTerm}
+use Rattle.rules.specs.Stream.{Streaming, beginTerm, together, streamWord}
 use Rattle.rules.specs.Index.{validCard, card, indexRefusal}
 use Rattle.rules.specs.Seek.{Cursor, fresh, Found, none, page, Sought, seek}
 use Rattle.rules.specs.Common.{common}
@@ -43,6 +44,10 @@ pub data Row : Type 0 where
   indexed : List ℕ → ℕ → List Word → Row
   -- a list below U written into so much room, and the refusal
   written : ℕ → List ℕ → ℕ → Refusal → Row
+  -- N, pages, positions and U announced, the size of the room, and the refusal
+  begun : ℕ → ℕ → ℕ → ℕ → ℕ → Refusal → Row
+  -- the same with runs and the close, and its refusal; a finished block is the one that the writer of a term gives
+  streamed : ℕ → ℕ → ℕ → ℕ → List Word → ℕ → Refusal → Row
   -- a card, questions, the size of the room, the refusal, the number answered and all answers
   asked : List ℕ → List ℕ → ℕ → Refusal → ℕ → List ℕ → Row
   -- a card file, a question file and the program's text
@@ -76,6 +81,12 @@ holds (tallied U ls seeks looks pages) =
     && (eqb (common U ls .looks) looks && (same (common U ls .listed) pages && same (commonPages ls) pages))
 holds (indexed s N ts) = validCard N ts && (sameRefusal (indexRefusal s) Accepted && same (card N ts) s)
 holds (written U xs size r) = sameRefusal (writeList U xs (replicate size 0) .refusal) r
+holds (begun N P Q U size r) = sameRefusal (beginTerm N P Q U (replicate size 7) .refusal) r
+holds (streamed N P Q U ts size r) =
+    let a : Streaming = streamWord N P Q U ts (replicate size 7) in
+    let m : Made = writeTerm N (together ts) (replicate size 7) in
+    sameRefusal (a .refusal) r
+    && (not (accepted r) || (sameRefusal (m .refusal) r && (eqb (a .size) (m .size) && same (a .room) (m .room))))
 holds (asked s qs size r k answers) =
     let a : Asked = ask s qs (replicate size 0) in
     sameRefusal (a .refusal) r

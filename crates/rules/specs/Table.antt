@@ -14,7 +14,7 @@ use Rattle.rules.specs.Term.{Word}
 use Rattle.rules.specs.Index.{card}
 use Rattle.rules.specs.Seek.{none, page}
 use Rattle.rules.specs.Samples.{Step, Row, listed, notList, notIndex, sought, tallied, indexed, written, asked}
-use Rattle.rules.specs.Samples.{shown}
+use Rattle.rules.specs.Samples.{begun, streamed, shown}
 
 -- k numbers from x on, d apart
 unfoldable pub stepped : ℕ → ℕ → ℕ → List ℕ
@@ -56,6 +56,10 @@ s12 = card 44 (atFront s1List 8 ∷ (atFront (4 ∷ (15 ∷ [])) 2 ∷ []))
 -- "torque the bolt": the word between is dropped [02 b]
 unfoldable pub torqueBolt : List ℕ
 torqueBolt = card 1 (atFront (0 ∷ []) 1 ∷ (record { pages = 0 ∷ []; counts = 1 ∷ []; positions = 2 ∷ [] } ∷ []))
+
+-- a word on one page, at one position
+abbrev pub posting : ℕ → ℕ → Word
+posting x p = record { pages = x ∷ []; counts = 1 ∷ []; positions = p ∷ [] }
 
 -- a step that finds a page with its rank, and one that finds none of so many
 abbrev pub finds : ℕ → ℕ → ℕ → ℕ → Step
@@ -135,8 +139,29 @@ samples =
     ∷ (written 44 s1List 28 Room
     ∷ (written 44 (4 ∷ (4 ∷ [])) 40 Lists
     ∷ (written 16777217 [] 40 Limit
+    -- words in runs [02 c]: S9 in one run and S12 cut behind each page, with an empty run; a word of 300 pages, whose
+    -- block has pointers, in two; an empty word; the announcement's refusals; a page that does not rise across the seam,
+    -- more than was announced, a position at U, totals that fall short
+    ∷ (streamed 3 1 2 3 (s9Word ∷ []) 84 Accepted
+    ∷ (streamed 44 2 2 2 (posting 4 0 ∷ (atFront [] 0 ∷ (posting 15 0 ∷ []))) 90 Accepted
+    ∷ (streamed 300 300 300 300 (atFront (stepped 7 0 1) 7 ∷ (atFront (stepped 293 7 1) 293 ∷ [])) 300 Accepted
+    ∷ (streamed 5 0 0 0 [] 44 Accepted
+    ∷ (begun 16777217 0 0 0 100 Limit
+    ∷ (begun 3 1 1 16777217 100 Limit
+    ∷ (begun 0 1 1 1 100 Lists
+    ∷ (begun 3 2 1 1 100 Lists
+    ∷ (begun 3 1 2 1 100 Lists
+    ∷ (begun 3 0 1 1 100 Lists
+    ∷ (begun 3 0 0 1 100 Lists
+    ∷ (begun 3 1 2 3 84 Accepted
+    ∷ (begun 3 1 2 3 83 Room
+    ∷ (streamed 3 1 2 3 (s9Word ∷ []) 83 Lists
+    ∷ (streamed 44 2 2 2 (posting 15 0 ∷ (posting 15 0 ∷ [])) 90 Lists
+    ∷ (streamed 44 1 1 2 (posting 4 0 ∷ (posting 15 0 ∷ [])) 90 Lists
+    ∷ (streamed 44 2 2 2 (posting 4 0 ∷ (posting 15 1 ∷ [])) 90 Lists
+    ∷ (streamed 44 2 2 3 (posting 4 0 ∷ (posting 15 0 ∷ [])) 90 Lists
     -- the pointer by b div 2^w; no jump back behind the cursor; back to the lead after a larger page
     ∷ (sought 1024 (stepped 300 0 3) (finds 600 600 200 2 ∷ (finds 897 897 299 5 ∷ (misses 898 300 2 ∷ [])))
     ∷ (sought 300 (stepped 300 0 1) (finds 290 290 290 2 ∷ (finds 295 295 295 1 ∷ []))
     ∷ (tallied 20 ((1 ∷ (9 ∷ [])) ∷ ((2 ∷ (9 ∷ (10 ∷ []))) ∷ ((1 ∷ (9 ∷ (12 ∷ []))) ∷ []))) 6 6 (9 ∷ [])
-    ∷ [])))))))))))))))))))))))))))))))))))))))))))))))))))))))))))
+    ∷ [])))))))))))))))))))))))))))))))))))))))))))))))))))))))))))))))))))))))))))))

@@ -79,3 +79,25 @@ pub struct Outcome {
     pub answered: usize,
     pub used: usize,
 }
+
+// Where the writing of a word in runs stands: what was announced, and how far it is laid. `mark` is 1 while postings may
+// follow; `page` is the least page that may, and `base` the next page's [02 c].
+#[repr(C)]
+pub struct Stream {
+    pub mark: u32,
+    pub n: u32,
+    pub pages: u32,
+    pub positions: u32,
+    pub u: u32,
+    pub laid: u32,
+    pub filled: u32,
+    pub page: u32,
+    pub base: u32,
+}
+
+// What a call of such a session answers: the length of the finished block, else 0, and the session after it.
+pub struct Streamed {
+    pub refusal: Refusal,
+    pub size: usize,
+    pub stream: Stream,
+}

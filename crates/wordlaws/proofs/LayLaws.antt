@@ -148,13 +148,13 @@ module _ (g : Shape) (cs room : List ℕ) (q : Sums g cs room) where
   pub sums-rise : rising 0 (g .u) (sums 0 cs) ≡ true
   sums-rise = rw (q .reach) at (sums-rising cs (q .counted))
 
-  -- those of a stretch
-  module _ (i k : ℕ) where
-    pub stretch-sums : take k (drop i (sums 0 cs)) ≡ sums (total (take i cs)) (take k (drop i cs))
-    stretch-sums = rw (sums-drop 0 i cs, zero-add) (sums-take (total (take i cs)) k (drop i cs))
+-- those of a stretch
+module _ (s : ℕ) (cs : List ℕ) (i k : ℕ) where
+  pub stretch-sums : take k (drop i (sums s cs)) ≡ sums (s + total (take i cs)) (take k (drop i cs))
+  stretch-sums = rw (sums-drop s i cs) (sums-take (s + total (take i cs)) k (drop i cs))
 
-    pub stretch-positive : positive (take k (drop i cs)) ≡ true
-    stretch-positive = positive-take k (drop i cs) (positive-drop i cs (q .counted))
+  pub stretch-positive : positive cs ≡ true → positive (take k (drop i cs)) ≡ true
+  stretch-positive p = positive-take k (drop i cs) (positive-drop i cs p)
 
-    pub stretch-total : total (take i cs) + total (take k (drop i cs)) ≤ g .u
-    stretch-total = omega (arith, total-split cs i k, total-take-le cs (i + k), q .reach)
+  pub stretch-total : (U : ℕ) → s + total cs ≤ U → s + total (take i cs) + total (take k (drop i cs)) ≤ U
+  stretch-total U h = omega (arith, total-split cs i k, total-take-le cs (i + k))

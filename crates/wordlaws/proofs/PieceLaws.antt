@@ -12,10 +12,10 @@ use Rattle.laws.proofs.ByteLaws.{length-be}
 
 -- what a part that runs to the room's end holds, and what the room is when it is back
 module _ (u : ℕ) (room : List ℕ) where
-  tail-part : midOf u (length room - u) room ≡ drop u room
+  pub tail-part : midOf u (length room - u) room ≡ drop u room
   tail-part = take-all (length room - u) (drop u room) (simp length-drop (omega arith))
 
-  tail-back : (ys : List ℕ) → putMid u (length room - u) room ys ≡ take u room ++ ys
+  pub tail-back : (ys : List ℕ) → putMid u (length room - u) room ys ≡ take u room ++ ys
   tail-back ys =
       ap (λ (t : List ℕ). take u room ++ (ys ++ t))
       (drop-of-length-le (drop u room) {i = length room - u} (simp length-drop (omega arith)))

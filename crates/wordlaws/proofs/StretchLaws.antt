@@ -11,6 +11,8 @@ use borrow.Author.Tests.{lt-ltb, le-ltb, eq-eqb, ne-eqb}
 use lib.ListN.{length, getD, take, drop, set, replicate, length-drop, length-set, length-replicate}
 use lib.ListN.{drop-of-length-le, getD-replicate, List·getD-append, List·getD-eq-default}
 use lib.Seq.{length-take-le, getD-append-add, getD-take, getD-drop, getD-set-same, getD-set-other, ext-getD}
+use Rattle.rules.specs.Limits.{limit}
+use Rattle.rules.specs.List.{rising}
 use Rattle.rules.specs.Term.{total, next, raised, placed, positive}
 use Rattle.listlaws.proofs.RisingLaws.{rising-at}
 use Rattle.termlaws.proofs.SumLaws.{positive-parts}
@@ -314,12 +316,31 @@ placed-at b (c ∷ cs) ps p e i h =
 
 -- ---- one stretch
 
-module _ (g : Shape) (cs ps room : List ℕ) (q : Places g cs ps room) where
-  abbrev es : List ℕ
-  es = placed 0 cs ps
+-- positions whose elements, from the base s on, rise and stay below U
+pub record Placing (s U : ℕ) (cs ps : List ℕ) : Type 0 where
+  pub within : U ≤ limit
+  pub summed : total cs ≡ length ps
+  pub counted : positive cs ≡ true
+  pub rises : rising 0 U (placed s cs ps) ≡ true
 
-  pub places-long : length es ≡ g .n
+module _ (g : Shape) (cs ps room : List ℕ) (q : Places g cs ps room) where
+  pub placing : Placing 0 (g .u) cs ps
+  placing = record {
+    within = q .fitting .within;
+    summed = q .summed;
+    counted = q .counted;
+    rises = q .rises;
+  }
+
+  pub places-long : length (placed 0 cs ps) ≡ g .n
   places-long = length-placed 0 cs ps (q .summed) ∙ q .count
+
+module _ (s U : ℕ) (cs ps : List ℕ) (q : Placing s U cs ps) where
+  abbrev es : List ℕ
+  es = placed s cs ps
+
+  long : length es ≡ length ps
+  long = length-placed s cs ps (q .summed)
 
   -- where positions are left, a page is
   pub page-left : (i page end : ℕ) → i < length ps
@@ -337,7 +358,7 @@ module _ (g : Shape) (cs ps room : List ℕ) (q : Places g cs ps room) where
 
   -- from position i on, whose base is b
   module _ (i k b : ℕ) (part : List ℕ) (h : i < length ps) (w : k ≡ min 256 (length ps - i))
-      (base : b ≡ baseAt 0 (lastAt cs) ps i) (marks : (j : ℕ) → j < 256 → getD part j 0 ≡ lastAt cs (i + j)) where
+      (base : b ≡ baseAt s (lastAt cs) ps i) (marks : (j : ℕ) → j < 256 → getD part j 0 ≡ lastAt cs (i + j)) where
     abbrev qs : List ℕ
     qs = take k (drop i ps)
 
@@ -347,16 +368,16 @@ module _ (g : Shape) (cs ps room : List ℕ) (q : Places g cs ps room) where
     position-at : (j : ℕ) → j < k → getD qs j 0 ≡ getD ps (i + j) 0
     position-at j l = getD-take k (drop i ps) j 0 l ∙ getD-drop i ps j 0
 
-    base-on : (j : ℕ) → j ≤ k → baseAt b (marksOf part) qs j ≡ baseAt 0 (lastAt cs) ps (i + j)
+    base-on : (j : ℕ) → j ≤ k → baseAt b (marksOf part) qs j ≡ baseAt s (lastAt cs) ps (i + j)
     base-on j l =
-        rw base (base-same (baseAt 0 (lastAt cs) ps i) (marksOf part) (λ n. lastAt cs (i + n)) qs (drop i ps) j
+        rw base (base-same (baseAt s (lastAt cs) ps i) (marksOf part) (λ n. lastAt cs (i + n)) qs (drop i ps) j
         (λ n u. marks n (omega arith)) (λ n u. getD-take k (drop i ps) n 0 (omega arith)))
-        ∙ base-shift 0 (lastAt cs) ps i j
+        ∙ base-shift s (lastAt cs) ps i j
 
     element-at : (j : ℕ) → j < k → baseAt b (marksOf part) qs j + getD qs j 0 ≡ getD es (i + j) 0
     element-at j l =
         rw (base-on j (omega arith), position-at j l)
-        (sym (placed-at 0 cs ps (q .counted) (q .summed) (i + j) (omega arith)))
+        (sym (placed-at s cs ps (q .counted) (q .summed) (i + j) (omega arith)))
 
     pub stretch-bounded : Bounded b part qs
     stretch-bounded j l =
@@ -365,8 +386,8 @@ module _ (g : Shape) (cs ps room : List ℕ) (q : Places g cs ps room) where
           rw (element-at j m)
               (omega (
                 arith,
-                rising-at 0 (g .u) es (q .rises) (i + j) (omega (arith, places-long, q .count)) .1,
-                q .fitting .within,
+                rising-at 0 U es (q .rises) (i + j) (omega (arith, long)) .1,
+                q .within,
               )),
         )
 
@@ -374,13 +395,13 @@ module _ (g : Shape) (cs ps room : List ℕ) (q : Places g cs ps room) where
     stretch-placed out l f =
         let m : length (take k out) ≡ k = length-take-le k out (omega arith) in
         let n : length (take k (drop i es)) ≡ k =
-        length-take-le k (drop i es) (rw length-drop (omega (arith, places-long, q .count))) in
+        length-take-le k (drop i es) (rw length-drop (omega (arith, long))) in
         ext-getD 0 (take k out) (take k (drop i es)) (omega arith) (λ j u.
         let v : j < k = omega arith in
         getD-take k out j 0 v ∙ f j (omega (arith, stretch-long)) ∙ element-at j v
         ∙ sym (getD-take k (drop i es) j 0 v ∙ getD-drop i es j 0))
 
-    pub stretch-base : baseAt b (marksOf part) qs (length qs) ≡ baseAt 0 (lastAt cs) ps (min (i + 256) (length ps))
+    pub stretch-base : baseAt b (marksOf part) qs (length qs) ≡ baseAt s (lastAt cs) ps (min (i + 256) (length ps))
     stretch-base =
         let e : i + k ≡ min (i + 256) (length ps) = omega arith in
         rw stretch-long (base-on k (omega arith) ∙ rw e)

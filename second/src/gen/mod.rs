@@ -2,9 +2,11 @@
 
 pub mod calls;
 pub mod cards;
+pub mod cuts;
 pub mod damage;
 pub mod faulty_inputs;
 pub mod files;
+pub mod forgery;
 pub mod full_size;
 pub mod lists;
 pub mod phrases;
@@ -12,3 +14,5 @@ pub mod questions;
 pub mod random;
 pub mod raw;
 pub mod rooms;
+pub mod streams;
+pub mod writing;

@@ -109,7 +109,7 @@ pub fn is_rising(numbers: &[u32]) -> bool {
 }
 
 /// The place just after each 256th zero of a run.
-fn places_after_zeros(run: &[bool]) -> Vec<u32> {
+pub fn places_after_zeros(run: &[bool]) -> Vec<u32> {
     let mut zeros = 0;
     let mut places = Vec::new();
     for (place, bit) in run.iter().enumerate() {

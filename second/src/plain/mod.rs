@@ -9,6 +9,7 @@ pub mod index;
 pub mod list;
 pub mod program;
 pub mod seek;
+pub mod stream;
 pub mod term;
 
 /// The greatest U and the greatest N.

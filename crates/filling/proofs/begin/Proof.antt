@@ -1,58 +1,33 @@
 -- `begin` writes the header: the room has at least its 13 bytes.
 use mathlib.Core.Path.{refl}
+use mathlib.Core.List.{List, [], _∷_}
+use Prim.Native.Nat.{ℕ}
 use native.Mathlib.Omega.{arith}
-use lib.ListN.{set, length-set}
+use borrow.Author.Needs.{needs}
+use lib.Seq.{sets}
+use Rattle.rules.specs.Limits.{version}
+use Rattle.rules.specs.Bytes.{be}
 use Rattle.filllaws.proofs.SideLaws.{header-fits}
 use Rattle.filllaws.proofs.PartLaws.{framed-none, partly-none}
 use Rattle.filling.proofs.begin.Statement.{statement}
 use Rattle.filling.proofs.begin.Tie as tie
 
-write-u32-requires : tie.Need-write-u32-requires
-write-u32-requires c κs =
+put-header-requires : tie.Need-put-header-requires
+put-header-requires c κs =
     let s = c .before .before in
-    omega (arith, header-fits (s .args .g) (s .args .room .now) (s .pre))
-
-slice-write-room : tie.Need-slice-write-room
-slice-write-room c =
-    let s = c .before .before .before .before .before in
-    omega (arith, header-fits (s .args .g) (s .args .room .now) (s .pre))
-
-write-u32-requires-2 : tie.Need-write-u32-requires-2
-write-u32-requires-2 c κs =
-    let w = c .before .before .before in
-    let s = w .before .before .before in
-    omega (arith, header-fits (s .args .g) (s .args .room .now) (s .pre), length-set (w .write-u32 .last .0) 4 1)
-
-write-u32-requires-3 : tie.Need-write-u32-requires-3
-write-u32-requires-3 c κs =
-    let w = c .before .before .before .before .before .before .before in
-    let s = w .before .before .before in
-    omega (arith, header-fits (s .args .g) (s .args .room .now) (s .pre), length-set (w .write-u32 .last .0) 4 1)
-
-same-length : tie.Need-same-length
-same-length c =
-    let w = c .before .before .before .before .before .before .before .before .before .before in
-    omega (arith, length-set (w .write-u32 .last .0) 4 1)
+    omega (arith, header-fits (s .args .g) (s .args .room .now) (s .pre), s .pre .room)
 
 returns : tie.Need-returns
 returns c =
-    let n = c .before .before in
-    let u = n .before .before .before .before in
-    let w = u .before .before .before .before in
-    let s = w .before .before .before in
-    let a = s .args in
-    partly-none (a .g) (a .room .now) (n .write-u323 .last .0)
-    (framed-none (a .g) (a .room .now) (s .pre) (w .write-u32 .last .0)
-    (set (w .write-u32 .last .0) 4 1) (u .write-u322 .last .0) (n .write-u323 .last .0)
-    (w .write-u32 .ensures) refl (u .write-u322 .ensures) (n .write-u323 .ensures))
+    let h = c .before .before in
+    let s = h .before .before .before in
+    let g = s .args .g in
+    let d : List ℕ = s .args .room .now in
+    let s1 : List ℕ = sets d 0 (be 4 (g .end)) in
+    let s2 : List ℕ = sets s1 4 (version ∷ []) in
+    let s3 : List ℕ = sets s2 5 (be 4 (g .u)) in
+    partly-none g d (h .put-header .last .0)
+    (framed-none g d (s .pre) s1 s2 s3 (h .put-header .last .0) refl refl refl (h .put-header .ensures))
 
 pub begin-spec : {M : Type 1} → statement M
-begin-spec =
-    tie.close
-    (tie.spec
-    write-u32-requires
-    slice-write-room
-    write-u32-requires-2
-    write-u32-requires-3
-    same-length
-    returns)
+begin-spec = tie.close (tie.spec put-header-requires (λ c. search needs) returns)

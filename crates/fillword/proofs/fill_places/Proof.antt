@@ -11,7 +11,7 @@ use Rattle.rules.specs.Term.{placed}
 use Rattle.filllaws.specs.Filling.{Partly}
 use Rattle.wordlaws.specs.Stretch.{lastAt, headed, baseAt}
 use Rattle.wordlaws.proofs.LayLaws.{Width, stretch-width, stretch-follows, stretch-laid}
-use Rattle.wordlaws.proofs.StretchLaws.{places-long, page-left}
+use Rattle.wordlaws.proofs.StretchLaws.{Placing, placing, places-long, page-left}
 use Rattle.wordlaws.proofs.StretchLaws.{stretch-bounded, stretch-placed, stretch-base}
 use Rattle.fillword.proofs.fill_places.Statement.{statement}
 use Rattle.fillword.proofs.fill_places.Tie as tie
@@ -29,6 +29,10 @@ abbrev μ-loop : tie.MeasureT-loop
 -- the start, seen from the loop
 abbrev entry : tie.At-loop Inv-loop μ-loop → tie.Start Inv-loop μ-loop
 entry l = l .before .before .before .before .before .before .before .before .before
+
+placing-at : (s : tie.Start Inv-loop μ-loop)
+    → Placing 0 (s .args .g .u) (s .args .counts .now) (s .args .positions .now)
+placing-at s = placing (s .args .g) (s .args .counts .now) (s .args .positions .now) (s .args .room .now) (s .pre)
 
 -- the elements laid before a stretch, over the room at entry
 so-far : (l : tie.At-loop Inv-loop μ-loop)
@@ -77,7 +81,7 @@ mark-requires c κs =
     let s = entry l in
     let a = s .args in (
       refl,
-      page-left (a .g) (a .counts .now) (a .positions .now) (a .room .now) (s .pre) (l .loop .done) (l .loop .turn .page)
+      page-left 0 (a .g .u) (a .counts .now) (a .positions .now) (placing-at s) (l .loop .done) (l .loop .turn .page)
           (l .loop .turn .end) (width (c .before) .some) (l .loop .inv .3),
       l .loop .inv .1,
       l .loop .inv .2,
@@ -114,7 +118,7 @@ put-places-requires c κs =
     let a = s .args in
     let w = width (lesser-of m) in (
       omega (arith, w, c .before .before .part2 .given),
-      rw (w .is) (stretch-bounded (a .g) (a .counts .now) (a .positions .now) (a .room .now) (s .pre) (l .loop .done)
+      rw (w .is) (stretch-bounded 0 (a .g .u) (a .counts .now) (a .positions .now) (placing-at s) (l .loop .done)
           (lesser-of m .lesser .result) (l .loop .base) (m .mark .last .0) (w .some) (lesser-of m .lesser .ensures)
           (base-is m) (marks-are m)),
     )
@@ -142,7 +146,7 @@ part-is c =
     let w = width (lesser-of m) in
     let n : k - 0 ≡ k = omega arith in
     ap (λ (j : ℕ). take j (p .last .0)) n
-    ∙ stretch-placed (a .g) (a .counts .now) (a .positions .now) (a .room .now) (s .pre) (l .loop .done)
+    ∙ stretch-placed 0 (a .g .u) (a .counts .now) (a .positions .now) (placing-at s) (l .loop .done)
     k (l .loop .base) (m .mark .last .0) (w .some) (lesser-of m .lesser .ensures) (base-is m) (marks-are m)
     (p .last .0) (part-long c) (rw (w .is) at (p .ensures .1))
 
@@ -187,7 +191,7 @@ loop-again c =
           let f : i + (256 + j) ≡ i + 256 + j = omega arith in
           m .mark .ensures .rest j ∙ l .loop .inv .3 (256 + j) ∙ ap (lastAt cs) f,
       (rw (w .is) at (p .ensures .0))
-          ∙ stretch-base (a .g) cs ps (a .room .now) (s .pre) i n (l .loop .base) (m .mark .last .0) (w .some)
+          ∙ stretch-base 0 (a .g .u) cs ps (placing-at s) i n (l .loop .base) (m .mark .last .0) (w .some)
           (lesser-of m .lesser .ensures) (base-is m) (marks-are m),
       λ before q.
           stretch-laid (a .g) es long (s .pre .rises) i n e

@@ -17,7 +17,7 @@ use Rattle.fillword.proofs.fill_sums.Tie as tie
 
 abbrev Inv-loop : tie.InvT-loop
 Inv-loop room₀ g counts f₀ sum₀ done₀ room f sum done =
-    (length room ≡ length room₀) × (sum ≡ total (take done counts))
+    (length room ≡ length room₀) × (sum ≡ 0 + total (take done counts))
     × ((before : List ℕ) → Partly g [] f₀ before room₀ → Partly g (take done (sums 0 counts)) f before room)
 
 abbrev μ-loop : tie.MeasureT-loop
@@ -68,7 +68,7 @@ part-is c =
     let n : k - 0 ≡ length (take (l .loop .done + k - l .loop .done) (drop (l .loop .done) cs)) = omega (arith, w) in
     ap (λ (m : ℕ). take m (c .put-sums .last .0)) n ∙ c .put-sums .ensures .1
     ∙ ap₂ sums (l .loop .inv .1) (ap (λ (m : ℕ). take m (drop (l .loop .done) cs)) (w .is))
-    ∙ sym (stretch-sums (a .g) cs (a .room .now) (s .pre) (l .loop .done) k)
+    ∙ sym (stretch-sums 0 cs (l .loop .done) k)
 
 put-sums-requires : tie.Need-put-sums-requires Inv-loop μ-loop
 put-sums-requires c κs =
@@ -78,11 +78,11 @@ put-sums-requires c κs =
     let a = s .args in
     let w = width m in (
       omega (arith, w),
-      rw (w .is) (stretch-positive (a .g) (a .counts .now) (a .room .now) (s .pre) (l .loop .done) (m .lesser .result)),
+      rw (w .is) (stretch-positive 0 (a .counts .now) (l .loop .done) (m .lesser .result) (s .pre .counted)),
       rw (w .is) (omega (
         arith,
         l .loop .inv .1,
-        stretch-total (a .g) (a .counts .now) (a .room .now) (s .pre) (l .loop .done) (m .lesser .result),
+        stretch-total 0 (a .counts .now) (l .loop .done) (m .lesser .result) (a .g .u) (omega (arith, s .pre .reach)),
         s .pre .fitting .within,
       )),
     )
@@ -119,7 +119,7 @@ loop-again c =
     let e : n ≡ min 256 (length (sums 0 cs) - i) = omega (arith, m .lesser .ensures, length-sums 0 cs) in (
       omega arith,
       k .put-sums .ensures .0 ∙ rw (w .is, l .loop .inv .1, stretch-is cs i n (m .lesser .ensures))
-          (sym (total-split cs i 256)),
+          (omega (arith, total-split cs i 256)),
       λ before p.
           stretch-laid (a .g) (sums 0 cs) (sums-long (a .g) cs (a .room .now) (s .pre))
           (sums-rise (a .g) cs (a .room .now) (s .pre)) i n e

@@ -1,0 +1,145 @@
+-- Laws of the elements that a list gives above a base, laid one after the other: their numbers in the two runs, that they
+-- climb, and that what they fill lies within its run.
+use mathlib.Core.Path.{_≡_, refl, sym, ap, _∙_}
+use mathlib.Core.List.{List, [], _∷_, _++_}
+use Prim.Native.Nat.{ℕ, zero, suc, _+_, _-_, _*_, _/_, _%_, _^_, _≤_, _<_}
+use native.Mathlib.Nat.{add-mul, mul-le-mul-right}
+use native.Mathlib.Numerals.{add-one}
+use native.Mathlib.Omega.{arith}
+use lib.ListN.{length, getD, take}
+use lib.Pow.{shr-mono}
+use Rattle.rules.specs.Runs.{wordsFor}
+use Rattle.rules.specs.List.{zeros, lower, upper}
+use Rattle.rules.specs.Term.{raised}
+use Rattle.shape.specs.declared.Shape.{Shape}
+use Rattle.listlaws.proofs.RisingLaws.{rising-at, rising-gap}
+use Rattle.listlaws.proofs.ValidLaws.{field-in}
+use Rattle.filllaws.proofs.SideLaws.{sides, zeros-of, lower-snoc, upper-snoc}
+use Rattle.addlaws.specs.Adding.{reach, Asked}
+
+-- ---- the elements
+
+module _ (b : ℕ) where
+  pub length-given : (xs : List ℕ) → length (raised b xs) ≡ length xs
+  unfolding raised
+  length-given [] = refl
+  length-given (x ∷ xs) = ap suc (length-given xs)
+
+  pub given-at : (xs : List ℕ) (j : ℕ) → j < length xs → getD (raised b xs) j 0 ≡ b + getD xs j 0
+  unfolding raised
+  given-at [] j h = absurd (omega arith)
+  given-at (x ∷ xs) zero h = refl
+  given-at (x ∷ xs) (suc j) h = given-at xs j (omega arith)
+
+  pub given-more : (xs : List ℕ) (j : ℕ) → j < length xs
+      → raised b (take (suc j) xs) ≡ raised b (take j xs) ++ ((b + getD xs j 0) ∷ [])
+  unfolding raised
+  given-more [] j h = absurd (omega arith)
+  given-more (x ∷ xs) zero h = refl
+  given-more (x ∷ xs) (suc j) h = ap (λ (l : List ℕ). (b + x) ∷ l) (given-more xs j (omega arith))
+
+  length-first : (xs : List ℕ) (j : ℕ) → j ≤ length xs → length (raised b (take j xs)) ≡ j
+  unfolding raised
+  length-first xs zero h = refl
+  length-first [] (suc j) h = absurd (omega arith)
+  length-first (x ∷ xs) (suc j) h = ap suc (length-first xs j (omega arith))
+
+  -- one element more in each run
+  module _ (w i : ℕ) (xs : List ℕ) (j : ℕ) (h : j < length xs) where
+    pub lower-more : lower w i (raised b (take (j + 1) xs))
+        ≡ lower w i (raised b (take j xs)) + (b + getD xs j 0) % 2 ^ w * 2 ^ ((i + j) * w)
+    lower-more =
+        rw (add-one, given-more xs j h)
+        (lower-snoc w i (raised b (take j xs)) (b + getD xs j 0)
+        ∙ rw (length-first xs j (omega arith)))
+
+    pub upper-more : upper w i (raised b (take (j + 1) xs))
+        ≡ upper w i (raised b (take j xs)) + 2 ^ ((b + getD xs j 0) / 2 ^ w + (i + j))
+    upper-more =
+        rw (add-one, given-more xs j h)
+        (upper-snoc w i (raised b (take j xs)) (b + getD xs j 0)
+        ∙ rw (length-first xs j (omega arith)))
+
+pub lower-first : (w i b : ℕ) (xs : List ℕ) → lower w i (raised b (take 0 xs)) ≡ 0
+unfolding lower raised
+lower-first w i b xs = refl
+
+pub upper-first : (w i b : ℕ) (xs : List ℕ) → upper w i (raised b (take 0 xs)) ≡ 0
+unfolding upper raised
+upper-first w i b xs = refl
+
+pub reach-none : (w i b : ℕ) (xs : List ℕ) → reach w i b xs 0 ≡ 0
+unfolding reach
+reach-none w i b xs = refl
+
+-- ---- within their runs
+
+module _ (g : Shape) (i b : ℕ) (xs : List ℕ) (at : ℕ) (run : List ℕ) (a : Asked g i b xs at run) where
+  -- element j is below U
+  pub given-below : (j : ℕ) → j < length xs → b + getD xs j 0 < g .u
+  given-below j h =
+      rw (← given-at b xs j h)
+      (rising-at 0 (g .u) (raised b xs) (a .rises) j (omega (arith, length-given b xs)) .1)
+
+  -- the place of element j is behind those of the elements before it
+  pub reach-le : (j : ℕ) → j < length xs → reach (g .w) i b xs j ≤ (b + getD xs j 0) / 2 ^ g .w + (i + j)
+  unfolding reach
+  reach-le zero h = omega arith
+  reach-le (suc j) h =
+      let r = rw (add-one j) at (rising-gap 0 (g .u) (raised b xs) (a .rises) j 1 (omega (arith, length-given b xs))) in
+      let e : b + getD xs j 0 < b + getD xs (suc j) 0 =
+      omega (arith, r, given-at b xs j (omega arith), given-at b xs (suc j) h) in
+      let m : (b + getD xs j 0) / 2 ^ g .w ≤ (b + getD xs (suc j) 0) / 2 ^ g .w = shr-mono (g .w) (omega (arith, e)) in
+      omega (arith, m)
+
+  pub reach-more : (j : ℕ) → (b + getD xs j 0) / 2 ^ g .w + (i + j) + 1 ≡ reach (g .w) i b xs (j + 1)
+  unfolding reach
+  reach-more j =
+      let e : (b + getD xs j 0) / 2 ^ g .w + (i + j) + 1 ≡ reach (g .w) i b xs (suc j) = omega arith in
+      e ∙ ap (reach (g .w) i b xs) (sym (add-one j))
+
+  -- sums and products that are made of an element fit a machine word
+  pub given-small : (g .w ≤ 24) × (g .u ≤ 2 ^ 24) × (i + length xs ≤ 2 ^ 24) × (i * g .w ≤ 2 ^ 24)
+  given-small =
+      let t = sides g (a .block) (a .fitting) in
+      let m : i * g .w ≤ g .n * g .w = mul-le-mul-right (g .w) (omega (arith, a .few)) in
+      (t .narrow, omega (arith, a .fitting .within), omega (arith, t .many, a .few), omega (arith, t .short, m))
+
+  -- the lower run's words up to element j's, and the upper run's up to its place
+  pub lower-long : at ≡ g .lower → 8 * wordsFor (g .n * g .w) ≤ length run
+  lower-long e = let t = sides g (a .block) (a .fitting) in omega (arith, t .upper, t .end, a .fitting .room, a .long)
+
+  pub lower-room : at ≡ g .lower → (j : ℕ) → i + j ≤ g .n → 8 * ((i + j) * g .w / 64) ≤ length run
+  unfolding wordsFor
+  lower-room e j h =
+      let m : (i + j) * g .w ≤ g .n * g .w = mul-le-mul-right (g .w) h in
+      omega (arith, m, lower-long e)
+
+  pub upper-room : at ≡ g .upper → (j : ℕ) → j < length xs
+      → 8 * (((b + getD xs j 0) / 2 ^ g .w + (i + j)) / 64) + 8 ≤ length run
+  unfolding wordsFor zeros
+  upper-room e j h =
+      let t = sides g (a .block) (a .fitting) in
+      let z = zeros-of g (a .block) (a .fitting) (omega (arith, a .few)) in
+      let m : (b + getD xs j 0) / 2 ^ g .w ≤ g .u / 2 ^ g .w = shr-mono (g .w) (omega (arith, given-below j h)) in
+      omega (arith, t .end, t .bits, z, m, a .few, a .fitting .room, a .long)
+
+  pub upper-long : at ≡ g .upper → 8 * wordsFor (g .bits) ≤ length run
+  upper-long e = let t = sides g (a .block) (a .fitting) in
+      omega (arith, rw (← t .bits) at (t .end), a .fitting .room, a .long)
+
+  -- all elements have their ones in the run
+  pub reach-in : (j : ℕ) → j ≤ length xs → reach (g .w) i b xs j ≤ 64 * wordsFor (g .bits)
+  unfolding reach wordsFor zeros
+  reach-in zero h = omega arith
+  reach-in (suc j) h =
+      let t = sides g (a .block) (a .fitting) in
+      let z = zeros-of g (a .block) (a .fitting) (omega (arith, a .few)) in
+      let m : (b + getD xs j 0) / 2 ^ g .w ≤ g .u / 2 ^ g .w = shr-mono (g .w) (omega (arith, given-below j (omega arith))) in
+      omega (arith, t .bits, z, m, a .few)
+
+  pub lower-all : (i + length xs) * g .w ≤ 64 * wordsFor (g .n * g .w)
+  unfolding wordsFor
+  lower-all =
+      let m : (i + length xs) * g .w ≤ g .n * g .w = mul-le-mul-right (g .w) (a .few) in
+      omega (arith, m)

@@ -1,0 +1,125 @@
+-- `add_word` lends each list its part of the room, which comes back with its elements laid.
+use mathlib.Core.Path.{_≡_, ap, _∙_}
+use mathlib.Core.List.{List}
+use Prim.Native.Nat.{ℕ, _+_, _-_}
+use native.Mathlib.Omega.{arith}
+use borrow.Rule.Slice.PartMut.{putMid}
+use borrow.Author.Needs.{needs}
+use lib.ListN.{length}
+use Rattle.rules.specs.Term.{sums, raised, placed}
+use Rattle.rules.specs.InPlace.{from, added}
+use Rattle.wordlaws.proofs.PieceLaws.{part-long}
+use Rattle.addlaws.proofs.FromLaws.{part-from}
+use Rattle.sessionlaws.proofs.LayoutLaws.{house-places, house-pages, house-counts, house-positions}
+use Rattle.sessionlaws.proofs.PutLaws.{laying-house, ask-pages, ask-counts, ask-places, added-told}
+use Rattle.putpostings.proofs.add_word.Statement.{statement}
+use Rattle.putpostings.proofs.add_word.Tie as tie
+
+-- the start, seen from before the first list and from behind each of the others
+abbrev from-start : tie.After-struct-known2 → tie.Start
+from-start c = c .before .before .before .before .before .before
+
+abbrev from-pages : tie.After-slice-known2 → tie.Start
+from-pages c = from-start (c .before .before .before .before)
+
+abbrev from-counts : tie.After-slice-known3 → tie.Start
+from-counts c = from-pages (c .before .before .before .before)
+
+-- the room behind the pages and the counts
+abbrev paged : tie.After-slice-known2 → List ℕ
+paged c =
+    let r = from-pages c .args .room .now in
+    putMid 5 (length r - 5) r (c .before .before .add-all .last .0)
+
+abbrev counted : tie.After-slice-known3 → List ℕ
+counted c =
+    let r = paged (c .before .before .before .before) in
+    let u = from-counts c .args .g .second in
+    putMid u (length r - u) r (c .before .before .add-sums .last .0)
+
+sub-add-all : tie.Need-sub-add-all
+sub-add-all c =
+    let p = from-start c .pre in
+    omega (arith, house-places (laying-house p), p .fits)
+
+add-all-requires : tie.Need-add-all-requires
+add-all-requires c κs =
+    let s = from-start (c .before) in
+    let a = ask-pages (s .pre) in
+    (house-pages (laying-house (s .pre)) _ (part-long 5 (s .args .room .now)), a .0, a .1)
+
+sub-add-sums : tie.Need-sub-add-sums
+sub-add-sums c =
+    let p = from-pages c .pre in
+    omega (arith, house-places (laying-house p), p .fits)
+
+add-sums-requires : tie.Need-add-sums-requires
+add-sums-requires c κs =
+    let b = c .before in
+    let s = from-pages b in
+    let a = ask-counts (s .pre) in (
+      house-counts (laying-house (s .pre)) _ (omega (arith, part-long (s .args .g .second) (paged b))),
+      a .0,
+      a .1,
+      a .2,
+    )
+
+sub-add-places : tie.Need-sub-add-places
+sub-add-places c =
+    let p = from-counts c .pre in
+    omega (arith, house-places (laying-house p), p .fits)
+
+add-places-requires : tie.Need-add-places-requires
+add-places-requires c κs =
+    let b = c .before .before in
+    let s = from-counts b in
+    let a = ask-places (s .pre) in (
+      house-positions (laying-house (s .pre)) _ (omega (arith, part-long (s .args .g .third) (counted b))),
+      a .0,
+      a .1,
+      a .2,
+      a .3,
+      a .4,
+    )
+
+returns : tie.Need-returns
+returns c =
+    let b = c .before .before .before .before .before in
+    let d = b .before .before .before .before in
+    let s = from-counts b in
+    let g = s .args .g in
+    let x = s .args .s in
+    let ps = s .args .pages .now in
+    let cs = s .args .counts .now in
+    let qs = s .args .positions .now in
+    let P : List ℕ → List ℕ = added (g .pages .u) (g .pages .n) (x .laid) (raised 0 ps) in
+    let C : List ℕ → List ℕ = added (g .counts .u) (g .counts .n) (x .laid) (sums (x .filled) cs) in
+    let Q : List ℕ → List ℕ = added (g .positions .u) (g .positions .n) (x .filled) (placed (x .base) cs qs) in
+    part-from (g .third) Q (counted b) (c .before .before .add-places .last .0) (c .before .before .add-places .ensures)
+    ∙ ap (from (g .third) Q)
+    (part-from (g .second) C (paged d) (b .before .before .add-sums .last .0) (b .before .before .add-sums .ensures)
+    ∙ ap (from (g .second) C)
+    (part-from 5 P (s .args .room .now) (d .before .before .add-all .last .0) (d .before .before .add-all .ensures)))
+    ∙ added-told (s .pre)
+
+pub add-word-spec : {M : Type 1} → statement M
+add-word-spec =
+    tie.close
+    (tie.spec
+    (λ c. search needs)
+    (λ c. search needs)
+    sub-add-all
+    sub-add-all
+    (λ c. search needs)
+    add-all-requires
+    sub-add-sums
+    sub-add-sums
+    (λ c. search needs)
+    add-sums-requires
+    sub-add-places
+    sub-add-places
+    (λ c. search needs)
+    (λ c. search needs)
+    add-places-requires
+    (λ c. search needs)
+    returns)

@@ -1,0 +1,138 @@
+-- `put_postings` answers with the first test that fails, and lays the postings where none does.
+use mathlib.Core.Bool.{true}
+use mathlib.Core.Path.{_≡_, refl, sym, ap, _∙_}
+use native.Mathlib.Omega.{arith}
+use borrow.Author.Needs.{needs}
+use borrow.Author.Tests.{not-true, not-false}
+use lib.ListN.{replicate}
+use Rattle.rules.specs.declared.Refusal.the-variants.{Accepted, Lists}
+use Rattle.rules.specs.Write.{laid}
+use Rattle.rules.specs.Term.{Word, lentWord}
+use Rattle.rules.specs.Stream.{over, live, follows, addedWord, advanced, sizeOf}
+use Rattle.sessionlaws.specs.Follow.{Laying}
+use Rattle.sessionlaws.proofs.LiveLaws.{live-parts}
+use Rattle.sessionlaws.proofs.LayoutLaws.{size-is}
+use Rattle.sessionlaws.proofs.AnswerLaws.{streamed-is}
+use Rattle.sessionlaws.proofs.PutLaws.{run-follows, ask-advance, advanced-told, put-dead, put-short, put-spoilt, put-laid}
+use Rattle.putpostings.proofs.put_postings.Statement.{statement}
+use Rattle.putpostings.proofs.put_postings.Tie as tie
+
+abbrev word : tie.Start → Word
+word s = lentWord (s .args .pages .now) (s .args .counts .now) (s .args .positions .now)
+
+-- the start, seen from where the session's test is known
+abbrev from-test : tie.After-is-live → tie.Start
+from-test c = c .before .before .before .before .before
+
+returns : tie.Need-returns
+returns c =
+    let l = c .before .before in
+    let s = from-test l in
+    let a = s .args in
+    streamed-is (c .ended .result) (a .room .now) Lists 0 over (a .room .now) (c .ended .ensures) refl
+    ∙ sym (put-dead (a .s) (word s) (a .room .now)
+    (sym (l .is-live .ensures) ∙ not-true (l .is-live .result) (c .before .if1 .taken)))
+
+-- the session goes on, seen from behind that test
+goes-on : (c : tie.Else1) → live (from-test (c .before) .args .s) ≡ true
+goes-on c = sym (c .before .is-live .ensures) ∙ not-false (c .before .is-live .result) (c .if1 .left)
+
+-- the block's length, seen from where its layout is known
+long : (c : tie.After-layout-of) → c .layout-of .result .size ≡ sizeOf (from-test (c .before .before) .args .s)
+unfolding sizeOf
+long c =
+    let s = from-test (c .before .before) .args .s in
+    size-is (s .n) (s .pages) (s .positions) (s .u) (live-parts s (goes-on (c .before)) .announced) (c .layout-of .result)
+    (c .layout-of .ensures)
+
+returns-2 : tie.Need-returns-2
+returns-2 c =
+    let l = c .before in
+    let s = from-test (l .before .before) in
+    sym (put-short (s .args .s) (word s) (s .args .room .now) (goes-on (l .before)) (omega (arith, long l, c .if2 .taken)))
+
+-- the layout, seen from where the postings are tested
+abbrev layout : tie.After-follow → tie.After-layout-of
+layout c = c .before .before
+
+abbrev start : tie.After-follow → tie.Start
+start c = from-test (layout c .before .before)
+
+returns-3 : tie.Need-returns-3
+returns-3 c =
+    let k = c .before .before .before in
+    let t = k .before .before in
+    let d = t .before .before in
+    let s = start d in
+    let a = s .args in
+    streamed-is (c .ended2 .result) (k .clear .last .0) Lists 0 over (laid (replicate (sizeOf (a .s)) 0) (a .room .now))
+    (c .ended2 .ensures) (k .clear .ensures ∙ ap (λ n. laid (replicate n 0) (a .room .now)) (long (layout d)))
+    ∙ sym (put-spoilt (a .s) (word s) (a .room .now) (goes-on (layout d .before))
+    (omega (arith, long (layout d), d .before .if2 .left))
+    (sym (d .follow .ensures .says) ∙ not-true (d .follow .result .ok) (t .if3 .taken)))
+
+-- the postings may follow, seen from behind their test
+may : (c : tie.Else3) → follows (start (c .before .before) .args .s) (word (start (c .before .before))) ≡ true
+may c =
+    let d = c .before .before in
+    sym (d .follow .ensures .says) ∙ not-false (d .follow .result .ok) (c .if3 .left)
+
+laying : (c : tie.Else3)
+    → let d = c .before .before in
+    Laying (layout d .layout-of .result) (start d .args .s) (word (start d)) (start d .args .room .now)
+laying c =
+    let d = c .before .before in
+    record {
+      layout = layout d .layout-of .ensures;
+      goes-on = goes-on (layout d .before);
+      may = may c;
+      fits = d .before .if2 .left;
+    }
+
+advance-requires : tie.Need-advance-requires
+advance-requires c κs =
+    let e = c .before .before .before .before in
+    let d = e .before .before in
+    let l = laying e in
+    let f = run-follows l in
+    let a = ask-advance l in (
+      a .0,
+      a .1,
+      f .pages,
+      f .positions,
+      omega (arith, d .follow .ensures .ends (not-false (d .follow .result .ok) (e .if3 .left)), f .ends, a .2),
+    )
+
+returns-4 : tie.Need-returns-4
+returns-4 c =
+    let k = c .before .before .before in
+    let e = k .before .before in
+    let d = e .before .before in
+    let s = start d in
+    let a = s .args in
+    let l = laying e in
+    let n = d .follow .ensures .ends (not-false (d .follow .result .ok) (e .if3 .left)) in
+    streamed-is (record { refusal = Accepted; size = 0; stream = c .advance .result }) (k .add-word .last .0) Accepted 0
+    (advanced (a .s) (word s)) (addedWord (a .s) (word s) (a .room .now))
+    (refl, refl, c .advance .ensures ∙ advanced-told l (d .follow .result .next) n) (k .add-word .ensures)
+    ∙ sym (put-laid (a .s) (word s) (a .room .now) (goes-on (layout d .before))
+    (omega (arith, long (layout d), d .before .if2 .left)) (may e))
+
+pub put-postings-spec : {M : Type 1} → statement M
+put-postings-spec =
+    tie.close
+    (tie.spec
+    (λ c κs. search needs)
+    (λ c κs. search needs)
+    returns
+    (λ c κs. goes-on c)
+    returns-2
+    (λ c κs. goes-on (c .before .before))
+    (λ c κs. search needs)
+    (λ c κs. search needs)
+    (λ c. search needs)
+    returns-3
+    (λ c κs. laying (c .before))
+    advance-requires
+    (λ c. search needs)
+    returns-4)

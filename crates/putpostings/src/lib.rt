@@ -1,0 +1,71 @@
+// A run of postings handed to a session: the host's call. They are laid straight into the room, behind what is there.
+
+ghost use mathlib.Core.Path.{_≡_};
+ghost use Rattle.rules.specs.Term.{lentWord};
+ghost use Rattle.rules.specs.Stream.{addedWord};
+ghost use Rattle.rules.specs.Promises.{PostingsPut};
+ghost use Rattle.sessionlaws.specs.Follow.{Laying};
+use rules::LISTS_AT;
+use rules::Refusal;
+use rules::Stream;
+use rules::Streamed;
+use sessionlaws::Layout;
+
+// Lays the postings behind those of the session.
+fn add_word(room: &mut [u8], g: Layout, s: Stream, pages: &[u32], counts: &[u32], positions: &[u32])
+    requires { ⌜ Laying g s (lentWord (now pages) (now counts) (now positions)) (now room) ⌝ }
+    ensures { λ _. ⌜ now (room .exit)
+        ≡ addedWord s (lentWord (now (pages .entry)) (now (counts .entry)) (now (positions .entry)))
+        (now (room .entry)) ⌝ }
+{
+    let laid = s.laid as usize;
+    let filled = s.filled as usize;
+    let second = g.second;
+    let third = g.third;
+    adding::add_all(&mut room[LISTS_AT..], g.pages, laid, 0, pages);
+    addlists::add_sums(&mut room[second..], g.counts, laid, filled, counts);
+    addlists::add_places(
+        &mut room[third..],
+        g.positions,
+        filled,
+        s.base as usize,
+        counts,
+        positions,
+    );
+}
+
+// Hands the next postings of a word to its session.
+pub fn put_postings(
+    s: Stream,
+    pages: &[u32],
+    counts: &[u32],
+    positions: &[u32],
+    room: &mut [u8],
+) -> Streamed
+    ensures { λ r. ⌜ PostingsPut s (lentWord (now (pages .entry)) (now (counts .entry)) (now (positions .entry)))
+        (now (room .entry)) r (now (room .exit)) ⌝ }
+{
+    if !sessions::is_live(s) {
+        return sessions::ended(Refusal::Lists, 0);
+    }
+    let g = sessions::layout_of(s);
+    let size = g.size;
+    if room.len() < size {
+        return Streamed {
+            refusal: Refusal::Room,
+            size: 0,
+            stream: s,
+        };
+    }
+    let word = following::follow(s, pages, counts, positions);
+    if !word.ok {
+        sessions::clear(room, size);
+        return sessions::ended(Refusal::Lists, 0);
+    }
+    add_word(room, g, s, pages, counts, positions);
+    Streamed {
+        refusal: Refusal::Accepted,
+        size: 0,
+        stream: following::advance(s, pages, positions, word.next),
+    }
+}

@@ -1,0 +1,167 @@
+-- A word written as the manual streams by: announced, handed over in runs, and closed [02 c].
+--
+--   announceRefusal N P Q U   the refusal of an announcement of P pages and Q positions whose elements end at U
+--   streamSize N P Q U        the length of the block that it announces
+--   announced N P Q U         that block with its headers, and zeros for the rest
+--   opened N P Q U            the session that it opens; `over` is one that has ended
+--   live s                    whether session s goes on: no announcement that is refused, nothing past what it announces
+--   addedWord s t room        the room with the postings t laid behind those of session s
+--   follows s t               whether the postings t may follow: a word by themselves, above what is laid, not past what
+--                             was announced
+--   advanced s t              the session behind them
+--   beginTerm, putPostings, endTerm  the calls
+--   streamWord N P Q U ts room  a whole session with the runs ts: each call gets the room as the last one left it
+use mathlib.Core.Bool.{Bool, cond, not, _&&_, _||_}
+use mathlib.Core.List.{List, [], _∷_, _++_}
+use Prim.Native.Nat.{ℕ, _+_}
+use lib.Dec.{ltb, leb, eqb}
+use lib.ListN.{length, replicate}
+use Rattle.rules.specs.declared.Refusal.{Refusal}
+use Rattle.rules.specs.declared.Refusal.the-variants.{Accepted, Limit, Room, Lists}
+use Rattle.rules.specs.declared.Stream.{Stream}
+use Rattle.rules.specs.declared.Streamed.{Streamed}
+use Rattle.rules.specs.Refusal.{accepted}
+use Rattle.rules.specs.Limits.{limit, version}
+use Rattle.rules.specs.Bytes.{sized}
+use Rattle.rules.specs.List.{rising, size}
+use Rattle.rules.specs.Write.{laid}
+use Rattle.rules.specs.InPlace.{emptied, from, added, pointed}
+use Rattle.rules.specs.Term.{Word, lentWord, sums, next, placed, validWord}
+
+unfoldable pub announceRefusal : ℕ → ℕ → ℕ → ℕ → Refusal
+announceRefusal N P Q U =
+    cond (ltb limit N || ltb limit U) Limit
+    (cond (ltb N P || (ltb Q P || (ltb U Q || ((eqb P 0 && ltb 0 Q) || (eqb Q 0 && ltb 0 U))))) Lists
+    Accepted)
+
+-- the bytes at which the counts and the positions start, and at which the block ends
+unfoldable pub countsAt : ℕ → ℕ → ℕ
+countsAt N P = 5 + size N P
+
+unfoldable pub positionsAt : ℕ → ℕ → ℕ → ℕ
+positionsAt N P Q = countsAt N P + size Q P
+
+unfoldable pub streamSize : ℕ → ℕ → ℕ → ℕ → ℕ
+streamSize N P Q U = positionsAt N P Q + size U Q
+
+unfoldable pub announced : ℕ → ℕ → ℕ → ℕ → List ℕ
+announced N P Q U = sized (version ∷ (emptied N P ++ (emptied Q P ++ emptied U Q)))
+
+unfoldable pub opened : ℕ → ℕ → ℕ → ℕ → Stream
+opened N P Q U = record {
+  mark = 1;
+  n = N;
+  pages = P;
+  positions = Q;
+  u = U;
+  laid = 0;
+  filled = 0;
+  page = 0;
+  base = 0;
+}
+
+unfoldable pub over : Stream
+over = record { mark = 0; n = 0; pages = 0; positions = 0; u = 0; laid = 0; filled = 0; page = 0; base = 0 }
+
+unfoldable pub live : Stream → Bool
+live s =
+    eqb (s .mark) 1
+    && (accepted (announceRefusal (s .n) (s .pages) (s .positions) (s .u))
+    && (leb (s .laid) (s .pages) && leb (s .filled) (s .positions)))
+
+unfoldable pub addedWord : Stream → Word → List ℕ → List ℕ
+addedWord s t room =
+    from (positionsAt (s .n) (s .pages) (s .positions))
+    (added (s .u) (s .positions) (s .filled) (placed (s .base) (t .counts) (t .positions)))
+    (from (countsAt (s .n) (s .pages)) (added (s .positions) (s .pages) (s .laid) (sums (s .filled) (t .counts)))
+    (from 5 (added (s .n) (s .pages) (s .laid) (t .pages)) room))
+
+unfoldable pub follows : Stream → Word → Bool
+follows s t =
+    validWord (s .n) t
+    && (rising (s .page) (s .n) (t .pages)
+    && (leb (s .laid + length (t .pages)) (s .pages)
+    && (leb (s .filled + length (t .positions)) (s .positions)
+    && leb (next (s .base) (placed (s .base) (t .counts) (t .positions))) (s .u))))
+
+unfoldable pub advanced : Stream → Word → Stream
+advanced s t = record {
+  mark = 1;
+  n = s .n;
+  pages = s .pages;
+  positions = s .positions;
+  u = s .u;
+  laid = s .laid + length (t .pages);
+  filled = s .filled + length (t .positions);
+  page = next (s .page) (t .pages);
+  base = next (s .base) (placed (s .base) (t .counts) (t .positions));
+}
+
+-- whether all that was announced is laid
+unfoldable pub complete : Stream → Bool
+complete s = eqb (s .laid) (s .pages) && (eqb (s .filled) (s .positions) && eqb (s .base) (s .u))
+
+-- a call's result: refusal, length of a finished block, the session and the room after it
+pub record Streaming : Type 0 where
+  pub refusal : Refusal
+  pub size : ℕ
+  pub stream : Stream
+  pub room : List ℕ
+
+abbrev pub streaming : Streamed → List ℕ → Streaming
+streaming r room = record { refusal = r .refusal; size = r .size; stream = r .stream; room = room }
+
+abbrev pub goes : Refusal → Stream → List ℕ → Streaming
+goes r s room = record { refusal = r; size = 0; stream = s; room = room }
+
+unfoldable pub sizeOf : Stream → ℕ
+sizeOf s = streamSize (s .n) (s .pages) (s .positions) (s .u)
+
+-- bad postings or totals: the session ends, and its block is all zero
+unfoldable pub spoilt : Stream → List ℕ → Streaming
+spoilt s room = goes Lists over (laid (replicate (sizeOf s) 0) room)
+
+unfoldable pub beginTerm : ℕ → ℕ → ℕ → ℕ → List ℕ → Streaming
+beginTerm N P Q U room =
+    cond (not (accepted (announceRefusal N P Q U))) (goes (announceRefusal N P Q U) over room)
+    (cond (ltb (length room) (streamSize N P Q U)) (goes Room over room)
+    (goes Accepted (opened N P Q U) (laid (announced N P Q U) room)))
+
+-- what each later call tests first, and then is r
+unfoldable pub going : Stream → List ℕ → Streaming → Streaming
+going s room r =
+    cond (not (live s)) (goes Lists over room)
+    (cond (ltb (length room) (sizeOf s)) (goes Room s room) r)
+
+unfoldable pub putPostings : Stream → Word → List ℕ → Streaming
+putPostings s t room =
+    going s room (cond (not (follows s t)) (spoilt s room) (goes Accepted (advanced s t) (addedWord s t room)))
+
+unfoldable pub pointedWord : Stream → List ℕ → List ℕ
+pointedWord s room =
+    from (positionsAt (s .n) (s .pages) (s .positions)) (pointed (s .u) (s .positions))
+    (from (countsAt (s .n) (s .pages)) (pointed (s .positions) (s .pages)) (from 5 (pointed (s .n) (s .pages)) room))
+
+unfoldable pub endTerm : Stream → List ℕ → Streaming
+endTerm s room =
+    going s room
+    (cond (not (complete s)) (spoilt s room)
+    (record { refusal = Accepted; size = sizeOf s; stream = over; room = pointedWord s room }))
+
+-- runs one after the other, and the word that they are together
+unfoldable pub putAll : List Word → Streaming → Streaming
+putAll [] r = r
+putAll (t ∷ ts) r = putAll ts (putPostings (r .stream) t (r .room))
+
+unfoldable pub together : List Word → Word
+together [] = lentWord [] [] []
+together (t ∷ ts) =
+    lentWord
+    (t .pages ++ together ts .pages)
+    (t .counts ++ together ts .counts)
+    (t .positions ++ together ts .positions)
+
+unfoldable pub streamWord : ℕ → ℕ → ℕ → ℕ → List Word → List ℕ → Streaming
+streamWord N P Q U ts room =
+    let r : Streaming = putAll ts (beginTerm N P Q U room) in
+    endTerm (r .stream) (r .room)

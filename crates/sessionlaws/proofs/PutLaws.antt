@@ -1,0 +1,141 @@
+-- Laws of a run of postings that may follow: what its lists ask of the block, what they leave in it, and the call's
+-- answer.
+use mathlib.Core.Bool.{true, false, _&&_}
+use mathlib.Core.Path.{_≡_, refl, sym, ap, _∙_}
+use mathlib.Core.List.{List}
+use Prim.Native.Nat.{ℕ, _+_, _≤_, _<_}
+use native.Mathlib.Omega.{arith}
+use borrow.Author.Tests.{leb-true}
+use lib.Dec.{leb}
+use lib.ListN.{length, replicate}
+use Rattle.rules.specs.declared.Refusal.the-variants.{Accepted, Room, Lists}
+use Rattle.rules.specs.declared.Stream.{Stream}
+use Rattle.rules.specs.Limits.{limit}
+use Rattle.rules.specs.List.{rising}
+use Rattle.rules.specs.Write.{laid}
+use Rattle.rules.specs.Term.{Word, total, sums, next, raised, placed, positive, inOrderByPage, validWord}
+use Rattle.rules.specs.InPlace.{from, added}
+use Rattle.rules.specs.Stream.{over, live, follows, addedWord, advanced, goes, sizeOf, spoilt, putPostings}
+use Rattle.listlaws.proofs.RisingLaws.{and-parts}
+use Rattle.termlaws.proofs.WordLaws.{valid-agreeing}
+use Rattle.shape.specs.Shape.{shapeOf}
+use Rattle.filllaws.proofs.WriteLaws.{u-of, n-of}
+use Rattle.addlaws.proofs.MoreLaws.{raised-zero}
+use Rattle.sessionlaws.specs.declared.Layout.{Layout}
+use Rattle.sessionlaws.specs.Layout.{Housed}
+use Rattle.sessionlaws.specs.Session.{Live}
+use Rattle.sessionlaws.specs.Follow.{Following, Laying, stepped}
+use Rattle.sessionlaws.proofs.LiveLaws.{live-parts, going-dead, going-short, going-on}
+use Rattle.sessionlaws.proofs.LayoutLaws.{counts-are, layout-tells, second-is, third-is, housed}
+
+pub following : (s : Stream) (t : Word) → follows s t ≡ true → Following s t
+unfolding follows
+following s t e =
+    let end : ℕ = next (s .base) (placed (s .base) (t .counts) (t .positions)) in
+    let a = and-parts (validWord (s .n) t) _ e in
+    let b = and-parts (rising (s .page) (s .n) (t .pages)) _ (a .1) in
+    let c = and-parts (leb (s .laid + length (t .pages)) (s .pages)) _ (b .1) in
+    let d = and-parts (leb (s .filled + length (t .positions)) (s .positions)) (leb end (s .u)) (c .1) in
+    record {
+      agreeing = valid-agreeing (s .n) t (a .0);
+      seam = b .0;
+      pages = leb-true (s .laid + length (t .pages)) (s .pages) (c .0);
+      positions = leb-true (s .filled + length (t .positions)) (s .positions) (d .0);
+      ends = leb-true end (s .u) (d .1);
+    }
+
+-- ---- the lists
+
+module _ {g : Layout} {s : Stream} {t : Word} {room : List ℕ} (l : Laying g s t room) where
+  lives : Live s
+  lives = live-parts s (l .goes-on)
+
+  pub run-follows : Following s t
+  run-follows = following s t (l .may)
+
+  pub laying-house : Housed g room
+  laying-house = housed (s .n) (s .pages) (s .positions) (s .u) (lives .accepts) g (l .layout) room (l .fits)
+
+  counts-shape : g .counts ≡ shapeOf (s .positions) (s .pages)
+  counts-shape = counts-are (s .n) (s .pages) (s .positions) (s .u) (lives .announced) g (l .layout)
+
+  tells : (g .pages .u ≡ s .n) × (g .pages .n ≡ s .pages) × (g .positions .n ≡ s .positions) × (g .positions .u ≡ s .u)
+  tells = layout-tells (s .n) (s .pages) (s .positions) (s .u) (lives .announced) g (l .layout)
+
+  counts-u : g .counts .u ≡ s .positions
+  counts-u = u-of (s .positions) (s .pages) (g .counts) counts-shape
+
+  counts-n : g .counts .n ≡ s .pages
+  counts-n = n-of (s .positions) (s .pages) (g .counts) counts-shape
+
+  -- the session behind them
+  pub advanced-told : (b : ℕ) → b ≡ next (s .base) (placed (s .base) (t .counts) (t .positions))
+      → stepped s (t .pages) (t .positions) b ≡ advanced s t
+  unfolding stepped advanced
+  advanced-told b e = rw (lives .marked, e)
+
+  pub ask-advance : (rising 0 (s .n) (t .pages) ≡ true) × (s .n ≤ limit) × (s .u ≤ limit)
+  ask-advance = (run-follows .agreeing .rises, lives .announced .within, lives .announced .reach)
+
+  pub ask-pages : (s .laid + length (t .pages) ≤ g .pages .n) × (rising 0 (g .pages .u) (raised 0 (t .pages)) ≡ true)
+  ask-pages = (omega (arith, run-follows .pages, tells), rw (raised-zero (t .pages), tells .0) (run-follows .agreeing .rises))
+
+  pub ask-counts : (s .laid + length (t .counts) ≤ g .counts .n) × (positive (t .counts) ≡ true)
+      × (s .filled + total (t .counts) ≤ g .counts .u)
+  ask-counts =
+      let a = run-follows .agreeing in (
+        omega (arith, run-follows .pages, a .lengths, counts-n),
+        a .counted,
+        omega (arith, run-follows .positions, a .summed, counts-u),
+      )
+
+  pub ask-places : (s .filled + length (t .positions) ≤ g .positions .n) × (total (t .counts) ≡ length (t .positions))
+      × (positive (t .counts) ≡ true) × (inOrderByPage (t .counts) (t .positions) ≡ true)
+      × (next (s .base) (placed (s .base) (t .counts) (t .positions)) ≤ g .positions .u)
+  ask-places =
+      let a = run-follows .agreeing in (
+        omega (arith, run-follows .positions, tells),
+        a .summed,
+        a .counted,
+        a .ordered,
+        omega (arith, run-follows .ends, tells),
+      )
+
+  pub added-told : from (g .third)
+      (added (g .positions .u) (g .positions .n) (s .filled) (placed (s .base) (t .counts) (t .positions)))
+      (from (g .second) (added (g .counts .u) (g .counts .n) (s .laid) (sums (s .filled) (t .counts)))
+      (from 5 (added (g .pages .u) (g .pages .n) (s .laid) (raised 0 (t .pages))) room))
+      ≡ addedWord s t room
+  unfolding addedWord
+  added-told = rw (
+    raised-zero (t .pages),
+    tells .0,
+    tells .1,
+    tells .2,
+    tells .3,
+    counts-u,
+    counts-n,
+    second-is (s .n) (s .pages) (s .positions) (s .u) (lives .announced) g (l .layout),
+    third-is (s .n) (s .pages) (s .positions) (s .u) (lives .announced) g (l .layout),
+  )
+
+-- ---- the call
+
+module _ (s : Stream) (t : Word) (room : List ℕ) where
+  pub put-dead : live s ≡ false → putPostings s t room ≡ goes Lists over room
+  unfolding putPostings
+  put-dead e = going-dead s room _ e
+
+  module _ (goes-on : live s ≡ true) where
+    pub put-short : length room < sizeOf s → putPostings s t room ≡ goes Room s room
+    unfolding putPostings
+    put-short h = going-short s room _ goes-on h
+
+    module _ (long : sizeOf s ≤ length room) where
+      pub put-spoilt : follows s t ≡ false → putPostings s t room ≡ goes Lists over (laid (replicate (sizeOf s) 0) room)
+      unfolding putPostings spoilt
+      put-spoilt e = going-on s room _ goes-on long ∙ rw e
+
+      pub put-laid : follows s t ≡ true → putPostings s t room ≡ goes Accepted (advanced s t) (addedWord s t room)
+      unfolding putPostings
+      put-laid e = going-on s room _ goes-on long ∙ rw e

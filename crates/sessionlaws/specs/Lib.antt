@@ -1,0 +1,3 @@
+pub mod Session
+pub mod Layout
+pub mod Follow

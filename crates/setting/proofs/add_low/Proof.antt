@@ -1,0 +1,59 @@
+-- `add_low` lays the low bits of x: what `place` gives is the old bits and the new, and the ones of a full word are set.
+use mathlib.Core.Path.{_≡_, refl, sym, ap, ap₂, _∙_}
+use Prim.Native.Nat.{ℕ, _+_, _-_, _*_, _/_, _%_, _^_, _≤_, _<_}
+use native.Mathlib.Nat.{mod-lt, div-one, le-of-lt}
+use native.Mathlib.Omega.{arith}
+use borrow.Author.Needs.{needs}
+use lib.Pow.{pow-pos}
+use Rattle.laws.proofs.BitLaws.{one-shl, masked}
+use Rattle.rules.specs.InPlace.{from, withOnes}
+use Rattle.addlaws.proofs.LowLaws.{low-near, low-far}
+use Rattle.setting.proofs.add_low.Statement.{statement}
+use Rattle.setting.proofs.add_low.Tie as tie
+
+sub-low : tie.Need-sub-low
+sub-low c =
+    let w = c .before .args .w in
+    rw (one-shl w (omega arith)) (pow-pos w)
+
+place-requires : tie.Need-place-requires
+place-requires c κs =
+    let a = c .before .args in
+    let p = c .before .pre in
+    (p .0, p .1, rw (masked (a .x) (a .w) (omega arith)) (mod-lt (a .x) (pow-pos (a .w))), p .2)
+
+returns : tie.Need-returns
+returns c =
+    let k = c .before .before .before in
+    let s = k .before .before in
+    let a = s .args in
+    let r = k .place .result in
+    low-near (a .w) (a .a) (a .x) (r .hi) (r .lo) (s .pre .1) (s .pre .0) (s .pre .2) (k .place .ensures) (a .run .now)
+    (c .before .if1 .taken)
+
+returns-2 : tie.Need-returns-2
+returns-2 c =
+    let u = c .before .before .before .before in
+    let k = u .before .before .before .before in
+    let s = k .before .before in
+    let a = s .args in
+    let r = k .place .result in
+    low-far (a .w) (a .a) (a .x) (r .hi) (r .lo) (s .pre .1) (s .pre .0) (s .pre .2) (k .place .ensures) (a .run .now)
+    (u .set-ones .last .0) (k .place .ok .1 .1 .0 .1) (u .before .before .if1 .left) (u .set-ones .ensures)
+
+pub add-low-spec : {M : Type 1} → statement M
+add-low-spec =
+    tie.close
+    (tie.spec
+    (λ c. search needs)
+    sub-low
+    place-requires
+    (λ c. search needs)
+    (λ c. search needs)
+    returns
+    (λ c κs. search needs)
+    (λ c. search needs)
+    (λ c. search needs)
+    (λ c. search needs)
+    (λ c. search needs)
+    returns-2)

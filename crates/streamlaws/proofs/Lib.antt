@@ -1,0 +1,10 @@
+pub mod OnesLaws
+pub mod AppendLaws
+pub mod FromLaws
+pub mod PartlyLaws
+pub mod JoinedLaws
+pub mod WordLaws
+pub mod FollowLaws
+pub mod BeginLaws
+pub mod SessionLaws
+pub mod Theorems

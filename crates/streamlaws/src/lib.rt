@@ -1,0 +1,1 @@
+// What follows from the rules of a session: a word handed over in runs is written as it is whole.

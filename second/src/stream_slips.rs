@@ -1,0 +1,180 @@
+//! Libraries with one slip in the calls of a session, each of which the comparison has to find.
+
+use crate::case::Case;
+use crate::compare::{Other, Side};
+use crate::gen::{cuts, streams};
+use crate::host_calls::Plain;
+use crate::plain::refusal;
+use crate::plain::stream::{Announced, Run, Stream, Streamed, GOING_ON};
+use crate::stored;
+use crate::stream_calls::StreamCalls;
+use crate::text::Stored;
+use std::path::PathBuf;
+
+/// A library with one slip in it, over the plain program.
+#[derive(Clone, Copy, Debug, PartialEq, Eq)]
+enum Slip {
+    None,
+    ComparesNoSeam,
+    LeavesABadBlock,
+    EndsInAShortRoom,
+    GoesOnAfterTheClose,
+    TakesAnyTotals,
+    PointsBeforeTheClose,
+    ForgetsEarlierRuns,
+    NumbersEachRunFromZero,
+    TellsTheLengthAtOnce,
+    ClearsBehindTheBlock,
+    ReadsPostingsBeforeTheRoom,
+    TakesAnyMark,
+    TakesAnyBase,
+}
+
+const SLIPS: [Slip; 13] = [
+    Slip::ComparesNoSeam,
+    Slip::LeavesABadBlock,
+    Slip::EndsInAShortRoom,
+    Slip::GoesOnAfterTheClose,
+    Slip::TakesAnyTotals,
+    Slip::PointsBeforeTheClose,
+    Slip::ForgetsEarlierRuns,
+    Slip::NumbersEachRunFromZero,
+    Slip::TellsTheLengthAtOnce,
+    Slip::ClearsBehindTheBlock,
+    Slip::ReadsPostingsBeforeTheRoom,
+    Slip::TakesAnyMark,
+    Slip::TakesAnyBase,
+];
+
+impl Slip {
+    /// The session as the slip has it when a run is handed over.
+    fn session_for_run(self, stream: Stream) -> Stream {
+        match self {
+            Slip::ComparesNoSeam => Stream { page: 0, ..stream },
+            Slip::NumbersEachRunFromZero => Stream { laid: 0, ..stream },
+            Slip::TakesAnyMark => Stream {
+                mark: GOING_ON,
+                ..stream
+            },
+            Slip::TakesAnyBase if stream.base > stream.announced.bound => {
+                Stream { base: 0, ..stream }
+            }
+            _ => stream,
+        }
+    }
+
+    fn is_bad_in_any_room(stream: Stream, run: &Run) -> bool {
+        let length = stream.announced.block_length().unwrap_or(0);
+        let given = Plain.put_postings(stream, run, &mut vec![0; length]);
+        given.refusal == refusal::INPUT
+    }
+}
+
+/// The session with everything announced laid.
+fn whole(stream: Stream) -> Stream {
+    Stream {
+        laid: stream.announced.pages,
+        filled: stream.announced.positions,
+        base: stream.announced.bound,
+        ..stream
+    }
+}
+
+impl StreamCalls for Slip {
+    fn begin_term(&self, announced: Announced, room: &mut [u8]) -> Streamed {
+        let given = Plain.begin_term(announced, room);
+        let length = announced.block_length().unwrap_or(0);
+        match (self, given.refusal) {
+            (Slip::TellsTheLengthAtOnce, 0) => Streamed { length, ..given },
+            (Slip::ClearsBehindTheBlock, 0) => {
+                room[length..].fill(0);
+                given
+            }
+            _ => given,
+        }
+    }
+
+    fn put_postings(&self, stream: Stream, run: &Run, room: &mut [u8]) -> Streamed {
+        let before = room.to_vec();
+        if *self == Slip::ForgetsEarlierRuns && stream.goes_on() && stream.laid > 0 {
+            Plain.begin_term(stream.announced, room);
+        }
+        let given = Plain.put_postings(self.session_for_run(stream), run, room);
+        match (self, given.refusal) {
+            (Slip::LeavesABadBlock, refusal::INPUT) => room.copy_from_slice(&before),
+            (Slip::EndsInAShortRoom, refusal::ROOM) => {
+                return Streamed {
+                    stream: Stream::OVER,
+                    ..given
+                }
+            }
+            (Slip::ReadsPostingsBeforeTheRoom, refusal::ROOM)
+                if Slip::is_bad_in_any_room(stream, run) =>
+            {
+                return Streamed {
+                    refusal: refusal::INPUT,
+                    length: 0,
+                    stream: Stream::OVER,
+                }
+            }
+            (Slip::PointsBeforeTheClose, 0) => drop(Plain.end_term(whole(stream), room)),
+            _ => {}
+        }
+        given
+    }
+
+    fn end_term(&self, stream: Stream, room: &mut [u8]) -> Streamed {
+        let totals_pass = *self == Slip::TakesAnyTotals && stream.goes_on();
+        let given = match totals_pass {
+            true => Plain.end_term(whole(stream), room),
+            false => Plain.end_term(stream, room),
+        };
+        let keeps_session = *self == Slip::GoesOnAfterTheClose && given.refusal == 0;
+        Streamed {
+            stream: if keeps_session { stream } else { given.stream },
+            ..given
+        }
+    }
+}
+
+/// The number of differences that a slip makes on some cases.
+fn differences(slip: Slip, cases: &[Stored]) -> usize {
+    let other = Other {
+        side: Side {
+            calls: &Plain,
+            streams: &slip,
+        },
+        program: None,
+        scratch: PathBuf::new(),
+    };
+    let compared = cases.iter().filter_map(|case| other.compare(case));
+    compared.filter(|done| done.difference.is_some()).count()
+}
+
+fn stored_calls() -> Vec<Stored> {
+    let edges = stored::edges().expect("the edges can be read");
+    let of_session = |stored: &Stored| matches!(stored.case, Case::Stream(_));
+    let edges = edges.into_iter().map(|(_, stored)| stored);
+    edges.filter(of_session).collect()
+}
+
+fn seeded_calls() -> Vec<Stored> {
+    let cuts = (0..128).flat_map(|number| cuts::session(3, number));
+    let at_random = (0..240).flat_map(|number| streams::session(3, number));
+    cuts.chain(at_random).map(|call| call.stored).collect()
+}
+
+#[test]
+fn without_a_slip_nothing_differs() {
+    assert_eq!(differences(Slip::None, &stored_calls()), 0);
+    assert_eq!(differences(Slip::None, &seeded_calls()), 0);
+}
+
+#[test]
+fn every_slip_is_found_by_stored_and_by_seeded_calls() {
+    for calls in [stored_calls(), seeded_calls()] {
+        for slip in SLIPS {
+            assert!(differences(slip, &calls) > 0, "{slip:?}");
+        }
+    }
+}
