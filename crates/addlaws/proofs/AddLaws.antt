@@ -1,9 +1,8 @@
 -- Laws of the two runs of a block that elements are laid into in place: none, one more, and what is in hand at the end.
-use mathlib.Core.Path.{_≡_, refl, sym, ap, ap₂, _∙_, subst}
-use mathlib.Core.Logic.{_⊎_, inl, inr}
-use mathlib.Core.List.{List, [], _∷_, _++_}
+use mathlib.Core.Path.{_≡_, refl, sym, ap, _∙_, subst}
+use mathlib.Core.List.{List}
 use Prim.Native.Nat.{ℕ, zero, suc, _+_, _-_, _*_, _/_, _%_, _^_, _≤_, _<_}
-use native.Mathlib.Nat.{add-comm, add-mul, zero-add, zero-div, one-mul, mod-lt, mod-eq-of-lt, div-eq-of-lt, lt-of-lt-of-le}
+use native.Mathlib.Nat.{add-comm, add-mul, zero-add, zero-div, one-mul, mod-lt, div-eq-of-lt, lt-of-lt-of-le}
 use native.Mathlib.Decide.{decLt}
 use native.Mathlib.Omega.{arith}
 use lib.Arith.{digits-lt}

@@ -2,35 +2,26 @@
 -- climb, and that what they fill lies within its run.
 use mathlib.Core.Path.{_≡_, refl, sym, ap, _∙_}
 use mathlib.Core.List.{List, [], _∷_, _++_}
-use Prim.Native.Nat.{ℕ, zero, suc, _+_, _-_, _*_, _/_, _%_, _^_, _≤_, _<_}
-use native.Mathlib.Nat.{add-mul, mul-le-mul-right}
+use Prim.Native.Nat.{ℕ, zero, suc, _+_, _*_, _/_, _%_, _^_, _≤_, _<_}
+use native.Mathlib.Nat.{mul-le-mul-right}
 use native.Mathlib.Numerals.{add-one}
 use native.Mathlib.Omega.{arith}
 use lib.ListN.{length, getD, take}
 use lib.Pow.{shr-mono}
+use lib.Seq.{length-take-le}
 use Rattle.rules.specs.Runs.{wordsFor}
 use Rattle.rules.specs.List.{zeros, lower, upper}
 use Rattle.rules.specs.Term.{raised}
 use Rattle.shape.specs.declared.Shape.{Shape}
 use Rattle.listlaws.proofs.RisingLaws.{rising-at, rising-gap}
-use Rattle.listlaws.proofs.ValidLaws.{field-in}
+use Rattle.termlaws.proofs.PlaceLaws.{length-raised}
 use Rattle.filllaws.proofs.SideLaws.{sides, zeros-of, lower-snoc, upper-snoc}
+use Rattle.wordlaws.proofs.StretchLaws.{getD-raised}
 use Rattle.addlaws.specs.Adding.{reach, Asked}
 
 -- ---- the elements
 
 module _ (b : ℕ) where
-  pub length-given : (xs : List ℕ) → length (raised b xs) ≡ length xs
-  unfolding raised
-  length-given [] = refl
-  length-given (x ∷ xs) = ap suc (length-given xs)
-
-  pub given-at : (xs : List ℕ) (j : ℕ) → j < length xs → getD (raised b xs) j 0 ≡ b + getD xs j 0
-  unfolding raised
-  given-at [] j h = absurd (omega arith)
-  given-at (x ∷ xs) zero h = refl
-  given-at (x ∷ xs) (suc j) h = given-at xs j (omega arith)
-
   pub given-more : (xs : List ℕ) (j : ℕ) → j < length xs
       → raised b (take (suc j) xs) ≡ raised b (take j xs) ++ ((b + getD xs j 0) ∷ [])
   unfolding raised
@@ -39,10 +30,7 @@ module _ (b : ℕ) where
   given-more (x ∷ xs) (suc j) h = ap (λ (l : List ℕ). (b + x) ∷ l) (given-more xs j (omega arith))
 
   length-first : (xs : List ℕ) (j : ℕ) → j ≤ length xs → length (raised b (take j xs)) ≡ j
-  unfolding raised
-  length-first xs zero h = refl
-  length-first [] (suc j) h = absurd (omega arith)
-  length-first (x ∷ xs) (suc j) h = ap suc (length-first xs j (omega arith))
+  length-first xs j h = length-raised b (take j xs) ∙ length-take-le j xs h
 
   -- one element more in each run
   module _ (w i : ℕ) (xs : List ℕ) (j : ℕ) (h : j < length xs) where
@@ -78,17 +66,17 @@ module _ (g : Shape) (i b : ℕ) (xs : List ℕ) (at : ℕ) (run : List ℕ) (a 
   -- element j is below U
   pub given-below : (j : ℕ) → j < length xs → b + getD xs j 0 < g .u
   given-below j h =
-      rw (← given-at b xs j h)
-      (rising-at 0 (g .u) (raised b xs) (a .rises) j (omega (arith, length-given b xs)) .1)
+      rw (← getD-raised b xs j h)
+      (rising-at 0 (g .u) (raised b xs) (a .rises) j (omega (arith, length-raised b xs)) .1)
 
   -- the place of element j is behind those of the elements before it
   pub reach-le : (j : ℕ) → j < length xs → reach (g .w) i b xs j ≤ (b + getD xs j 0) / 2 ^ g .w + (i + j)
   unfolding reach
   reach-le zero h = omega arith
   reach-le (suc j) h =
-      let r = rw (add-one j) at (rising-gap 0 (g .u) (raised b xs) (a .rises) j 1 (omega (arith, length-given b xs))) in
+      let r = rw (add-one j) at (rising-gap 0 (g .u) (raised b xs) (a .rises) j 1 (omega (arith, length-raised b xs))) in
       let e : b + getD xs j 0 < b + getD xs (suc j) 0 =
-      omega (arith, r, given-at b xs j (omega arith), given-at b xs (suc j) h) in
+      omega (arith, r, getD-raised b xs j (omega arith), getD-raised b xs (suc j) h) in
       let m : (b + getD xs j 0) / 2 ^ g .w ≤ (b + getD xs (suc j) 0) / 2 ^ g .w = shr-mono (g .w) (omega (arith, e)) in
       omega (arith, m)
 

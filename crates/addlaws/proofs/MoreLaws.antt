@@ -10,7 +10,7 @@ use borrow.Author.Tests.{le-leb}
 use lib.Arith.{bin-ind, digits-lt}
 use lib.Bits.{bitOr, or-step, or-zero-r, or-shifted-r, or-mod, or-shr}
 use lib.Dec.{leb, ltb}
-use lib.ListN.{length, getD, take, drop, length-append, length-drop, take-append-drop}
+use lib.ListN.{length, getD, take, drop, length-drop, take-append-drop}
 use lib.Pow.{pow-add, pow-pos, split}
 use lib.Seq.{length-take-le, take-all, take-length, take-add, take-at, drop-at, drop-append-le}
 use lib.Seq.{take-append-add, drop-append-add}
@@ -27,6 +27,7 @@ use Rattle.listlaws.proofs.UpperLaws.{upper-below, upper-ones}
 use Rattle.termlaws.proofs.OrderLaws.{order-rising}
 use Rattle.termlaws.proofs.SumLaws.{sums-order, next-sums}
 use Rattle.termlaws.proofs.PlaceLaws.{placed-order}
+use Rattle.addlaws.proofs.SetLaws.{length-ones, ones-zero}
 
 -- ---- ones set in words
 
@@ -77,15 +78,6 @@ ones-twice (suc m) v u s =
     ∙ ap₂ (λ (x y : List ℕ). x ++ y) (or-twice a v u) (ones-twice m (v / 2 ^ 64) (u / 2 ^ 64) (drop 8 s)
     ∙ ap (λ (x : ℕ). withOnes m x (drop 8 s)) (sym (or-shr v u 64)))
 
--- no ones
-ones-none : (m : ℕ) (s : List ℕ) → Bytes s → 8 * m ≤ length s → withOnes m 0 s ≡ s
-unfolding withOnes
-ones-none zero s b h = refl
-ones-none (suc m) s b h =
-    ap₂ (λ (x y : List ℕ). x ++ y) (ap (be 8) (or-zero-r (beAt 8 s 0)) ∙ be-read 8 s b (omega arith))
-    (ones-none m (drop 8 s) (bytes-drop 8 s b) (rw length-drop (omega arith)))
-    ∙ take-append-drop 8 s
-
 -- those of the words at the front are set there
 ones-front : (m v : ℕ) (b s : List ℕ) → length b ≡ 8 * m → withOnes m v (b ++ s) ≡ withOnes m v b ++ s
 unfolding withOnes
@@ -96,16 +88,6 @@ ones-front (suc m) v b s e =
     (beAt-front 8 b s 0 (omega arith)) (drop-append-le 8 b s (omega arith))
     ∙ ap (λ (l : List ℕ). h ++ l) (ones-front m (v / 2 ^ 64) (drop 8 b) s (rw length-drop (omega arith)))
     ∙ sym (append-assoc h (withOnes m (v / 2 ^ 64) (drop 8 b)) s)
-
-length-ones : (m v : ℕ) (b : List ℕ) → length b ≡ 8 * m → length (withOnes m v b) ≡ 8 * m
-unfolding withOnes
-length-ones zero v b e = e
-length-ones (suc m) v b e =
-    rw (
-      length-append,
-      length-be 8 (bitOr (beAt 8 b 0) (v % 2 ^ 64)),
-      length-ones m (v / 2 ^ 64) (drop 8 b) (rw length-drop (omega arith)),
-    ) (omega arith)
 
 -- ---- bytes changed from a place on, where the bytes up to that place stand apart
 
@@ -288,7 +270,7 @@ module _ (U m : ℕ) where
       let b : List ℕ = withOnes lows (lower w i xs) (k .b) in
       let c : List ℕ = withOnes ups (upper w i xs) (k .c) in
       ap (added U n j ys) (ap (added U n i xs) (k .whole) ∙ added-apart i xs (k .a) (k .b) (k .c) (k .front) (k .run))
-      ∙ added-apart j ys (k .a) b c (k .front) (length-ones lows (lower w i xs) (k .b) (k .run))
+      ∙ added-apart j ys (k .a) b c (k .front) (length-ones lows (lower w i xs) (k .b) (omega (arith, k .run)) ∙ k .run)
       ∙ ap₂ (λ (x y : List ℕ). k .a ++ (x ++ y))
       (ones-twice lows (lower w i xs) (lower w j ys) (k .b)
       ∙ ap (λ (v : ℕ). withOnes lows v (k .b)) (lower-or w i xs ys))
@@ -307,7 +289,7 @@ added-twice U (suc m) i xs ys s r h = twice-some U m i xs ys s r h
 none-from : (p m : ℕ) (s : List ℕ) → Bytes s → p + 8 * m ≤ length s → from p (withOnes m 0) s ≡ s
 unfolding from
 none-from p m s b h =
-    ap (λ (l : List ℕ). take p s ++ l) (ones-none m (drop p s) (bytes-drop p s b) (rw length-drop (omega arith)))
+    ap (λ (l : List ℕ). take p s ++ l) (ones-zero m (drop p s) (bytes-drop p s b) (rw length-drop (omega arith)))
     ∙ take-append-drop p s
 
 -- no elements

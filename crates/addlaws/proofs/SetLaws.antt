@@ -1,19 +1,18 @@
 -- Laws of ones set in a run of words: more words, more bits above those that are set, and words that get none.
 use mathlib.Core.Path.{_≡_, refl, sym, ap, ap₂, _∙_, subst}
-use mathlib.Core.List.{List, [], _∷_, _++_, append-assoc}
+use mathlib.Core.List.{List, _++_, append-assoc}
 use Prim.Native.Nat.{ℕ, zero, suc, _+_, _-_, _*_, _/_, _%_, _^_, _≤_, _<_}
-use native.Mathlib.Nat.{add-comm, add-zero, zero-add, zero-div, mul-suc, div-one, mod-lt, mod-eq-of-lt, lt-of-lt-of-le}
-use native.Mathlib.Decide.{decLt}
+use native.Mathlib.Nat.{add-comm, zero-add, zero-div, div-one, mod-eq-of-lt}
 use native.Mathlib.Omega.{arith}
-use lib.Bits.{bitOr, or-lt, or-zero-r}
-use lib.ListN.{length, getD, take, drop, length-append, length-drop, take-append-drop}
-use lib.Pow.{shr-shr, shr-lt, pow-pos, pow-mono, pow-add}
+use lib.Bits.{bitOr, or-zero-r}
+use lib.ListN.{length, take, drop, length-append, length-drop, take-append-drop}
+use lib.Pow.{shr-shr}
 use lib.Seq.{take-append-add, drop-append-add, drop-drop, sets, sets-eq}
 use Rattle.rules.specs.Bytes.{Bytes, be, beAt}
 use Rattle.rules.specs.InPlace.{from, withOnes}
 use Rattle.laws.proofs.BitLaws.{drop-low, drop-high}
 use Rattle.laws.proofs.ByteLaws.{length-be, bytes-be, bytes-cat, bytes-drop, be-read, beAt-drop, drop-read}
-use Rattle.addlaws.specs.Adding.{used, Set}
+use Rattle.addlaws.specs.Adding.{Set}
 
 -- ---- words
 

@@ -28,7 +28,7 @@ number Parts = 7
 number Question = 8
 -- lent room too small
 number Room = 9
--- lists handed to the writer are not valid
+-- lists handed to a writer are not valid, or a session of a word in runs is over [02 c]
 number Lists = 10
 
 unfoldable pub accepted : Refusal → Bool

@@ -1,7 +1,7 @@
 -- Laws of a run of postings that may follow: what its lists ask of the block, what they leave in it, and the call's
 -- answer.
-use mathlib.Core.Bool.{true, false, _&&_}
-use mathlib.Core.Path.{_≡_, refl, sym, ap, _∙_}
+use mathlib.Core.Bool.{true, false}
+use mathlib.Core.Path.{_≡_, _∙_}
 use mathlib.Core.List.{List}
 use Prim.Native.Nat.{ℕ, _+_, _≤_, _<_}
 use native.Mathlib.Omega.{arith}

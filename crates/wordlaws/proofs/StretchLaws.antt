@@ -243,7 +243,7 @@ base-shift b m ps i (suc k) =
 
 -- ---- elements
 
-getD-raised : (b : ℕ) (ps : List ℕ) (i : ℕ) → i < length ps → getD (raised b ps) i 0 ≡ b + getD ps i 0
+pub getD-raised : (b : ℕ) (ps : List ℕ) (i : ℕ) → i < length ps → getD (raised b ps) i 0 ≡ b + getD ps i 0
 unfolding raised
 getD-raised b [] i h = absurd (omega arith)
 getD-raised b (p ∷ ps) zero h = refl

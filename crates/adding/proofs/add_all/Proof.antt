@@ -1,7 +1,7 @@
 -- `add_all` lays the two runs, each through its part: together they are the block with the elements laid.
-use mathlib.Core.Path.{_≡_, refl, sym, ap, _∙_}
+use mathlib.Core.Path.{_≡_, ap, _∙_}
 use mathlib.Core.List.{List}
-use Prim.Native.Nat.{ℕ, _+_, _-_, _*_, _≤_}
+use Prim.Native.Nat.{ℕ, _-_, _*_}
 use native.Mathlib.Omega.{arith}
 use borrow.Author.Needs.{needs}
 use borrow.Rule.Slice.PartMut.{putMid}
@@ -9,7 +9,7 @@ use lib.ListN.{length}
 use Rattle.rules.specs.Runs.{wordsFor}
 use Rattle.rules.specs.List.{lower, upper}
 use Rattle.rules.specs.Term.{raised}
-use Rattle.rules.specs.InPlace.{from, withOnes, added}
+use Rattle.rules.specs.InPlace.{from, withOnes}
 use Rattle.wordlaws.proofs.PieceLaws.{part-long}
 use Rattle.addlaws.proofs.FromLaws.{part-from}
 use Rattle.addlaws.proofs.AddedLaws.{runs-in, added-by, length-highs, length-added}

@@ -1,7 +1,7 @@
 -- `add_highs` sets ones one by one: those of the first i elements are set or in hand.
-use mathlib.Core.Path.{_≡_, refl, sym, ap, _∙_, subst}
+use mathlib.Core.Path.{_≡_, refl, ap, _∙_, subst}
 use mathlib.Core.List.{List}
-use Prim.Native.Nat.{ℕ, _+_, _-_, _*_, _/_, _^_, _≤_, _<_}
+use Prim.Native.Nat.{ℕ, _+_, _-_, _/_, _^_, _≤_, _<_}
 use native.Mathlib.Omega.{arith}
 use borrow.Author.Needs.{needs}
 use lib.ListN.{length, getD, take}
@@ -11,7 +11,7 @@ use Rattle.rules.specs.Bytes.{Bytes}
 use Rattle.rules.specs.Runs.{wordsFor}
 use Rattle.rules.specs.List.{upper}
 use Rattle.rules.specs.Term.{raised}
-use Rattle.addlaws.specs.Adding.{used, reach, HighsLaid}
+use Rattle.addlaws.specs.Adding.{reach, HighsLaid}
 use Rattle.addlaws.proofs.SetLaws.{length-ones, set-long}
 use Rattle.addlaws.proofs.AddLaws.{set-last, highs-none, highs-in}
 use Rattle.addlaws.proofs.ElementLaws.{upper-first, upper-more, given-below, given-small, reach-none, reach-le, reach-more}

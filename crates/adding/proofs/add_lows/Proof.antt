@@ -1,7 +1,7 @@
 -- `add_lows` lays low parts one by one: those of the first i elements are laid or in hand.
-use mathlib.Core.Path.{_≡_, refl, sym, ap, _∙_, subst}
+use mathlib.Core.Path.{_≡_, refl, ap, _∙_, subst}
 use mathlib.Core.List.{List}
-use Prim.Native.Nat.{ℕ, _+_, _-_, _*_, _/_, _%_, _^_, _≤_, _<_}
+use Prim.Native.Nat.{ℕ, _+_, _-_, _*_, _≤_, _<_}
 use native.Mathlib.Nat.{add-zero}
 use native.Mathlib.Omega.{arith}
 use borrow.Author.Needs.{needs}
@@ -11,8 +11,6 @@ use Rattle.rules.specs.Bytes.{Bytes}
 use Rattle.rules.specs.Runs.{wordsFor}
 use Rattle.rules.specs.List.{lower}
 use Rattle.rules.specs.Term.{raised}
-use Rattle.rules.specs.InPlace.{withOnes}
-use Rattle.filllaws.specs.declared.Lows.{Lows}
 use Rattle.addlaws.specs.Adding.{used, LowsLaid}
 use Rattle.addlaws.proofs.SetLaws.{length-ones, set-long}
 use Rattle.addlaws.proofs.AddLaws.{set-last, lows-none, lows-lt, lows-small, lows-more, lows-words, lows-in}

@@ -1,5 +1,4 @@
 -- `add_high` takes a one in hand: in the word that is in hand, or in one behind it once the ones of that are set.
-use native.Mathlib.Omega.{arith}
 use borrow.Author.Needs.{needs}
 use Rattle.addlaws.proofs.AddLaws.{highs-near, highs-far}
 use Rattle.setting.proofs.add_high.Statement.{statement}

@@ -1,12 +1,9 @@
 -- `add_low` lays the low bits of x: what `place` gives is the old bits and the new, and the ones of a full word are set.
-use mathlib.Core.Path.{_≡_, refl, sym, ap, ap₂, _∙_}
-use Prim.Native.Nat.{ℕ, _+_, _-_, _*_, _/_, _%_, _^_, _≤_, _<_}
-use native.Mathlib.Nat.{mod-lt, div-one, le-of-lt}
+use native.Mathlib.Nat.{mod-lt}
 use native.Mathlib.Omega.{arith}
 use borrow.Author.Needs.{needs}
 use lib.Pow.{pow-pos}
 use Rattle.laws.proofs.BitLaws.{one-shl, masked}
-use Rattle.rules.specs.InPlace.{from, withOnes}
 use Rattle.addlaws.proofs.LowLaws.{low-near, low-far}
 use Rattle.setting.proofs.add_low.Statement.{statement}
 use Rattle.setting.proofs.add_low.Tie as tie

@@ -1,11 +1,11 @@
 -- `set_ones` stores the word with the ones set, or leaves it where they all stand.
-use mathlib.Core.Path.{_≡_, sym, ap, _∙_}
+use mathlib.Core.Path.{ap, _∙_}
 use Prim.Native.Nat.{_*_}
 use native.Mathlib.Omega.{arith}
 use borrow.Author.Needs.{needs}
 use lib.Bits.{bitOr}
 use lib.Seq.{sets}
-use Rattle.rules.specs.Bytes.{be, beAt}
+use Rattle.rules.specs.Bytes.{be}
 use Rattle.addlaws.proofs.SetLaws.{one-set, one-same}
 use Rattle.setting.proofs.set_ones.Statement.{statement}
 use Rattle.setting.proofs.set_ones.Tie as tie
