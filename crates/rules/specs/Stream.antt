@@ -1,15 +1,21 @@
 -- A word written as the manual streams by: announced, handed over in runs, and closed [02 c].
 --
 --   announceRefusal N P Q U   the refusal of an announcement of P pages and Q positions whose elements end at U
---   streamSize N P Q U        the length of the block that it announces
+--   countsAt, positionsAt     the bytes at which the counts and the positions start
+--   streamSize N P Q U        the length of the block that is announced; `sizeOf` that of a session
 --   announced N P Q U         that block with its headers, and zeros for the rest
---   opened N P Q U            the session that it opens; `over` is one that has ended
---   live s                    whether session s goes on: no announcement that is refused, nothing past what it announces
+--   opened N P Q U            the session that an announcement opens; `over` is one that has ended
+--   live s                    whether session s goes on: its announcement is accepted, and no more is laid than that
 --   addedWord s t room        the room with the postings t laid behind those of session s
---   follows s t               whether the postings t may follow: a word by themselves, above what is laid, not past what
---                             was announced
+--   follows s t               whether they may follow: a word by themselves, above what is laid, not past what was
+--                             announced
 --   advanced s t              the session behind them
+--   complete s                whether all that was announced is laid
+--   pointedWord s room        the room with the pointers of the three lists
+--   Streaming                 a call's result; `spoilt` is that of bad postings or totals
+--   going s room r            r, where the session goes on and the room is long enough
 --   beginTerm, putPostings, endTerm  the calls
+--   together ts               the word that runs are together
 --   streamWord N P Q U ts room  a whole session with the runs ts: each call gets the room as the last one left it
 use mathlib.Core.Bool.{Bool, cond, not, _&&_, _||_}
 use mathlib.Core.List.{List, [], _∷_, _++_}
@@ -34,7 +40,6 @@ announceRefusal N P Q U =
     (cond (ltb N P || (ltb Q P || (ltb U Q || ((eqb P 0 && ltb 0 Q) || (eqb Q 0 && ltb 0 U))))) Lists
     Accepted)
 
--- the bytes at which the counts and the positions start, and at which the block ends
 unfoldable pub countsAt : ℕ → ℕ → ℕ
 countsAt N P = 5 + size N P
 
@@ -97,7 +102,6 @@ advanced s t = record {
   base = next (s .base) (placed (s .base) (t .counts) (t .positions));
 }
 
--- whether all that was announced is laid
 unfoldable pub complete : Stream → Bool
 complete s = eqb (s .laid) (s .pages) && (eqb (s .filled) (s .positions) && eqb (s .base) (s .u))
 
@@ -148,7 +152,7 @@ endTerm s room =
     (cond (not (complete s)) (spoilt s room)
     (record { refusal = Accepted; size = sizeOf s; stream = over; room = pointedWord s room }))
 
--- runs one after the other, and the word that they are together
+-- runs one after the other
 unfoldable pub putAll : List Word → Streaming → Streaming
 putAll [] r = r
 putAll (t ∷ ts) r = putAll ts (putPostings (r .stream) t (r .room))
