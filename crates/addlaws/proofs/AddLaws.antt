@@ -15,7 +15,7 @@ use Rattle.laws.proofs.BitLaws.{one-shl, placed-one}
 use Rattle.filllaws.specs.declared.Lows.{Lows}
 use Rattle.addlaws.specs.declared.Highs.{Highs}
 use Rattle.addlaws.specs.Adding.{used, Set, LowOne, LowsLaid, HighsLaid}
-use Rattle.addlaws.proofs.SetLaws.{set-none, set-more, set-add, set-skip}
+use Rattle.addlaws.proofs.SetLaws.{set-none, set-more, set-add, set-skip, set-zero}
 
 -- ---- what is in hand
 
@@ -28,7 +28,7 @@ unfolding used
 used-some zero h = absurd (omega arith)
 used-some (suc b) h = refl
 
-pub used-le : (b : ℕ) → used b ≤ 1
+used-le : (b : ℕ) → used b ≤ 1
 unfolding used
 used-le zero = omega arith
 used-le (suc b) = omega arith
@@ -46,9 +46,10 @@ used-rest r h =
     ]
 
 module _ (v k r : ℕ) (d e : List ℕ) (a : Set v k r d e) (small : r < 2 ^ 64) where
-  pub set-flushed : (f : List ℕ) → 8 * (k + used r) ≤ length d → f ≡ from (8 * k) (withOnes (used r) r) e
+  set-flushed : (f : List ℕ) → 8 * (k + used r) ≤ length d → f ≡ from (8 * k) (withOnes (used r) r) e
       → Set v (k + used r) 0 d f
-  set-flushed f h q = subst (λ (x : ℕ). Set v (k + used r) x d f) (used-rest r small) (set-more v k r d e a (used r) f h q)
+  set-flushed f h q =
+      subst (λ (x : ℕ). Set v (k + used r) x d f) (used-rest r small) (set-more v k r d e a (used r) f h q)
 
   pub set-last : (m : ℕ) (f : List ℕ) → Bytes d → k + used r ≤ m → 8 * m ≤ length d
       → f ≡ from (8 * k) (withOnes (used r) r) e → f ≡ withOnes m v d
@@ -63,9 +64,7 @@ module _ (v k r : ℕ) (d e : List ℕ) (a : Set v k r d e) (small : r < 2 ^ 64)
 pub lows-none : (w i : ℕ) (d : List ℕ) → Bytes d → 8 * (i * w / 64) ≤ length d
     → LowsLaid w i 0 (record { acc = 0; have = i * w % 64; words = i * w / 64 }) d d
 lows-none w i d b h = record {
-  set =
-      let e : 0 + i * w / 64 ≡ i * w / 64 = zero-add (i * w / 64) in
-      subst (λ (k : ℕ). Set 0 k 0 d d) e (set-skip 0 0 0 d d (set-none d) (i * w / 64) b refl (omega arith));
+  set = set-zero (i * w / 64) d b h;
   place = omega arith;
   short = omega arith;
   fits = pow-pos (i * w);
@@ -216,7 +215,8 @@ highs-in q v a d e l m h =
           elim (decLt (64 * a .word) q) [
             | yes p ↦ omega (arith, used-some (a .acc) y)
             | no p ↦
-                let t : v < 2 ^ (64 * a .word) = lt-of-lt-of-le (l .top) (pow-mono {i = q} {j = 64 * a .word} (omega arith)) in
+                let m : 2 ^ q ≤ 2 ^ (64 * a .word) = pow-mono {i = q} {j = 64 * a .word} (omega arith) in
+                let t : v < 2 ^ (64 * a .word) = lt-of-lt-of-le (l .top) m in
                 absurd (omega (arith, l .set .rest ∙ div-eq-of-lt t))
           ]
     ]

@@ -1,10 +1,10 @@
 -- Laws of a block whose two runs have got their ones: it is the block with the elements laid.
 use mathlib.Core.Path.{_≡_, refl, sym, ap, _∙_}
 use mathlib.Core.List.{List}
-use Prim.Native.Nat.{ℕ, zero, suc, _+_, _-_, _*_, _≤_, _<_}
+use Prim.Native.Nat.{ℕ, zero, suc, _+_, _*_, _≤_, _<_}
 use native.Mathlib.Decide.{decLt}
 use native.Mathlib.Omega.{arith}
-use lib.ListN.{length, drop, length-drop}
+use lib.ListN.{length, drop}
 use Rattle.rules.specs.Runs.{wordsFor}
 use Rattle.rules.specs.List.{width, zeros, lower, upper, lowerAt, upperAt}
 use Rattle.rules.specs.InPlace.{from, withOnes, added}
@@ -12,8 +12,7 @@ use Rattle.shape.specs.declared.Shape.{Shape}
 use Rattle.filllaws.specs.Filling.{Fitting}
 use Rattle.filllaws.proofs.SideLaws.{sides, width-of, zeros-of, lower-is, upper-is}
 use Rattle.shape.proofs.ShapeLaws.{shape-none}
-use Rattle.addlaws.proofs.FromLaws.{length-from}
-use Rattle.addlaws.proofs.SetLaws.{ones-none, length-ones, from-same}
+use Rattle.addlaws.proofs.SetLaws.{ones-none, from-same}
 
 -- where the runs lie
 pub runs-in : (g : Shape) (s : List ℕ) → Fitting g s → (g .lower ≤ g .upper) × (g .upper ≤ length s)
@@ -62,22 +61,3 @@ module _ (g : Shape) (i : ℕ) (xs s : List ℕ) (f : Fitting g s) where
             sym (added-some (g .u) (g .n) i xs s y (g .w) (width-of g s f y)
             ∙ rw (← lower-is g s f y, ← upper-is g s f y, ← b) refl)
       ]
-
-  pub length-highs : length (from (g .upper) highs s) ≡ length s
-  length-highs =
-      let t = sides g s f in
-      let l : length (drop (g .upper) s) ≡ length s - g .upper = length-drop (g .upper) s in
-      let e : 8 * wordsFor (g .bits) ≤ length (drop (g .upper) s) =
-      omega (arith, l, rw (← t .bits) at (t .end), f .room) in
-      length-from (g .upper) highs s (length-ones (wordsFor (g .bits)) (upper (g .w) i xs) (drop (g .upper) s) e)
-
-  pub length-added : length (added (g .u) (g .n) i xs s) ≡ length s
-  length-added =
-      let t = sides g s f in
-      let r : List ℕ = from (g .upper) highs s in
-      let l : length (drop (g .lower) r) ≡ length r - g .lower = length-drop (g .lower) r in
-      let e : 8 * wordsFor (g .n * g .w) ≤ length (drop (g .lower) r) =
-      omega (arith, l, length-highs, t .upper, t .end, f .room) in
-      ap length (sym added-by)
-      ∙ length-from (g .lower) lows r (length-ones (wordsFor (g .n * g .w)) (lower (g .w) i xs) (drop (g .lower) r) e)
-      ∙ length-highs

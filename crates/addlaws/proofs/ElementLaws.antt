@@ -1,12 +1,12 @@
--- Laws of the elements that a list gives above a base, laid one after the other: their numbers in the two runs, that they
--- climb, and that what they fill lies within its run.
+-- Laws of the elements that a list gives above a base, laid one after the other: their numbers in the two runs,
+-- that they climb, and that what they fill lies within its run.
 use mathlib.Core.Path.{_≡_, refl, sym, ap, _∙_}
 use mathlib.Core.List.{List, [], _∷_, _++_}
 use Prim.Native.Nat.{ℕ, zero, suc, _+_, _*_, _/_, _%_, _^_, _≤_, _<_}
 use native.Mathlib.Nat.{mul-le-mul-right}
 use native.Mathlib.Numerals.{add-one}
 use native.Mathlib.Omega.{arith}
-use lib.ListN.{length, getD, take}
+use lib.ListN.{length, getD, take, drop, length-drop}
 use lib.Pow.{shr-mono}
 use lib.Seq.{length-take-le}
 use Rattle.rules.specs.Runs.{wordsFor}
@@ -22,7 +22,7 @@ use Rattle.addlaws.specs.Adding.{reach, Asked}
 -- ---- the elements
 
 module _ (b : ℕ) where
-  pub given-more : (xs : List ℕ) (j : ℕ) → j < length xs
+  given-more : (xs : List ℕ) (j : ℕ) → j < length xs
       → raised b (take (suc j) xs) ≡ raised b (take j xs) ++ ((b + getD xs j 0) ∷ [])
   unfolding raised
   given-more [] j h = absurd (omega arith)
@@ -62,7 +62,7 @@ reach-none w i b xs = refl
 
 -- ---- within their runs
 
-module _ (g : Shape) (i b : ℕ) (xs : List ℕ) (at : ℕ) (run : List ℕ) (a : Asked g i b xs at run) where
+module _ {g : Shape} {i b : ℕ} {xs d : List ℕ} (a : Asked g i b xs d) where
   -- element j is below U
   pub given-below : (j : ℕ) → j < length xs → b + getD xs j 0 < g .u
   given-below j h =
@@ -74,7 +74,8 @@ module _ (g : Shape) (i b : ℕ) (xs : List ℕ) (at : ℕ) (run : List ℕ) (a 
   unfolding reach
   reach-le zero h = omega arith
   reach-le (suc j) h =
-      let r = rw (add-one j) at (rising-gap 0 (g .u) (raised b xs) (a .rises) j 1 (omega (arith, length-raised b xs))) in
+      let n : j + 1 < length (raised b xs) = omega (arith, length-raised b xs) in
+      let r = rw (add-one j) at (rising-gap 0 (g .u) (raised b xs) (a .rises) j 1 n) in
       let e : b + getD xs j 0 < b + getD xs (suc j) 0 =
       omega (arith, r, getD-raised b xs j (omega arith), getD-raised b xs (suc j) h) in
       let m : (b + getD xs j 0) / 2 ^ g .w ≤ (b + getD xs (suc j) 0) / 2 ^ g .w = shr-mono (g .w) (omega (arith, e)) in
@@ -89,45 +90,38 @@ module _ (g : Shape) (i b : ℕ) (xs : List ℕ) (at : ℕ) (run : List ℕ) (a 
   -- sums and products that are made of an element fit a machine word
   pub given-small : (g .w ≤ 24) × (g .u ≤ 2 ^ 24) × (i + length xs ≤ 2 ^ 24) × (i * g .w ≤ 2 ^ 24)
   given-small =
-      let t = sides g (a .block) (a .fitting) in
+      let t = sides g d (a .fitting) in
       let m : i * g .w ≤ g .n * g .w = mul-le-mul-right (g .w) (omega (arith, a .few)) in
       (t .narrow, omega (arith, a .fitting .within), omega (arith, t .many, a .few), omega (arith, t .short, m))
 
-  -- the lower run's words up to element j's, and the upper run's up to its place
-  pub lower-long : at ≡ g .lower → 8 * wordsFor (g .n * g .w) ≤ length run
-  lower-long e = let t = sides g (a .block) (a .fitting) in omega (arith, t .upper, t .end, a .fitting .room, a .long)
-
-  pub lower-room : at ≡ g .lower → (j : ℕ) → i + j ≤ g .n → 8 * ((i + j) * g .w / 64) ≤ length run
+  -- the low parts up to element j's are in the lower run's words
+  pub lower-in : (j : ℕ) → i + j ≤ g .n → (i + j) * g .w ≤ 64 * wordsFor (g .n * g .w)
   unfolding wordsFor
-  lower-room e j h =
+  lower-in j h =
       let m : (i + j) * g .w ≤ g .n * g .w = mul-le-mul-right (g .w) h in
-      omega (arith, m, lower-long e)
+      omega (arith, m)
 
-  pub upper-room : at ≡ g .upper → (j : ℕ) → j < length xs
-      → 8 * (((b + getD xs j 0) / 2 ^ g .w + (i + j)) / 64) + 8 ≤ length run
-  unfolding wordsFor zeros
-  upper-room e j h =
-      let t = sides g (a .block) (a .fitting) in
-      let z = zeros-of g (a .block) (a .fitting) (omega (arith, a .few)) in
+  -- its place is one of the upper run's bits
+  place-lt : (j : ℕ) → j < length xs → (b + getD xs j 0) / 2 ^ g .w + (i + j) < g .bits
+  unfolding zeros
+  place-lt j h =
+      let t = sides g d (a .fitting) in
+      let z = zeros-of g d (a .fitting) (omega (arith, a .few)) in
       let m : (b + getD xs j 0) / 2 ^ g .w ≤ g .u / 2 ^ g .w = shr-mono (g .w) (omega (arith, given-below j h)) in
-      omega (arith, t .end, t .bits, z, m, a .few, a .fitting .room, a .long)
-
-  pub upper-long : at ≡ g .upper → 8 * wordsFor (g .bits) ≤ length run
-  upper-long e = let t = sides g (a .block) (a .fitting) in
-      omega (arith, rw (← t .bits) at (t .end), a .fitting .room, a .long)
-
-  -- all elements have their ones in the run
-  pub reach-in : (j : ℕ) → j ≤ length xs → reach (g .w) i b xs j ≤ 64 * wordsFor (g .bits)
-  unfolding reach wordsFor zeros
-  reach-in zero h = omega arith
-  reach-in (suc j) h =
-      let t = sides g (a .block) (a .fitting) in
-      let z = zeros-of g (a .block) (a .fitting) (omega (arith, a .few)) in
-      let m : (b + getD xs j 0) / 2 ^ g .w ≤ g .u / 2 ^ g .w = shr-mono (g .w) (omega (arith, given-below j (omega arith))) in
       omega (arith, t .bits, z, m, a .few)
 
-  pub lower-all : (i + length xs) * g .w ≤ 64 * wordsFor (g .n * g .w)
+  pub reach-in : (j : ℕ) → j ≤ length xs → reach (g .w) i b xs j ≤ 64 * wordsFor (g .bits)
+  unfolding reach wordsFor
+  reach-in zero h = omega arith
+  reach-in (suc j) h = omega (arith, place-lt j (omega arith))
+
+  -- the upper run's words, and so that of the place, are in the block
+  pub upper-long : 8 * wordsFor (g .bits) ≤ length (drop (g .upper) d)
+  upper-long =
+      let t = sides g d (a .fitting) in
+      rw length-drop (omega (arith, rw (← t .bits) at (t .end), a .fitting .room))
+
+  pub upper-room : (j : ℕ) → j < length xs
+      → 8 * (((b + getD xs j 0) / 2 ^ g .w + (i + j)) / 64) + 8 ≤ length (drop (g .upper) d)
   unfolding wordsFor
-  lower-all =
-      let m : (i + length xs) * g .w ≤ g .n * g .w = mul-le-mul-right (g .w) (a .few) in
-      omega (arith, m)
+  upper-room j h = omega (arith, place-lt j h, upper-long)

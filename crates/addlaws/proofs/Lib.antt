@@ -5,3 +5,5 @@ pub mod ElementLaws
 pub mod FromLaws
 pub mod AddedLaws
 pub mod MoreLaws
+pub mod BothLaws
+pub mod OneLaws

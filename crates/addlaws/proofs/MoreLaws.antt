@@ -12,14 +12,14 @@ use lib.Bits.{bitOr, or-step, or-zero-r, or-shifted-r, or-mod, or-shr}
 use lib.Dec.{leb, ltb}
 use lib.ListN.{length, getD, take, drop, length-drop, take-append-drop}
 use lib.Pow.{pow-add, pow-pos, split}
-use lib.Seq.{length-take-le, take-all, take-length, take-add, take-at, drop-at, drop-append-le}
+use lib.Seq.{length-take-le, take-all, take-length, take-add, take-at, drop-at}
 use lib.Seq.{take-append-add, drop-append-add}
 use Rattle.rules.specs.Bytes.{Bytes, be, beAt}
 use Rattle.rules.specs.Runs.{wordsFor}
 use Rattle.rules.specs.List.{rising, width, zeros, lower, upper, lowerAt, upperAt, size}
 use Rattle.rules.specs.Term.{total, sums, next, raised, placed, positive, inOrderByPage}
 use Rattle.rules.specs.InPlace.{from, withOnes, added}
-use Rattle.laws.proofs.ByteLaws.{length-be, read-be, be-read, bytes-be, bytes-drop, beAt-front}
+use Rattle.laws.proofs.ByteLaws.{length-be, read-be, be-read, bytes-be, bytes-drop}
 use Rattle.laws.proofs.BitLaws.{bits-none}
 use Rattle.listlaws.specs.Sound.{climbs, least}
 use Rattle.listlaws.proofs.RisingLaws.{and-parts, rising-parts, rising-append, rising-climbs}
@@ -27,7 +27,7 @@ use Rattle.listlaws.proofs.UpperLaws.{upper-below, upper-ones}
 use Rattle.termlaws.proofs.OrderLaws.{order-rising}
 use Rattle.termlaws.proofs.SumLaws.{sums-order, next-sums}
 use Rattle.termlaws.proofs.PlaceLaws.{placed-order}
-use Rattle.addlaws.proofs.SetLaws.{length-ones, ones-zero}
+use Rattle.addlaws.proofs.SetLaws.{length-ones, ones-zero, ones-front}
 
 -- ---- ones set in words
 
@@ -66,7 +66,7 @@ or-twice a v u =
     ap (λ (x : ℕ). be 8 (bitOr (b % 2 ^ 64) x)) e ∙ or-word b (u % 2 ^ 64)
     ∙ ap (be 8) (or-assoc a (v % 2 ^ 64) (u % 2 ^ 64) ∙ ap (bitOr a) (sym (or-mod v u 64)))
 
-pub ones-twice : (m v u : ℕ) (s : List ℕ) → withOnes m u (withOnes m v s) ≡ withOnes m (bitOr v u) s
+ones-twice : (m v u : ℕ) (s : List ℕ) → withOnes m u (withOnes m v s) ≡ withOnes m (bitOr v u) s
 unfolding withOnes
 ones-twice zero v u s = refl
 ones-twice (suc m) v u s =
@@ -77,17 +77,6 @@ ones-twice (suc m) v u s =
     (read-be 8 (bitOr a (v % 2 ^ 64)) t) (drop-at h t 8 (length-be 8 (bitOr a (v % 2 ^ 64))))
     ∙ ap₂ (λ (x y : List ℕ). x ++ y) (or-twice a v u) (ones-twice m (v / 2 ^ 64) (u / 2 ^ 64) (drop 8 s)
     ∙ ap (λ (x : ℕ). withOnes m x (drop 8 s)) (sym (or-shr v u 64)))
-
--- those of the words at the front are set there
-ones-front : (m v : ℕ) (b s : List ℕ) → length b ≡ 8 * m → withOnes m v (b ++ s) ≡ withOnes m v b ++ s
-unfolding withOnes
-ones-front zero v b s e = refl
-ones-front (suc m) v b s e =
-    let h : List ℕ = be 8 (bitOr (beAt 8 b 0) (v % 2 ^ 64)) in
-    ap₂ (λ (x : ℕ) (l : List ℕ). be 8 (bitOr x (v % 2 ^ 64)) ++ withOnes m (v / 2 ^ 64) l)
-    (beAt-front 8 b s 0 (omega arith)) (drop-append-le 8 b s (omega arith))
-    ∙ ap (λ (l : List ℕ). h ++ l) (ones-front m (v / 2 ^ 64) (drop 8 b) s (rw length-drop (omega arith)))
-    ∙ sym (append-assoc h (withOnes m (v / 2 ^ 64) (drop 8 b)) s)
 
 -- ---- bytes changed from a place on, where the bytes up to that place stand apart
 
@@ -102,6 +91,15 @@ module _ (f : List ℕ → List ℕ) where
       ap (λ (k : ℕ). take k (a ++ s) ++ f (drop k (a ++ s))) (sym e)
       ∙ ap₂ (λ (x y : List ℕ). x ++ f y) (take-append-add a s q) (drop-append-add a s q)
       ∙ append-assoc a (take q s) (f (drop q s))
+
+-- and ones are set in the words before it
+pub from-apart : (f : List ℕ → List ℕ) (l r m v : ℕ) (a b c : List ℕ) → length a ≡ l → length b ≡ 8 * m → l + 8 * m ≡ r
+    → from l (withOnes m v) (from r f (a ++ (b ++ c))) ≡ a ++ (withOnes m v b ++ f c)
+from-apart f l r m v a b c e n q =
+    ap (from l (withOnes m v)) (from-past f r (8 * m) a (b ++ c) (omega arith)
+    ∙ ap (λ (t : List ℕ). a ++ t) (from-here f (8 * m) b c n))
+    ∙ from-here (withOnes m v) l a (b ++ f c) e
+    ∙ ap (λ (t : List ℕ). a ++ t) (ones-front m v b (f c) (omega (arith, n)))
 
 -- ---- the lower run's number
 
@@ -255,12 +253,7 @@ module _ (U m : ℕ) where
       → added U n i xs (a ++ (b ++ c)) ≡ a ++ (withOnes lows (lower w i xs) b ++ withOnes ups (upper w i xs) c)
   unfolding added upperAt
   added-apart i xs a b c e f =
-      let lo = withOnes lows (lower w i xs) in
-      let hi = withOnes ups (upper w i xs) in
-      ap (from (lowerAt U w) lo) (from-past hi (lowerAt U w + 8 * lows) (8 * lows) a (b ++ c) (omega arith)
-      ∙ ap (λ (l : List ℕ). a ++ l) (from-here hi (8 * lows) b c f))
-      ∙ from-here lo (lowerAt U w) a (b ++ hi c) e
-      ∙ ap (λ (l : List ℕ). a ++ l) (ones-front lows (lower w i xs) b (hi c) f)
+      from-apart (withOnes ups (upper w i xs)) (lowerAt U w) (lowerAt U w + 8 * lows) lows (lower w i xs) a b c e f refl
 
   twice-some : (i : ℕ) (xs ys s : List ℕ) → rising 0 U (xs ++ ys) ≡ true → size U n ≤ length s
       → added U n (i + length xs) ys (added U n i xs s) ≡ added U n i (xs ++ ys) s
@@ -280,7 +273,7 @@ module _ (U m : ℕ) where
       ∙ added-apart i (xs ++ ys) (k .a) (k .b) (k .c) (k .front) (k .run))
 
 -- elements xs and then ys behind them
-pub added-twice : (U n i : ℕ) (xs ys s : List ℕ) → rising 0 U (xs ++ ys) ≡ true → size U n ≤ length s
+added-twice : (U n i : ℕ) (xs ys s : List ℕ) → rising 0 U (xs ++ ys) ≡ true → size U n ≤ length s
     → added U n (i + length xs) ys (added U n i xs s) ≡ added U n i (xs ++ ys) s
 unfolding added
 added-twice U zero i xs ys s r h = refl
@@ -314,10 +307,10 @@ module _ (U : ℕ) (es : List ℕ) (r : rising 0 U es ≡ true) where
   rising-cut d = and-parts (rising 0 U (take d es)) (rising (least 0 (take d es)) U (drop d es))
       (sym (rising-append 0 U (take d es) (drop d es)) ∙ rw (take-append-drop d es) r)
 
-  pub rising-front : (d : ℕ) → rising 0 U (take d es) ≡ true
+  rising-front : (d : ℕ) → rising 0 U (take d es) ≡ true
   rising-front d = rising-cut d .0
 
-  pub rising-back : (d : ℕ) → rising 0 U (drop d es) ≡ true
+  rising-back : (d : ℕ) → rising 0 U (drop d es) ≡ true
   rising-back d = rising-lower (least 0 (take d es)) U (drop d es) (rising-cut d .1)
 
 -- above the base 0
@@ -353,16 +346,21 @@ placed-rise b U cs ps o h =
     rising-lower b U (placed b cs ps) (order-rising b U (placed b cs ps) (placed-order b cs ps o) h)
 
 -- of one page
+pub list-one : (ps : List ℕ) → length ps ≡ 1 → ps ≡ getD ps 0 0 ∷ []
+list-one [] e = absurd (omega arith)
+list-one (p ∷ []) e = refl
+list-one (p ∷ (q ∷ ps)) e = absurd (omega arith)
+
 pub total-one : (cs : List ℕ) → length cs ≡ 1 → total cs ≡ getD cs 0 0
 unfolding total
 total-one [] e = absurd (omega arith)
 total-one (c ∷ []) e = add-zero c
 total-one (c ∷ (d ∷ cs)) e = absurd (omega arith)
 
-pub sums-one : (s : ℕ) (cs : List ℕ) → length cs ≡ 1 → sums s cs ≡ raised (s + getD cs 0 0 - 1) (0 ∷ [])
-unfolding sums raised
+pub sums-one : (s : ℕ) (cs : List ℕ) → length cs ≡ 1 → sums s cs ≡ (s + getD cs 0 0 - 1) ∷ []
+unfolding sums
 sums-one s [] e = absurd (omega arith)
-sums-one s (c ∷ []) e = ap (λ (x : ℕ). x ∷ []) (sym (add-zero (s + c - 1)))
+sums-one s (c ∷ []) e = refl
 sums-one s (c ∷ (d ∷ cs)) e = absurd (omega arith)
 
 pub placed-one : (b : ℕ) (cs ps : List ℕ) → length cs ≡ 1 → total cs ≡ length ps → placed b cs ps ≡ raised b ps

@@ -7,11 +7,11 @@ use native.Mathlib.Omega.{arith}
 use lib.Bits.{bitOr, or-zero-r}
 use lib.ListN.{length, take, drop, length-append, length-drop, take-append-drop}
 use lib.Pow.{shr-shr}
-use lib.Seq.{take-append-add, drop-append-add, drop-drop, sets, sets-eq}
+use lib.Seq.{take-append-le, take-append-add, drop-append-le, drop-append-add, drop-drop, sets, sets-eq}
 use Rattle.rules.specs.Bytes.{Bytes, be, beAt}
 use Rattle.rules.specs.InPlace.{from, withOnes}
 use Rattle.laws.proofs.BitLaws.{drop-low, drop-high}
-use Rattle.laws.proofs.ByteLaws.{length-be, bytes-be, bytes-cat, bytes-drop, be-read, beAt-drop, drop-read}
+use Rattle.laws.proofs.ByteLaws.{length-be, bytes-be, bytes-cat, bytes-drop, be-read, beAt-drop, beAt-front, drop-read}
 use Rattle.addlaws.specs.Adding.{Set}
 
 -- ---- words
@@ -40,7 +40,7 @@ length-ones (suc m) v s h =
     ∙ length-append (first v s) (withOnes m (v / 2 ^ 64) (drop 8 s))
     ∙ omega (arith, first-long v s, i, l, h)
 
-pub bytes-ones : (m v : ℕ) (s : List ℕ) → Bytes s → Bytes (withOnes m v s)
+bytes-ones : (m v : ℕ) (s : List ℕ) → Bytes s → Bytes (withOnes m v s)
 bytes-ones zero v s b = subst Bytes (sym (ones-none v s)) b
 bytes-ones (suc m) v s b =
     subst Bytes (sym (ones-suc m v s))
@@ -55,11 +55,12 @@ ones-zero (suc m) s b h =
     let o : bitOr (beAt 8 s 0) (0 % 2 ^ 64) ≡ beAt 8 s 0 = or-zero-r (beAt 8 s 0) in
     ones-suc m 0 s
     ∙ ap₂ (λ (x y : List ℕ). x ++ y) (ap (be 8) o ∙ be-read 8 s b (omega arith))
-    (ap (λ (x : ℕ). withOnes m x (drop 8 s)) (zero-div (2 ^ 64)) ∙ ones-zero m (drop 8 s) (bytes-drop 8 s b) (omega arith))
+    (ap (λ (x : ℕ). withOnes m x (drop 8 s)) (zero-div (2 ^ 64))
+    ∙ ones-zero m (drop 8 s) (bytes-drop 8 s b) (omega arith))
     ∙ take-append-drop 8 s
 
 -- more words behind the first k
-pub ones-more : (k m v : ℕ) (s : List ℕ) → 8 * k ≤ length s
+ones-more : (k m v : ℕ) (s : List ℕ) → 8 * k ≤ length s
     → withOnes (k + m) v s ≡ from (8 * k) (withOnes m (v / 2 ^ (64 * k))) (withOnes k v s)
 unfolding from
 ones-more zero m v s h =
@@ -84,7 +85,7 @@ ones-more (suc k) m v s h =
     (ap₂ (λ (n : ℕ) (x : List ℕ). drop n x) e (ones-suc k v s) ∙ drop-append-add (first v s) t (8 * k)))
 
 -- bits above those words
-pub ones-above : (k v q b : ℕ) (s : List ℕ) → withOnes k (v + q * 2 ^ (64 * k + b)) s ≡ withOnes k v s
+ones-above : (k v q b : ℕ) (s : List ℕ) → withOnes k (v + q * 2 ^ (64 * k + b)) s ≡ withOnes k v s
 ones-above zero v q b s = ones-none (v + q * 2 ^ (64 * 0 + b)) s ∙ sym (ones-none v s)
 ones-above (suc k) v q b s =
     let g : 64 * suc k + b ≡ 64 * k + b + 64 = omega arith in
@@ -92,11 +93,32 @@ ones-above (suc k) v q b s =
     let m : t % 2 ^ 64 ≡ v % 2 ^ 64 =
     rw (g, add-comm v (q * 2 ^ (64 * k + b + 64))) (drop-high q v (64 * k + b) 64) in
     let d : t / 2 ^ 64 ≡ v / 2 ^ 64 + q * 2 ^ (64 * k + b) =
-    rw (g, add-comm v (q * 2 ^ (64 * k + b + 64))) (drop-low q v (64 * k + b) 64 ∙ add-comm (q * 2 ^ (64 * k + b)) (v / 2 ^ 64)) in
+    rw (g, add-comm v (q * 2 ^ (64 * k + b + 64)))
+    (drop-low q v (64 * k + b) 64 ∙ add-comm (q * 2 ^ (64 * k + b)) (v / 2 ^ 64)) in
     ones-suc k t s
     ∙ ap₂ (λ (x y : ℕ). be 8 (bitOr (beAt 8 s 0) x) ++ withOnes k y (drop 8 s)) m d
     ∙ ap (λ (x : List ℕ). first v s ++ x) (ones-above k (v / 2 ^ 64) q b (drop 8 s))
     ∙ sym (ones-suc k v s)
+
+-- words at the front of a list have their ones set there
+pub ones-front : (m v : ℕ) (b s : List ℕ) → 8 * m ≤ length b → withOnes m v (b ++ s) ≡ withOnes m v b ++ s
+unfolding withOnes
+ones-front zero v b s h = refl
+ones-front (suc m) v b s h =
+    ap₂ (λ (x : ℕ) (l : List ℕ). be 8 (bitOr x (v % 2 ^ 64)) ++ withOnes m (v / 2 ^ 64) l)
+    (beAt-front 8 b s 0 (omega arith)) (drop-append-le 8 b s (omega arith))
+    ∙ ap (λ (l : List ℕ). first v b ++ l) (ones-front m (v / 2 ^ 64) (drop 8 b) s (rw length-drop (omega arith)))
+    ∙ sym (append-assoc (first v b) (withOnes m (v / 2 ^ 64) (drop 8 b)) s)
+
+-- and words behind a place
+pub from-front : (p m v : ℕ) (b s : List ℕ) → p + 8 * m ≤ length b
+    → from p (withOnes m v) (b ++ s) ≡ from p (withOnes m v) b ++ s
+unfolding from
+from-front p m v b s h =
+    ap₂ (λ (x y : List ℕ). x ++ withOnes m v y) (take-append-le p b s (omega arith))
+    (drop-append-le p b s (omega arith))
+    ∙ ap (λ (x : List ℕ). take p b ++ x) (ones-front m v (drop p b) s (rw length-drop (omega arith)))
+    ∙ sym (append-assoc (take p b) (withOnes m v (drop p b)) s)
 
 -- ones of one word
 module _ (k bits : ℕ) (s : List ℕ) where
@@ -186,6 +208,13 @@ module _ (v k r : ℕ) (d e : List ℕ) (a : Set v k r d e) where
       let be : Bytes t = bytes-ones k v d b in
       let l : length t ≡ length d = length-ones k v d (a .within) in
       let n : length (drop (8 * k) t) ≡ length t - 8 * k = length-drop (8 * k) t in
-      let s : from (8 * k) (withOnes j 0) t ≡ t = from-same (8 * k) (withOnes j 0) t (ones-zero j (drop (8 * k) t) (bytes-drop (8 * k) t be) (omega arith)) in
-      let g = set-more j e h (a .is ∙ sym s ∙ ap₂ (λ (x : ℕ) (y : List ℕ). from (8 * k) (withOnes j x) y) (sym z) (sym (a .is))) in
+      let s : from (8 * k) (withOnes j 0) t ≡ t =
+      from-same (8 * k) (withOnes j 0) t (ones-zero j (drop (8 * k) t) (bytes-drop (8 * k) t be) (omega arith)) in
+      let g = set-more j e h (a .is ∙ sym s
+      ∙ ap₂ (λ (x : ℕ) (y : List ℕ). from (8 * k) (withOnes j x) y) (sym z) (sym (a .is))) in
       subst (λ (x : ℕ). Set v (k + j) x d e) (ap (λ (x : ℕ). x / 2 ^ (64 * j)) z ∙ zero-div (2 ^ (64 * j))) g
+
+-- words below number k, none of which gets a one
+pub set-zero : (k : ℕ) (d : List ℕ) → Bytes d → 8 * k ≤ length d → Set 0 k 0 d d
+set-zero k d b h =
+    subst (λ (m : ℕ). Set 0 m 0 d d) (zero-add k) (set-skip 0 0 0 d d (set-none d) k b refl (omega arith))

@@ -17,11 +17,6 @@ pub fn add_sums(block: &mut [u8], g: Shape, from: usize, before: usize, counts: 
     ensures { λ _. ⌜ now (block .exit)
         ≡ added (g .u) (g .n) from (sums before (now (counts .entry))) (now (block .entry)) ⌝ }
 {
-    if counts.len() == 1 {
-        let one = [0u32; 1];
-        adding::add_all(block, g, from, before + counts[0] as usize - 1, &one);
-        return;
-    }
     let mut sum = before;
     let mut done: usize = 0;
     while done < counts.len() {
@@ -49,10 +44,6 @@ pub fn add_places(
     ensures { λ _. ⌜ now (block .exit)
         ≡ added (g .u) (g .n) from (placed start (now (counts .entry)) (now (positions .entry))) (now (block .entry)) ⌝ }
 {
-    if counts.len() == 1 {
-        adding::add_all(block, g, from, start, positions);
-        return;
-    }
     let mut base = start;
     let mut turn = Turn {
         page: 0,

@@ -22,11 +22,54 @@ fn above(least: usize, pages: &[u32]) -> bool
     least <= pages[0] as usize
 }
 
+// The same as `follow` for one page, whose positions rise to below what is left of U.
+fn follow_page(s: Stream, pages: &[u32], counts: &[u32], positions: &[u32]) -> Reach
+    requires { ⌜ (live s ≡ true) × (length (now pages) ≡ 1) ⌝ }
+    ensures { λ r. ⌜ Followed s (lentWord (now (pages .entry)) (now (counts .entry)) (now (positions .entry))) r ⌝ }
+{
+    let no = Reach { ok: false, next: 0 };
+    if s.laid == s.pages {
+        return no;
+    }
+    let positions_left = (s.positions - s.filled) as usize;
+    if positions_left < positions.len() {
+        return no;
+    }
+    if counts.len() != 1 {
+        return no;
+    }
+    if counts[0] as usize != positions.len() {
+        return no;
+    }
+    if positions.len() == 0 {
+        return no;
+    }
+    if pages[0] < s.page {
+        return no;
+    }
+    if s.n <= pages[0] {
+        return no;
+    }
+    if s.u < s.base {
+        return no;
+    }
+    if !rising::rises((s.u - s.base) as usize, positions) {
+        return no;
+    }
+    Reach {
+        ok: true,
+        next: s.base as usize + positions[positions.len() - 1] as usize + 1,
+    }
+}
+
 // Whether the postings may follow, and if so the base behind them.
 pub fn follow(s: Stream, pages: &[u32], counts: &[u32], positions: &[u32]) -> Reach
     requires { ⌜ live s ≡ true ⌝ }
     ensures { λ r. ⌜ Followed s (lentWord (now (pages .entry)) (now (counts .entry)) (now (positions .entry))) r ⌝ }
 {
+    if pages.len() == 1 {
+        return follow_page(s, pages, counts, positions);
+    }
     let pages_left = (s.pages - s.laid) as usize;
     if pages_left < pages.len() {
         return Reach { ok: false, next: 0 };

@@ -4,6 +4,8 @@ ghost use mathlib.Core.Path.{_≡_};
 ghost use Rattle.rules.specs.Term.{lentWord};
 ghost use Rattle.rules.specs.Stream.{addedWord};
 ghost use Rattle.rules.specs.Promises.{PostingsPut};
+ghost use lib.ListN.{length};
+ghost use Rattle.sessionlaws.specs.Layout.{layoutOf};
 ghost use Rattle.sessionlaws.specs.Follow.{Laying};
 use rules::LISTS_AT;
 use rules::Refusal;
@@ -11,13 +13,52 @@ use rules::Stream;
 use rules::Streamed;
 use sessionlaws::Layout;
 
-// Lays the postings behind those of the session.
-fn add_word(room: &mut [u8], g: Layout, s: Stream, pages: &[u32], counts: &[u32], positions: &[u32])
-    requires { ⌜ Laying g s (lentWord (now pages) (now counts) (now positions)) (now room) ⌝ }
+// Lays the postings of one page behind those of the session.
+fn add_page(room: &mut [u8], g: Layout, s: Stream, pages: &[u32], counts: &[u32], positions: &[u32])
+    requires { ⌜ Laying g s (lentWord (now pages) (now counts) (now positions)) (now room)
+        × (length (now pages) ≡ 1) ⌝ }
     ensures { λ _. ⌜ now (room .exit)
         ≡ addedWord s (lentWord (now (pages .entry)) (now (counts .entry)) (now (positions .entry)))
         (now (room .entry)) ⌝ }
 {
+    let laid = s.laid as usize;
+    let filled = s.filled as usize;
+    let second = g.second;
+    let third = g.third;
+    let first = g.pages;
+    let sums = g.counts;
+    let last = g.positions;
+    let page = pages[0] as usize;
+    let sum = filled + counts[0] as usize - 1;
+    adding::add_one(
+        &mut room[LISTS_AT..],
+        first.lower,
+        first.upper,
+        first.w,
+        laid,
+        page,
+    );
+    adding::add_one(
+        &mut room[second..],
+        sums.lower,
+        sums.upper,
+        sums.w,
+        laid,
+        sum,
+    );
+    adding::add_all(&mut room[third..], last, filled, s.base as usize, positions);
+}
+
+// Lays the postings of any number of pages. The layout is worked out again, as the caller's stays in registers only
+// where it is lent to no function.
+fn add_word(room: &mut [u8], s: Stream, pages: &[u32], counts: &[u32], positions: &[u32])
+    requires { ⌜ Laying (layoutOf (s .n) (s .pages) (s .positions) (s .u)) s
+        (lentWord (now pages) (now counts) (now positions)) (now room) ⌝ }
+    ensures { λ _. ⌜ now (room .exit)
+        ≡ addedWord s (lentWord (now (pages .entry)) (now (counts .entry)) (now (positions .entry)))
+        (now (room .entry)) ⌝ }
+{
+    let g = sessions::layout_of(s);
     let laid = s.laid as usize;
     let filled = s.filled as usize;
     let second = g.second;
@@ -34,6 +75,20 @@ fn add_word(room: &mut [u8], g: Layout, s: Stream, pages: &[u32], counts: &[u32]
     );
 }
 
+// Lays postings behind those of the session.
+fn add_run(room: &mut [u8], g: Layout, s: Stream, pages: &[u32], counts: &[u32], positions: &[u32])
+    requires { ⌜ Laying g s (lentWord (now pages) (now counts) (now positions)) (now room) ⌝ }
+    ensures { λ _. ⌜ now (room .exit)
+        ≡ addedWord s (lentWord (now (pages .entry)) (now (counts .entry)) (now (positions .entry)))
+        (now (room .entry)) ⌝ }
+{
+    if pages.len() == 1 {
+        add_page(room, g, s, pages, counts, positions);
+    } else {
+        add_word(room, s, pages, counts, positions);
+    }
+}
+
 // Hands the next postings of a word to its session.
 pub fn put_postings(
     s: Stream,
@@ -48,7 +103,12 @@ pub fn put_postings(
     if !sessions::is_live(s) {
         return sessions::ended(Refusal::Lists, 0);
     }
-    let g = sessions::layout_of(s);
+    let g = sessions::layout(
+        s.n as usize,
+        s.pages as usize,
+        s.positions as usize,
+        s.u as usize,
+    );
     let size = g.size;
     if room.len() < size {
         return Streamed {
@@ -62,7 +122,7 @@ pub fn put_postings(
         sessions::clear(room, size);
         return sessions::ended(Refusal::Lists, 0);
     }
-    add_word(room, g, s, pages, counts, positions);
+    add_run(room, g, s, pages, counts, positions);
     Streamed {
         refusal: Refusal::Accepted,
         size: 0,

@@ -5,3 +5,4 @@ pub mod FrameLaws
 pub mod AnswerLaws
 pub mod FollowLaws
 pub mod PutLaws
+pub mod OnePageLaws

@@ -1,13 +1,13 @@
 -- Laws of a run of postings that may follow: what its lists ask of the block, what they leave in it, and the call's
 -- answer.
 use mathlib.Core.Bool.{true, false}
-use mathlib.Core.Path.{_≡_, _∙_}
-use mathlib.Core.List.{List}
-use Prim.Native.Nat.{ℕ, _+_, _≤_, _<_}
+use mathlib.Core.Path.{_≡_, refl, sym, _∙_}
+use mathlib.Core.List.{List, [], _∷_}
+use Prim.Native.Nat.{ℕ, _+_, _-_, _≤_, _<_}
 use native.Mathlib.Omega.{arith}
 use borrow.Author.Tests.{leb-true}
 use lib.Dec.{leb}
-use lib.ListN.{length, replicate}
+use lib.ListN.{length, getD, replicate}
 use Rattle.rules.specs.declared.Refusal.the-variants.{Accepted, Room, Lists}
 use Rattle.rules.specs.declared.Stream.{Stream}
 use Rattle.rules.specs.Limits.{limit}
@@ -16,17 +16,20 @@ use Rattle.rules.specs.Write.{laid}
 use Rattle.rules.specs.Term.{Word, total, sums, next, raised, placed, positive, inOrderByPage, validWord}
 use Rattle.rules.specs.InPlace.{from, added}
 use Rattle.rules.specs.Stream.{over, live, follows, addedWord, advanced, goes, sizeOf, spoilt, putPostings}
-use Rattle.listlaws.proofs.RisingLaws.{and-parts}
+use Rattle.listlaws.proofs.RisingLaws.{and-parts, rising-parts}
 use Rattle.termlaws.proofs.WordLaws.{valid-agreeing}
 use Rattle.shape.specs.Shape.{shapeOf}
 use Rattle.filllaws.proofs.WriteLaws.{u-of, n-of}
-use Rattle.addlaws.proofs.MoreLaws.{raised-zero}
+use Rattle.wordlaws.proofs.LayLaws.{positive-at}
+use Rattle.addlaws.specs.Adding.{Slot}
+use Rattle.addlaws.proofs.MoreLaws.{raised-zero, placed-rise, list-one, total-one, sums-one, placed-one}
 use Rattle.sessionlaws.specs.declared.Layout.{Layout}
 use Rattle.sessionlaws.specs.Layout.{Housed}
 use Rattle.sessionlaws.specs.Session.{Live}
 use Rattle.sessionlaws.specs.Follow.{Following, Laying, stepped}
 use Rattle.sessionlaws.proofs.LiveLaws.{live-parts, going-dead, going-short, going-on}
 use Rattle.sessionlaws.proofs.LayoutLaws.{counts-are, layout-tells, second-is, third-is, housed}
+use Rattle.sessionlaws.proofs.LayoutLaws.{house-pages, house-counts}
 
 pub following : (s : Stream) (t : Word) → follows s t ≡ true → Following s t
 unfolding follows
@@ -78,7 +81,9 @@ module _ {g : Layout} {s : Stream} {t : Word} {room : List ℕ} (l : Laying g s 
   ask-advance = (run-follows .agreeing .rises, lives .announced .within, lives .announced .reach)
 
   pub ask-pages : (s .laid + length (t .pages) ≤ g .pages .n) × (rising 0 (g .pages .u) (raised 0 (t .pages)) ≡ true)
-  ask-pages = (omega (arith, run-follows .pages, tells), rw (raised-zero (t .pages), tells .0) (run-follows .agreeing .rises))
+  ask-pages =
+      let r = run-follows .agreeing .rises in
+      (omega (arith, run-follows .pages, tells), rw (raised-zero (t .pages), tells .0) r)
 
   pub ask-counts : (s .laid + length (t .counts) ≤ g .counts .n) × (positive (t .counts) ≡ true)
       × (s .filled + total (t .counts) ≤ g .counts .u)
@@ -118,6 +123,69 @@ module _ {g : Layout} {s : Stream} {t : Word} {room : List ℕ} (l : Laying g s 
     second-is (s .n) (s .pages) (s .positions) (s .u) (lives .announced) g (l .layout),
     third-is (s .n) (s .pages) (s .positions) (s .u) (lives .announced) g (l .layout),
   )
+
+-- ---- the lists of one page
+
+module _ {g : Layout} {s : Stream} {t : Word} {room : List ℕ} (l : Laying g s t room)
+    (one : length (t .pages) ≡ 1) where
+  counts-one : length (t .counts) ≡ 1
+  counts-one = sym (run-follows l .agreeing .lengths) ∙ one
+
+  -- its count, and the sum with it
+  pub one-count : (length (t .counts) ≡ 1) × (0 < getD (t .counts) 0 0)
+      × (s .filled + getD (t .counts) 0 0 ≤ g .counts .u) × (g .counts .u ≤ limit)
+  one-count =
+      let a = ask-counts l in (
+        counts-one,
+        positive-at (t .counts) (a .1) 0 (omega (arith, counts-one)),
+        omega (arith, total-one (t .counts) counts-one, a .2),
+        omega (arith, counts-u l, lives l .announced .positions, lives l .announced .reach),
+      )
+
+  -- the block has a place for the page, and for the sum less 1
+  pub page-slot : (r : List ℕ) → length r ≡ length room - 5
+      → Slot (g .pages .lower) (g .pages .upper) (g .pages .w) (s .laid) (getD (t .pages) 0 0) r (g .pages)
+  page-slot r h = record {
+    fitting = house-pages (laying-house l) r h;
+    lower-is = refl;
+    upper-is = refl;
+    width-is = refl;
+    number = omega (arith, ask-pages l .0);
+    below = rising-parts 0 (g .pages .u) (getD (t .pages) 0 0) []
+        (rw (raised-zero (t .pages) ∙ list-one (t .pages) one) at (ask-pages l .1)) .1;
+  }
+
+  pub sum-slot : (r : List ℕ) → length r ≡ length room - g .second
+      → Slot (g .counts .lower) (g .counts .upper) (g .counts .w) (s .laid) (s .filled + getD (t .counts) 0 0 - 1) r
+      (g .counts)
+  sum-slot r h = record {
+    fitting = house-counts (laying-house l) r h;
+    lower-is = refl;
+    upper-is = refl;
+    width-is = refl;
+    number = omega (arith, ask-counts l .0, counts-one);
+    below = omega (arith, one-count);
+  }
+
+  placed-are : placed (s .base) (t .counts) (t .positions) ≡ raised (s .base) (t .positions)
+  placed-are = placed-one (s .base) (t .counts) (t .positions) counts-one (ask-places l .1)
+
+  pub ask-raised : (s .filled + length (t .positions) ≤ g .positions .n)
+      × (rising 0 (g .positions .u) (raised (s .base) (t .positions)) ≡ true)
+  ask-raised =
+      let a = ask-places l in
+      (a .0, rw placed-are at (placed-rise (s .base) (g .positions .u) (t .counts) (t .positions) (a .3) (a .4)))
+
+  pub one-told : from (g .third)
+      (added (g .positions .u) (g .positions .n) (s .filled) (raised (s .base) (t .positions)))
+      (from (g .second) (added (g .counts .u) (g .counts .n) (s .laid) ((s .filled + getD (t .counts) 0 0 - 1) ∷ []))
+      (from 5 (added (g .pages .u) (g .pages .n) (s .laid) (getD (t .pages) 0 0 ∷ [])) room))
+      ≡ addedWord s t room
+  one-told = rw (
+    sym placed-are,
+    sym (sums-one (s .filled) (t .counts) counts-one),
+    sym (raised-zero (t .pages) ∙ list-one (t .pages) one),
+  ) (added-told l)
 
 -- ---- the call
 

@@ -37,14 +37,14 @@ pub fn add_low(run: &mut [u8], w: usize, a: Lows, x: usize) -> Lows
     ensures { λ r. ⌜ LowOne w a x r (now (run .entry)) (now (run .exit)) ⌝ }
 {
     let low = (x as u64) & ((1u64 << w) - 1);
-    let p = fields::place(a.acc, a.have, w, low);
     if a.have + w < 64 {
         return Lows {
-            acc: p.lo,
+            acc: a.acc | (low << a.have),
             have: a.have + w,
             words: a.words,
         };
     }
+    let p = fields::place(a.acc, a.have, w, low);
     set_ones(run, a.words, p.lo);
     Lows {
         acc: p.hi,

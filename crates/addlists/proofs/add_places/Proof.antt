@@ -8,14 +8,14 @@ use borrow.Author.Needs.{needs}
 use lib.ListN.{length, getD, take, drop, length-take}
 use lib.Seq.{take-all}
 use Rattle.rules.specs.List.{size}
-use Rattle.rules.specs.Term.{placed, raised}
+use Rattle.rules.specs.Term.{placed}
 use Rattle.rules.specs.InPlace.{added}
 use Rattle.termlaws.proofs.PlaceLaws.{length-placed}
 use Rattle.filllaws.proofs.WriteLaws.{end-of}
 use Rattle.wordlaws.specs.Stretch.{lastAt, headed, baseAt}
 use Rattle.wordlaws.proofs.LayLaws.{Width, stretch-width, stretch-is}
 use Rattle.wordlaws.proofs.StretchLaws.{Placing, page-left, stretch-bounded, stretch-placed, stretch-base}
-use Rattle.addlaws.proofs.MoreLaws.{added-none, stretch-rises, stretch-added, placed-rise, placed-one}
+use Rattle.addlaws.proofs.MoreLaws.{added-none, stretch-rises, stretch-added, placed-rise}
 use Rattle.addlists.proofs.add_places.Statement.{statement}
 use Rattle.addlists.proofs.add_places.Tie as tie
 
@@ -50,36 +50,9 @@ els-long s = length-placed (s .args .start) (s .args .counts .now) (s .args .pos
 fits : (s : tie.Start Inv-loop μ-loop) → size (s .args .g .u) (s .args .g .n) ≤ length (s .args .block .now)
 fits s = omega (arith, end-of (s .args .g .u) (s .args .g .n) (s .args .g) (s .pre .0 .shape), s .pre .0 .room)
 
--- ---- one page
-
-abbrev alone : tie.Then1 Inv-loop μ-loop → tie.Start Inv-loop μ-loop
-alone c = c .before .before .before .before
-
-one-is : (c : tie.Then1 Inv-loop μ-loop)
-    → let a = alone c .args in
-    els (alone c) ≡ raised (a .start) (a .positions .now)
-one-is c =
-    let s = alone c in
-    placed-one (s .args .start) (s .args .counts .now) (s .args .positions .now) (c .if1 .taken) (s .pre .2)
-
-add-all-requires : tie.Need-add-all-requires Inv-loop μ-loop
-add-all-requires c κs =
-    let t = c .before in
-    let s = alone t in (s .pre .0, s .pre .1, rw (one-is t) at (placing s .rises))
-
-returns : tie.Need-returns Inv-loop μ-loop
-returns c =
-    let f = c .before .before in
-    let t = f .before .before in
-    let a = alone t .args in
-    f .add-all .ensures
-    ∙ ap (λ (xs : List ℕ). added (a .g .u) (a .g .n) (a .from) xs (a .block .now)) (sym (one-is t))
-
--- ---- more pages
-
 -- the start, seen from the loop
 abbrev entry : tie.At-loop Inv-loop μ-loop → tie.Start Inv-loop μ-loop
-entry l = l .before .before .before .before .before .before
+entry l = l .before .before .before .before .before
 
 first-base : (b : ℕ) (m : ℕ → ℕ) (ps : List ℕ) → b ≡ baseAt b m ps (min 0 (length ps))
 unfolding baseAt
@@ -89,7 +62,7 @@ first-base b m ps =
 
 loop-holds : tie.Need-loop-holds Inv-loop μ-loop
 loop-holds c =
-    let k = c .before .before .before .before in
+    let k = c .before .before .before in
     let s = k .before in
     let a = s .args in
     let cs = a .counts .now in
@@ -190,8 +163,8 @@ part-is c =
     (p .last .0) (part-long c) (rw (w .is) at (p .ensures .1))
     ∙ stretch-is (els s) i k e
 
-add-all-requires-2 : tie.Need-add-all-requires-2 Inv-loop μ-loop
-add-all-requires-2 c κs =
+add-all-requires : tie.Need-add-all-requires Inv-loop μ-loop
+add-all-requires c κs =
     let k = c .before .before .before in
     let m = mark-of k in
     let l = loop-of m in
@@ -230,14 +203,14 @@ loop-again c =
       (rw (w .is) at (p .ensures .0))
           ∙ stretch-base (a .start) (a .g .u) cs ps (placing s) i n (l .loop .base) (m .mark .last .0) (w .some)
           (lesser-of m .lesser .ensures) (base-is m) (marks-are m),
-      y .add-all2 .ensures
+      y .add-all .ensures
           ∙ stretch-added (a .g .u) i 256 (els s) (take (n - 0) (p .last .0)) (placing s .rises) (part-is k)
           (a .g .n) (a .from) (a .block .now) (l .loop .block) (omega (arith, w, els-long s)) (fits s)
           (l .loop .inv .5),
     )
 
-returns-2 : tie.Need-returns-2 Inv-loop μ-loop
-returns-2 c =
+returns : tie.Need-returns Inv-loop μ-loop
+returns c =
     let l = c .before in
     let s = entry l in
     let a = s .args in
@@ -251,9 +224,6 @@ add-places-spec =
     (tie.spec
     Inv-loop
     μ-loop
-    add-all-requires
-    (λ c. search needs)
-    returns
     (λ c κs. search needs)
     loop-holds
     (λ c. omega arith)
@@ -271,9 +241,9 @@ add-places-spec =
     (λ c. omega arith)
     (λ c. omega arith)
     (λ c. omega (arith, width (lesser-of (mark-of (c .before .before))), part-long (c .before .before)))
-    add-all-requires-2
+    add-all-requires
     (λ c. omega (arith, width (lesser-of (mark-of (c .before .before .before .before .before .before)))))
     (λ c. omega (arith, width (lesser-of (mark-of (c .before .before .before .before .before .before)))))
     loop-again
     (λ c. search needs)
-    returns-2)
+    returns)

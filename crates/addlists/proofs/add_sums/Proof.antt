@@ -1,21 +1,21 @@
 -- `add_sums` lays the sums of the counts, less 1, stretch by stretch: those of the counts passed are laid.
 use mathlib.Core.Bool.{true}
 use mathlib.Core.Path.{_≡_, refl, sym, ap, ap₂, _∙_}
-use mathlib.Core.List.{List, [], _∷_}
-use Prim.Native.Nat.{ℕ, _+_, _-_, _≤_, _<_, min}
+use mathlib.Core.List.{List}
+use Prim.Native.Nat.{ℕ, _+_, _-_, _≤_, min}
 use native.Mathlib.Nat.{add-zero}
 use native.Mathlib.Omega.{arith}
 use borrow.Author.Needs.{needs}
-use lib.ListN.{length, getD, take, drop, length-take}
+use lib.ListN.{length, take, drop, length-take}
 use lib.Seq.{take-all}
 use Rattle.rules.specs.List.{rising, size}
-use Rattle.rules.specs.Term.{total, sums, raised}
+use Rattle.rules.specs.Term.{total, sums}
 use Rattle.rules.specs.InPlace.{added}
 use Rattle.termlaws.proofs.SumLaws.{length-sums}
 use Rattle.filllaws.proofs.WriteLaws.{end-of}
-use Rattle.wordlaws.proofs.LayLaws.{Width, stretch-width, stretch-is, positive-at, total-split}
+use Rattle.wordlaws.proofs.LayLaws.{Width, stretch-width, stretch-is, total-split}
 use Rattle.wordlaws.proofs.LayLaws.{stretch-sums, stretch-positive, stretch-total}
-use Rattle.addlaws.proofs.MoreLaws.{added-none, stretch-rises, stretch-added, sums-rise, total-one, sums-one}
+use Rattle.addlaws.proofs.MoreLaws.{added-none, stretch-rises, stretch-added, sums-rise}
 use Rattle.addlists.proofs.add_sums.Statement.{statement}
 use Rattle.addlists.proofs.add_sums.Tie as tie
 
@@ -37,57 +37,18 @@ els-rise s = sums-rise (s .args .before) (s .args .g .u) (s .args .counts .now) 
 fits : (s : tie.Start Inv-loop μ-loop) → size (s .args .g .u) (s .args .g .n) ≤ length (s .args .block .now)
 fits s = omega (arith, end-of (s .args .g .u) (s .args .g .n) (s .args .g) (s .pre .0 .shape), s .pre .0 .room)
 
--- ---- one page
-
-abbrev alone : tie.Then1 Inv-loop μ-loop → tie.Start Inv-loop μ-loop
-alone c = c .before .before .before
-
-reach-one : (c : tie.Then1 Inv-loop μ-loop)
-    → let a = alone c .args in
-    (0 < getD (a .counts .now) 0 0) × (a .before + getD (a .counts .now) 0 0 ≤ a .g .u)
-reach-one c =
-    let s = alone c in
-    let cs = s .args .counts .now in (
-      positive-at cs (s .pre .2) 0 (omega (arith, c .if1 .taken)),
-      omega (arith, total-one cs (c .if1 .taken), s .pre .3),
-    )
-
-one-is : (c : tie.Then1 Inv-loop μ-loop)
-    → let a = alone c .args in
-    els (alone c) ≡ raised (a .before + getD (a .counts .now) 0 0 - 1) (0 ∷ [])
-one-is c = sums-one (alone c .args .before) (alone c .args .counts .now) (c .if1 .taken)
-
-add-all-requires : tie.Need-add-all-requires Inv-loop μ-loop
-add-all-requires c κs =
-    let t = c .before .before .before in
-    let s = alone t in (
-      s .pre .0,
-      omega (arith, s .pre .1, t .if1 .taken),
-      rw (one-is t) at (els-rise s),
-    )
-
-returns : tie.Need-returns Inv-loop μ-loop
-returns c =
-    let f = c .before .before in
-    let t = f .before .before .before .before in
-    let a = alone t .args in
-    f .add-all .ensures
-    ∙ ap (λ (xs : List ℕ). added (a .g .u) (a .g .n) (a .from) xs (a .block .now)) (sym (one-is t))
-
--- ---- more pages
-
 -- the start, seen from the loop
 abbrev entry : tie.At-loop Inv-loop μ-loop → tie.Start Inv-loop μ-loop
-entry l = l .before .before .before .before
+entry l = l .before .before .before
 
 loop-holds : tie.Need-loop-holds Inv-loop μ-loop
 unfolding total
 loop-holds c =
-    let s = c .before .before .before in
+    let s = c .before .before in
     let a = s .args in (
       refl,
       sym (add-zero (a .before)),
-      sym (added-none (a .g .u) (a .g .n) (a .from) (a .block .now) (λ i. c .before .before .slice-known .given i .fits)
+      sym (added-none (a .g .u) (a .g .n) (a .from) (a .block .now) (λ i. c .before .slice-known .given i .fits)
           (fits s)),
     )
 
@@ -140,8 +101,8 @@ put-sums-requires c κs =
       )),
     )
 
-add-all-requires-2 : tie.Need-add-all-requires-2 Inv-loop μ-loop
-add-all-requires-2 c κs =
+add-all-requires : tie.Need-add-all-requires Inv-loop μ-loop
+add-all-requires c κs =
     let k = c .before .before .before .before in
     let l = loop-of k in
     let s = entry l in
@@ -172,14 +133,14 @@ loop-again c =
       omega arith,
       k .put-sums .ensures .0 ∙ rw (w .is, l .loop .inv .1, stretch-is cs i n (m .lesser .ensures))
           (omega (arith, total-split cs i 256)),
-      y .add-all2 .ensures
+      y .add-all .ensures
           ∙ stretch-added (a .g .u) i 256 (els s) (take (n - 0) (k .put-sums .last .0)) (els-rise s) (part-is k)
           (a .g .n) (a .from) (a .block .now) (l .loop .block) (omega (arith, w, length-sums (a .before) cs)) (fits s)
           (l .loop .inv .2),
     )
 
-returns-2 : tie.Need-returns-2 Inv-loop μ-loop
-returns-2 c =
+returns : tie.Need-returns Inv-loop μ-loop
+returns c =
     let l = c .before in
     let s = entry l in
     let a = s .args in
@@ -193,14 +154,6 @@ add-sums-spec =
     (tie.spec
     Inv-loop
     μ-loop
-    (λ c. omega (arith, c .before .before .if1 .taken))
-    (λ c. omega (arith, c .shared-slice-known2 .given 0))
-    (λ c. omega (arith, reach-one (c .before .before), alone (c .before .before) .pre .0 .within))
-    (λ c. omega (arith, reach-one (c .before .before)))
-    (λ c. refl)
-    add-all-requires
-    (λ c. search needs)
-    returns
     loop-holds
     (λ c. omega arith)
     (λ c κs. search needs)
@@ -215,9 +168,9 @@ add-sums-spec =
     (λ c. omega arith)
     (λ c. omega arith)
     (λ c. omega (arith, width (c .before .before .before .before .before .before)))
-    add-all-requires-2
+    add-all-requires
     (λ c. omega (arith, width (c .before .before .before .before .before .before .before .before .before .before)))
     (λ c. omega (arith, width (c .before .before .before .before .before .before .before .before .before .before)))
     loop-again
     (λ c. search needs)
-    returns-2)
+    returns)

@@ -6,8 +6,9 @@ use native.Mathlib.Omega.{arith}
 use borrow.Rule.Slice.PartMut.{putMid}
 use borrow.Author.Needs.{needs}
 use lib.ListN.{length}
-use Rattle.rules.specs.Term.{sums, raised, placed}
+use Rattle.rules.specs.Term.{lentWord, sums, raised, placed}
 use Rattle.rules.specs.InPlace.{from, added}
+use Rattle.sessionlaws.specs.Follow.{Laying}
 use Rattle.wordlaws.proofs.PieceLaws.{part-long}
 use Rattle.addlaws.proofs.FromLaws.{part-from}
 use Rattle.sessionlaws.proofs.LayoutLaws.{house-places, house-pages, house-counts, house-positions}
@@ -15,50 +16,68 @@ use Rattle.sessionlaws.proofs.PutLaws.{laying-house, ask-pages, ask-counts, ask
 use Rattle.putpostings.proofs.add_word.Statement.{statement}
 use Rattle.putpostings.proofs.add_word.Tie as tie
 
--- the start, seen from before the first list and from behind each of the others
-abbrev from-start : tie.After-struct-known2 → tie.Start
-from-start c = c .before .before .before .before .before .before
+-- the start, seen from where the layout is known
+abbrev start : tie.After-layout-of → tie.Start
+start c = c .before .before .before .before .before
 
-abbrev from-pages : tie.After-slice-known2 → tie.Start
-from-pages c = from-start (c .before .before .before .before)
+laying : (c : tie.After-layout-of)
+    → let a = start c .args in
+    Laying (c .layout-of .result) (a .s) (lentWord (a .pages .now) (a .counts .now) (a .positions .now)) (a .room .now)
+laying c =
+    let p = start c .pre in
+    record {
+      layout = c .layout-of .ensures;
+      goes-on = p .goes-on;
+      may = p .may;
+      fits = omega (arith, ap (λ h. h .size) (c .layout-of .ensures), p .fits);
+    }
 
-abbrev from-counts : tie.After-slice-known3 → tie.Start
+-- that place, seen from before the first list and from behind each of the others
+abbrev from-first : tie.After-struct-known2 → tie.After-layout-of
+from-first c = c .before .before
+
+abbrev from-pages : tie.After-slice-known2 → tie.After-layout-of
+from-pages c = from-first (c .before .before .before .before)
+
+abbrev from-counts : tie.After-slice-known3 → tie.After-layout-of
 from-counts c = from-pages (c .before .before .before .before)
 
 -- the room behind the pages and the counts
 abbrev paged : tie.After-slice-known2 → List ℕ
 paged c =
-    let r = from-pages c .args .room .now in
+    let r = start (from-pages c) .args .room .now in
     putMid 5 (length r - 5) r (c .before .before .add-all .last .0)
 
 abbrev counted : tie.After-slice-known3 → List ℕ
 counted c =
     let r = paged (c .before .before .before .before) in
-    let u = from-counts c .args .g .second in
+    let u = from-counts c .layout-of .result .second in
     putMid u (length r - u) r (c .before .before .add-sums .last .0)
 
 sub-add-all : tie.Need-sub-add-all
 sub-add-all c =
-    let p = from-start c .pre in
+    let p = laying (from-first c) in
     omega (arith, house-places (laying-house p), p .fits)
 
 add-all-requires : tie.Need-add-all-requires
 add-all-requires c κs =
-    let s = from-start (c .before) in
-    let a = ask-pages (s .pre) in
-    (house-pages (laying-house (s .pre)) _ (part-long 5 (s .args .room .now)), a .0, a .1)
+    let k = from-first (c .before) in
+    let p = laying k in
+    let a = ask-pages p in
+    (house-pages (laying-house p) _ (part-long 5 (start k .args .room .now)), a .0, a .1)
 
 sub-add-sums : tie.Need-sub-add-sums
 sub-add-sums c =
-    let p = from-pages c .pre in
+    let p = laying (from-pages c) in
     omega (arith, house-places (laying-house p), p .fits)
 
 add-sums-requires : tie.Need-add-sums-requires
 add-sums-requires c κs =
     let b = c .before in
-    let s = from-pages b in
-    let a = ask-counts (s .pre) in (
-      house-counts (laying-house (s .pre)) _ (omega (arith, part-long (s .args .g .second) (paged b))),
+    let k = from-pages b in
+    let p = laying k in
+    let a = ask-counts p in (
+      house-counts (laying-house p) _ (omega (arith, part-long (k .layout-of .result .second) (paged b))),
       a .0,
       a .1,
       a .2,
@@ -66,15 +85,16 @@ add-sums-requires c κs =
 
 sub-add-places : tie.Need-sub-add-places
 sub-add-places c =
-    let p = from-counts c .pre in
+    let p = laying (from-counts c) in
     omega (arith, house-places (laying-house p), p .fits)
 
 add-places-requires : tie.Need-add-places-requires
 add-places-requires c κs =
     let b = c .before .before in
-    let s = from-counts b in
-    let a = ask-places (s .pre) in (
-      house-positions (laying-house (s .pre)) _ (omega (arith, part-long (s .args .g .third) (counted b))),
+    let k = from-counts b in
+    let p = laying k in
+    let a = ask-places p in (
+      house-positions (laying-house p) _ (omega (arith, part-long (k .layout-of .result .third) (counted b))),
       a .0,
       a .1,
       a .2,
@@ -86,8 +106,9 @@ returns : tie.Need-returns
 returns c =
     let b = c .before .before .before .before .before in
     let d = b .before .before .before .before in
-    let s = from-counts b in
-    let g = s .args .g in
+    let k = from-counts b in
+    let s = start k in
+    let g = k .layout-of .result in
     let x = s .args .s in
     let ps = s .args .pages .now in
     let cs = s .args .counts .now in
@@ -100,12 +121,13 @@ returns c =
     (part-from (g .second) C (paged d) (b .before .before .add-sums .last .0) (b .before .before .add-sums .ensures)
     ∙ ap (from (g .second) C)
     (part-from 5 P (s .args .room .now) (d .before .before .add-all .last .0) (d .before .before .add-all .ensures)))
-    ∙ added-told (s .pre)
+    ∙ added-told (laying k)
 
 pub add-word-spec : {M : Type 1} → statement M
 add-word-spec =
     tie.close
     (tie.spec
+    (λ c κs. c .before .before .before .before .pre .goes-on)
     (λ c. search needs)
     (λ c. search needs)
     sub-add-all

@@ -13,7 +13,8 @@ use Rattle.sessionlaws.specs.Follow.{Laying}
 use Rattle.sessionlaws.proofs.LiveLaws.{live-parts}
 use Rattle.sessionlaws.proofs.LayoutLaws.{size-is}
 use Rattle.sessionlaws.proofs.AnswerLaws.{streamed-is}
-use Rattle.sessionlaws.proofs.PutLaws.{run-follows, ask-advance, advanced-told, put-dead, put-short, put-spoilt, put-laid}
+use Rattle.sessionlaws.proofs.PutLaws.{run-follows, ask-advance, advanced-told}
+use Rattle.sessionlaws.proofs.PutLaws.{put-dead, put-short, put-spoilt, put-laid}
 use Rattle.putpostings.proofs.put_postings.Statement.{statement}
 use Rattle.putpostings.proofs.put_postings.Tie as tie
 
@@ -37,26 +38,36 @@ returns c =
 goes-on : (c : tie.Else1) → live (from-test (c .before) .args .s) ≡ true
 goes-on c = sym (c .before .is-live .ensures) ∙ not-false (c .before .is-live .result) (c .if1 .left)
 
--- the block's length, seen from where its layout is known
-long : (c : tie.After-layout-of) → c .layout-of .result .size ≡ sizeOf (from-test (c .before .before) .args .s)
+-- behind that test, seen from where the layout is known
+abbrev from-layout : tie.After-layout → tie.Else1
+from-layout c = c .before .before .before .before .before
+
+-- the block's length
+long : (c : tie.After-layout) → c .layout .result .size ≡ sizeOf (from-test (from-layout c .before) .args .s)
 unfolding sizeOf
 long c =
-    let s = from-test (c .before .before) .args .s in
-    size-is (s .n) (s .pages) (s .positions) (s .u) (live-parts s (goes-on (c .before)) .announced) (c .layout-of .result)
-    (c .layout-of .ensures)
+    let s = from-test (from-layout c .before) .args .s in
+    let a = live-parts s (goes-on (from-layout c)) .announced in
+    size-is (s .n) (s .pages) (s .positions) (s .u) a (c .layout .result) (c .layout .ensures)
+
+layout-requires : tie.Need-layout-requires
+layout-requires c κs =
+    let e = c .before .before .before .before in
+    live-parts (from-test (e .before) .args .s) (goes-on e) .accepts
 
 returns-2 : tie.Need-returns-2
 returns-2 c =
     let l = c .before in
-    let s = from-test (l .before .before) in
-    sym (put-short (s .args .s) (word s) (s .args .room .now) (goes-on (l .before)) (omega (arith, long l, c .if2 .taken)))
+    let s = from-test (from-layout l .before) in
+    sym (put-short (s .args .s) (word s) (s .args .room .now) (goes-on (from-layout l))
+    (omega (arith, long l, c .if2 .taken)))
 
 -- the layout, seen from where the postings are tested
-abbrev layout : tie.After-follow → tie.After-layout-of
+abbrev layout : tie.After-follow → tie.After-layout
 layout c = c .before .before
 
 abbrev start : tie.After-follow → tie.Start
-start c = from-test (layout c .before .before)
+start c = from-test (from-layout (layout c) .before)
 
 returns-3 : tie.Need-returns-3
 returns-3 c =
@@ -67,7 +78,7 @@ returns-3 c =
     let a = s .args in
     streamed-is (c .ended2 .result) (k .clear .last .0) Lists 0 over (laid (replicate (sizeOf (a .s)) 0) (a .room .now))
     (c .ended2 .ensures) (k .clear .ensures ∙ ap (λ n. laid (replicate n 0) (a .room .now)) (long (layout d)))
-    ∙ sym (put-spoilt (a .s) (word s) (a .room .now) (goes-on (layout d .before))
+    ∙ sym (put-spoilt (a .s) (word s) (a .room .now) (goes-on (from-layout (layout d)))
     (omega (arith, long (layout d), d .before .if2 .left))
     (sym (d .follow .ensures .says) ∙ not-true (d .follow .result .ok) (t .if3 .taken)))
 
@@ -79,12 +90,12 @@ may c =
 
 laying : (c : tie.Else3)
     → let d = c .before .before in
-    Laying (layout d .layout-of .result) (start d .args .s) (word (start d)) (start d .args .room .now)
+    Laying (layout d .layout .result) (start d .args .s) (word (start d)) (start d .args .room .now)
 laying c =
     let d = c .before .before in
     record {
-      layout = layout d .layout-of .ensures;
-      goes-on = goes-on (layout d .before);
+      layout = layout d .layout .ensures;
+      goes-on = goes-on (from-layout (layout d));
       may = may c;
       fits = d .before .if2 .left;
     }
@@ -112,10 +123,10 @@ returns-4 c =
     let a = s .args in
     let l = laying e in
     let n = d .follow .ensures .ends (not-false (d .follow .result .ok) (e .if3 .left)) in
-    streamed-is (record { refusal = Accepted; size = 0; stream = c .advance .result }) (k .add-word .last .0) Accepted 0
+    streamed-is (record { refusal = Accepted; size = 0; stream = c .advance .result }) (k .add-run .last .0) Accepted 0
     (advanced (a .s) (word s)) (addedWord (a .s) (word s) (a .room .now))
-    (refl, refl, c .advance .ensures ∙ advanced-told l (d .follow .result .next) n) (k .add-word .ensures)
-    ∙ sym (put-laid (a .s) (word s) (a .room .now) (goes-on (layout d .before))
+    (refl, refl, c .advance .ensures ∙ advanced-told l (d .follow .result .next) n) (k .add-run .ensures)
+    ∙ sym (put-laid (a .s) (word s) (a .room .now) (goes-on (from-layout (layout d)))
     (omega (arith, long (layout d), d .before .if2 .left)) (may e))
 
 pub put-postings-spec : {M : Type 1} → statement M
@@ -125,9 +136,13 @@ put-postings-spec =
     (λ c κs. search needs)
     (λ c κs. search needs)
     returns
-    (λ c κs. goes-on c)
+    (λ c. search needs)
+    (λ c. search needs)
+    (λ c. search needs)
+    (λ c. search needs)
+    layout-requires
     returns-2
-    (λ c κs. goes-on (c .before .before))
+    (λ c κs. goes-on (from-layout (c .before)))
     (λ c κs. search needs)
     (λ c κs. search needs)
     (λ c. search needs)

@@ -1,4 +1,4 @@
--- `add_low` lays the low bits of x: what `place` gives is the old bits and the new, and the ones of a full word are set.
+-- `add_low` lays the low bits of x above those in hand, or sets the ones of the word that they fill and keeps the rest.
 use native.Mathlib.Nat.{mod-lt}
 use native.Mathlib.Omega.{arith}
 use borrow.Author.Needs.{needs}
@@ -13,30 +13,28 @@ sub-low c =
     let w = c .before .args .w in
     rw (one-shl w (omega arith)) (pow-pos w)
 
-place-requires : tie.Need-place-requires
-place-requires c κs =
-    let a = c .before .args in
-    let p = c .before .pre in
-    (p .0, p .1, rw (masked (a .x) (a .w) (omega arith)) (mod-lt (a .x) (pow-pos (a .w))), p .2)
-
 returns : tie.Need-returns
 returns c =
-    let k = c .before .before .before in
-    let s = k .before .before in
+    let s = c .before .before .before .before .before in
     let a = s .args in
-    let r = k .place .result in
-    low-near (a .w) (a .a) (a .x) (r .hi) (r .lo) (s .pre .1) (s .pre .0) (s .pre .2) (k .place .ensures) (a .run .now)
-    (c .before .if1 .taken)
+    low-near (a .w) (a .a) (a .x) (s .pre .1) (s .pre .0) (s .pre .2) (c .before .before .if1 .taken) (a .run .now)
+
+place-requires : tie.Need-place-requires
+place-requires c κs =
+    let s = c .before .before .before in
+    let a = s .args in
+    let p = s .pre in
+    (p .0, p .1, rw (masked (a .x) (a .w) (omega arith)) (mod-lt (a .x) (pow-pos (a .w))), p .2)
 
 returns-2 : tie.Need-returns-2
 returns-2 c =
     let u = c .before .before .before .before in
-    let k = u .before .before .before .before in
-    let s = k .before .before in
+    let k = u .before .before in
+    let s = k .before .before .before .before in
     let a = s .args in
     let r = k .place .result in
-    low-far (a .w) (a .a) (a .x) (r .hi) (r .lo) (s .pre .1) (s .pre .0) (s .pre .2) (k .place .ensures) (a .run .now)
-    (u .set-ones .last .0) (k .place .ok .1 .1 .0 .1) (u .before .before .if1 .left) (u .set-ones .ensures)
+    low-far (a .w) (a .a) (a .x) (s .pre .1) (s .pre .0) (s .pre .2) (r .hi) (r .lo) (a .run .now)
+    (u .set-ones .last .0) (k .place .ensures) (k .place .ok .1 .1 .0 .1) (k .before .if1 .left) (u .set-ones .ensures)
 
 pub add-low-spec : {M : Type 1} → statement M
 add-low-spec =
@@ -44,10 +42,11 @@ add-low-spec =
     (tie.spec
     (λ c. search needs)
     sub-low
-    place-requires
+    (λ c. search needs)
     (λ c. search needs)
     (λ c. search needs)
     returns
+    place-requires
     (λ c κs. search needs)
     (λ c. search needs)
     (λ c. search needs)
