@@ -22,7 +22,34 @@ fn above(least: usize, pages: &[u32]) -> bool
     least <= pages[0] as usize
 }
 
-// The same as `follow` for one page, whose positions rise to below what is left of U.
+// Whether the postings of any number of pages may follow, and if so the base behind them.
+fn follow_word(s: Stream, pages: &[u32], counts: &[u32], positions: &[u32]) -> Reach
+    requires { ⌜ live s ≡ true ⌝ }
+    ensures { λ r. ⌜ Followed s (lentWord (now (pages .entry)) (now (counts .entry)) (now (positions .entry))) r ⌝ }
+{
+    let pages_left = (s.pages - s.laid) as usize;
+    if pages_left < pages.len() {
+        return Reach { ok: false, next: 0 };
+    }
+    let positions_left = (s.positions - s.filled) as usize;
+    if positions_left < positions.len() {
+        return Reach { ok: false, next: 0 };
+    }
+    let word = testword::check_word(s.n as usize, pages, counts, positions);
+    if !word.ok {
+        return Reach { ok: false, next: 0 };
+    }
+    if !above(s.page as usize, pages) {
+        return Reach { ok: false, next: 0 };
+    }
+    let next = s.base as usize + word.next;
+    Reach {
+        ok: next <= s.u as usize,
+        next,
+    }
+}
+
+// The same for one page, whose positions rise to below what is left of U.
 fn follow_page(s: Stream, pages: &[u32], counts: &[u32], positions: &[u32]) -> Reach
     requires { ⌜ (live s ≡ true) × (length (now pages) ≡ 1) ⌝ }
     ensures { λ r. ⌜ Followed s (lentWord (now (pages .entry)) (now (counts .entry)) (now (positions .entry))) r ⌝ }
@@ -70,26 +97,7 @@ pub fn follow(s: Stream, pages: &[u32], counts: &[u32], positions: &[u32]) -> Re
     if pages.len() == 1 {
         return follow_page(s, pages, counts, positions);
     }
-    let pages_left = (s.pages - s.laid) as usize;
-    if pages_left < pages.len() {
-        return Reach { ok: false, next: 0 };
-    }
-    let positions_left = (s.positions - s.filled) as usize;
-    if positions_left < positions.len() {
-        return Reach { ok: false, next: 0 };
-    }
-    let word = testword::check_word(s.n as usize, pages, counts, positions);
-    if !word.ok {
-        return Reach { ok: false, next: 0 };
-    }
-    if !above(s.page as usize, pages) {
-        return Reach { ok: false, next: 0 };
-    }
-    let next = s.base as usize + word.next;
-    Reach {
-        ok: next <= s.u as usize,
-        next,
-    }
+    follow_word(s, pages, counts, positions)
 }
 
 // The least page that may follow, where `least` may follow those before.
