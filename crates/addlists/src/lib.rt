@@ -8,7 +8,7 @@ ghost use Rattle.rules.specs.Term.{total, sums, next, placed, positive, inOrder
 ghost use Rattle.rules.specs.InPlace.{added};
 ghost use Rattle.filllaws.specs.Filling.{Fitting};
 use shape::Shape;
-use wordlaws::Turn;
+use wordlaws::Tally;
 
 // Lays the sums of the counts, less 1, from number `from` on, where `before` is the sum of those before them.
 pub fn add_sums(block: &mut [u8], g: Shape, from: usize, before: usize, counts: &[u32])
@@ -17,14 +17,16 @@ pub fn add_sums(block: &mut [u8], g: Shape, from: usize, before: usize, counts: 
     ensures { λ _. ⌜ now (block .exit)
         ≡ added (g .u) (g .n) from (sums before (now (counts .entry))) (now (block .entry)) ⌝ }
 {
-    let mut sum = before;
-    let mut done: usize = 0;
-    while done < counts.len() {
-        let k = storing::lesser(256, counts.len() - done);
+    let mut at = Tally {
+        done: 0,
+        sum: before,
+    };
+    while at.done < counts.len() {
         let mut part = [0u32; 256];
-        sum = stretches::put_sums(&mut part, sum, &counts[done..done + k]);
-        adding::add_all(block, g, from + done, 0, &part[0..k]);
-        done += 256;
+        let next = stretches::next_sums(&mut part, counts, at);
+        let k = next.done - at.done;
+        adding::add_all(block, g, from + at.done, 0, &part[0..k]);
+        at = next;
     }
 }
 
@@ -44,18 +46,12 @@ pub fn add_places(
     ensures { λ _. ⌜ now (block .exit)
         ≡ added (g .u) (g .n) from (placed start (now (counts .entry)) (now (positions .entry))) (now (block .entry)) ⌝ }
 {
-    let mut base = start;
-    let mut turn = Turn {
-        page: 0,
-        end: stretches::first_end(counts),
-    };
-    let mut done: usize = 0;
-    while done < positions.len() {
-        let k = storing::lesser(256, positions.len() - done);
+    let mut at = stretches::first_spot(counts, start);
+    while at.done < positions.len() {
         let mut part = [0u32; 256];
-        turn = stretches::mark(&mut part, counts, turn);
-        base = stretches::put_places(&mut part, base, &positions[done..done + k]);
-        adding::add_all(block, g, from + done, 0, &part[0..k]);
-        done += 256;
+        let next = stretches::next_places(&mut part, counts, positions, at);
+        let k = next.done - at.done;
+        adding::add_all(block, g, from + at.done, 0, &part[0..k]);
+        at = next;
     }
 }

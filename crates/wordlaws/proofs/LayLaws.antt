@@ -8,8 +8,7 @@ use native.Mathlib.Decide.{decLt}
 use native.Mathlib.Omega.{arith}
 use borrow.Author.Tests.{lt-ltb}
 use lib.ListN.{length, getD, take, drop, length-take, length-drop, take-append-drop}
-use lib.Seq.{length-take-le, take-nil, take-all, take-add, take-length}
-use Rattle.rules.specs.Limits.{limit}
+use lib.Seq.{take-nil, take-all, take-add, take-length}
 use Rattle.rules.specs.List.{rising}
 use Rattle.rules.specs.Term.{total, sums, positive}
 use Rattle.listlaws.specs.Sound.{least}
@@ -18,7 +17,9 @@ use Rattle.termlaws.proofs.SumLaws.{positive-parts, length-sums, sums-rising}
 use Rattle.shape.specs.declared.Shape.{Shape}
 use Rattle.filllaws.specs.declared.Filling.{Filling}
 use Rattle.filllaws.specs.Filling.{Partly, Follows, Laid}
+use Rattle.wordlaws.specs.declared.Tally.{Tally}
 use Rattle.wordlaws.specs.Lists.{Sums}
+use Rattle.wordlaws.specs.Stretch.{NextSums}
 
 -- ---- stretches
 
@@ -36,33 +37,18 @@ take-least n xs =
       | no h ↦ take-all (min n (length xs)) xs (omega arith) ∙ sym (take-all n xs (omega arith))
     ]
 
--- the k elements of a stretch that starts at number i
-pub record Width (xs : List ℕ) (i k : ℕ) : Type 0 where
-  pub small : length xs ≤ limit
-  pub some : i < length xs
-  pub within : i + k ≤ length xs
-  pub most : k ≤ 256
-  pub is : i + k - i ≡ k
-  pub long : length (take (i + k - i) (drop i xs)) ≡ k
-
-pub stretch-width : (xs : List ℕ) (i k : ℕ) → length xs ≤ limit → i < length xs → k ≡ min 256 (length xs - i)
-    → Width xs i k
-stretch-width xs i k l h e =
-    let f : i + k - i ≡ k = omega arith in
-    record {
-      small = l;
-      some = h;
-      within = omega arith;
-      most = omega arith;
-      is = f;
-      long = rw f (length-take-le k (drop i xs) (rw length-drop (omega arith)));
-    }
-
 -- the 256 from number i on, or as many as there are
 pub stretch-is : (xs : List ℕ) (i k : ℕ) → k ≡ min 256 (length xs - i) → take k (drop i xs) ≡ take 256 (drop i xs)
 stretch-is xs i k e =
     let f : k ≡ min 256 (length (drop i xs)) = rw length-drop e in
     rw f (take-least 256 (drop i xs))
+
+-- those up to where the next stretch starts
+stretch-behind : (xs : List ℕ) (i n : ℕ) → n ≡ i + min 256 (length xs - i) → take (i + 256) xs ≡ take n xs
+stretch-behind xs i n e =
+    rw e (take-add i 256 xs
+    ∙ ap (λ (ys : List ℕ). take i xs ++ ys) (sym (stretch-is xs i (min 256 (length xs - i)) refl))
+    ∙ sym (take-add i (min 256 (length xs - i)) xs))
 
 module _ (g : Shape) (es : List ℕ) (long : length es ≡ g .n) (rises : rising 0 (g .u) es ≡ true) (i k : ℕ) where
   pub stretch-follows : Follows g (take i es) (take k (drop i es))
@@ -72,13 +58,16 @@ module _ (g : Shape) (es : List ℕ) (long : length es ≡ g .n) (rises : rising
   }
 
   -- those of a stretch, laid behind those before them
-  pub stretch-laid : k ≡ min 256 (length es - i) → (ys : List ℕ) → ys ≡ take k (drop i es)
-      → (f r : Filling) (d e before : List ℕ) → Laid g f ys (length ys) r d e → Partly g (take i es) f before d
-      → Partly g (take (i + 256) es) r before e
-  stretch-laid w ys same f r d e before l p =
-      let n : take i es ++ take (length ys) ys ≡ take (i + 256) es =
-      rw (take-length ys, same, stretch-is es i k w) (sym (take-add i 256 es)) in
+  pub stretch-lays : (ys : List ℕ) → ys ≡ take k (drop i es) → (f r : Filling) (d e before : List ℕ)
+      → Laid g f ys (length ys) r d e → Partly g (take i es) f before d → Partly g (take (i + k) es) r before e
+  stretch-lays ys same f r d e before l p =
+      let n : take i es ++ take (length ys) ys ≡ take (i + k) es = rw (take-length ys, same) (sym (take-add i k es)) in
       rw n at (l (take i es) before p (rw same stretch-follows))
+
+  pub next-laid : (j : ℕ) → i + k ≡ j → (ys : List ℕ) → ys ≡ take k (drop i es)
+      → (f r : Filling) (d e before : List ℕ) → Laid g f ys (length ys) r d e → Partly g (take i es) f before d
+      → Partly g (take j es) r before e
+  next-laid j w ys same f r d e before l p = rw w at (stretch-lays ys same f r d e before l p)
 
 -- ---- sums
 
@@ -105,13 +94,19 @@ getD-sums s [] i h = absurd (omega arith)
 getD-sums s (c ∷ cs) zero h = omega arith
 getD-sums s (c ∷ cs) (suc i) h = getD-sums (s + c) cs i (omega arith) ∙ omega arith
 
-pub total-split : (cs : List ℕ) (i k : ℕ) → total (take (i + k) cs) ≡ total (take i cs) + total (take k (drop i cs))
+total-split : (cs : List ℕ) (i k : ℕ) → total (take (i + k) cs) ≡ total (take i cs) + total (take k (drop i cs))
 unfolding total
 total-split cs zero k = rw zero-add (omega arith)
 total-split [] (suc i) k = omega (arith, ap total (take-nil (suc i + k)), ap total (take-nil k))
 total-split (c ∷ cs) (suc i) k =
     let e : suc i + k ≡ suc (i + k) = omega arith in
     rw e (omega (arith, total-split cs i k))
+
+total-parts : (cs : List ℕ) (i : ℕ) → total cs ≡ total (take i cs) + total (drop i cs)
+unfolding total
+total-parts cs zero = omega arith
+total-parts [] (suc i) = omega arith
+total-parts (c ∷ cs) (suc i) = omega (arith, total-parts cs i)
 
 positive-drop : (i : ℕ) (cs : List ℕ) → positive cs ≡ true → positive (drop i cs) ≡ true
 unfolding positive
@@ -149,12 +144,46 @@ module _ (g : Shape) (cs room : List ℕ) (q : Sums g cs room) where
   sums-rise = rw (q .reach) at (sums-rising cs (q .counted))
 
 -- those of a stretch
-module _ (s : ℕ) (cs : List ℕ) (i k : ℕ) where
-  pub stretch-sums : take k (drop i (sums s cs)) ≡ sums (s + total (take i cs)) (take k (drop i cs))
-  stretch-sums = rw (sums-drop s i cs) (sums-take (s + total (take i cs)) k (drop i cs))
+stretch-sums : (s : ℕ) (cs : List ℕ) (i k : ℕ)
+    → take k (drop i (sums s cs)) ≡ sums (s + total (take i cs)) (take k (drop i cs))
+stretch-sums s cs i k = rw (sums-drop s i cs) (sums-take (s + total (take i cs)) k (drop i cs))
 
-  pub stretch-positive : positive cs ≡ true → positive (take k (drop i cs)) ≡ true
-  stretch-positive p = positive-take k (drop i cs) (positive-drop i cs p)
+pub stretch-positive : (cs : List ℕ) (i k : ℕ) → positive cs ≡ true → positive (take k (drop i cs)) ≡ true
+stretch-positive cs i k p = positive-take k (drop i cs) (positive-drop i cs p)
 
-  pub stretch-total : (U : ℕ) → s + total cs ≤ U → s + total (take i cs) + total (take k (drop i cs)) ≤ U
-  stretch-total U h = omega (arith, total-split cs i k, total-take-le cs (i + k))
+-- where none are left
+pub sums-all : (s : ℕ) (cs : List ℕ) (i : ℕ) → length cs ≤ i → take i (sums s cs) ≡ sums s cs
+sums-all s cs i h = take-all i (sums s cs) (rw length-sums h)
+
+-- ---- tallies
+
+-- a tally of the counts, where s is the sum before them
+pub record TallyAt (s : ℕ) (cs : List ℕ) (t : Tally) : Type 0 where
+  pub within : t .done ≤ length cs
+  pub sum : t .sum ≡ s + total (take (t .done) cs)
+
+pub tally-first : (s : ℕ) (cs : List ℕ) → TallyAt s cs (record { done = 0; sum = s })
+unfolding total
+tally-first s cs = record { within = omega arith; sum = omega arith }
+
+module _ (s : ℕ) (cs : List ℕ) (t : Tally) (a : TallyAt s cs t) where
+  -- what is left stays within the limit
+  pub tally-left : (U : ℕ) → s + total cs ≤ U → t .sum + total (drop (t .done) cs) ≤ U
+  tally-left U h = omega (arith, a .sum, total-parts cs (t .done))
+
+  module _ (r : Tally) (part : List ℕ) (q : NextSums cs t r part) where
+    pub tally-next : TallyAt s cs r
+    tally-next = record {
+      within = omega (arith, a .within, q .done);
+      sum = rw (← stretch-behind cs (t .done) (r .done) (q .done))
+          (omega (arith, q .sum, a .sum, total-split cs (t .done) 256));
+    }
+
+    pub tally-part : take (r .done - t .done - 0) part ≡ take 256 (drop (t .done) (sums s cs))
+    tally-part =
+        let e : r .done - t .done - 0 ≡ r .done - t .done = omega arith in
+        ap (λ (n : ℕ). take n part) e ∙ q .holds ∙ ap (λ (n : ℕ). sums n (take 256 (drop (t .done) cs))) (a .sum)
+        ∙ sym (stretch-sums s cs (t .done) 256)
+
+    pub tally-behind : take (t .done + 256) (sums s cs) ≡ take (r .done) (sums s cs)
+    tally-behind = stretch-behind (sums s cs) (t .done) (r .done) (rw length-sums (q .done))

@@ -11,8 +11,6 @@ use borrow.Author.Tests.{lt-ltb, le-ltb, eq-eqb, ne-eqb}
 use lib.ListN.{length, getD, take, drop, set, replicate, length-drop, length-set, length-replicate}
 use lib.ListN.{drop-of-length-le, getD-replicate, List·getD-append, List·getD-eq-default}
 use lib.Seq.{length-take-le, getD-append-add, getD-take, getD-drop, getD-set-same, getD-set-other, ext-getD}
-use Rattle.rules.specs.Limits.{limit}
-use Rattle.rules.specs.List.{rising}
 use Rattle.rules.specs.Term.{total, next, raised, placed, positive}
 use Rattle.listlaws.proofs.RisingLaws.{rising-at}
 use Rattle.termlaws.proofs.SumLaws.{positive-parts}
@@ -20,7 +18,10 @@ use Rattle.termlaws.proofs.PlaceLaws.{length-raised, length-placed}
 use Rattle.shape.specs.declared.Shape.{Shape}
 use Rattle.filllaws.proofs.RiseLaws.{drop-front}
 use Rattle.wordlaws.specs.Lists.{Places}
-use Rattle.wordlaws.specs.Stretch.{lastAt, headed, marksOf, baseAt, Bounded, Based}
+use Rattle.wordlaws.specs.Stretch.{lastAt, headed, marksOf, baseAt}
+use Rattle.wordlaws.specs.Stretch.{Marked, Bounded, Based, Placing, SpotAt}
+use Rattle.wordlaws.specs.declared.Turn.{Turn}
+use Rattle.wordlaws.specs.declared.Spot.{Spot}
 use Rattle.wordlaws.proofs.CheckLaws.{next-last, next-page}
 use Rattle.wordlaws.proofs.LayLaws.{positive-at}
 
@@ -316,13 +317,6 @@ placed-at b (c ∷ cs) ps p e i h =
 
 -- ---- one stretch
 
--- positions whose elements, from the base s on, rise and stay below U
-pub record Placing (s U : ℕ) (cs ps : List ℕ) : Type 0 where
-  pub within : U ≤ limit
-  pub summed : total cs ≡ length ps
-  pub counted : positive cs ≡ true
-  pub rises : rising 0 U (placed s cs ps) ≡ true
-
 module _ (g : Shape) (cs ps room : List ℕ) (q : Places g cs ps room) where
   pub placing : Placing 0 (g .u) cs ps
   placing = record {
@@ -335,32 +329,39 @@ module _ (g : Shape) (cs ps room : List ℕ) (q : Places g cs ps room) where
   pub places-long : length (placed 0 cs ps) ≡ g .n
   places-long = length-placed 0 cs ps (q .summed) ∙ q .count
 
-module _ (s U : ℕ) (cs ps : List ℕ) (q : Placing s U cs ps) where
+-- from a spot on with positions left
+module _ (s U : ℕ) (cs ps : List ℕ) (p : Spot) (at : SpotAt s U cs ps p) (h : p .done < length ps) where
   abbrev es : List ℕ
   es = placed s cs ps
 
-  long : length es ≡ length ps
-  long = length-placed s cs ps (q .summed)
+  abbrev i : ℕ
+  i = p .done
 
-  -- where positions are left, a page is
-  pub page-left : (i page end : ℕ) → i < length ps
-      → ((j : ℕ) → lastAt (headed end (drop page cs)) j ≡ lastAt cs (i + j)) → page < length cs
-  page-left i page end h m =
-      elim (decLt page (length cs)) [
+  long : length es ≡ length ps
+  long = length-placed s cs ps (at .placing .summed)
+
+  -- a page is left
+  pub spot-page : p .turn .page < length cs
+  spot-page =
+      elim (decLt (p .turn .page) (length cs)) [
         | yes l ↦ l
         | no l ↦
             let k : ℕ = length ps - 1 in
             let e : i + (k - i) ≡ k = omega arith in
-            let one = last-last cs (q .counted) k (omega (arith, q .summed)) in
-            let none = rw (headed-none end cs page (omega arith), e, one) at (m (k - i)) in
+            let one = last-last cs (at .placing .counted) k (omega (arith, at .placing .summed)) in
+            let gone = headed-none (p .turn .end) cs (p .turn .page) (omega arith) in
+            let none = rw (gone, e, one) at (at .page h (k - i)) in
             absurd (omega (arith, none, last-none (k - i)))
       ]
 
-  -- from position i on, whose base is b
-  module _ (i k b : ℕ) (part : List ℕ) (h : i < length ps) (w : k ≡ min 256 (length ps - i))
-      (base : b ≡ baseAt s (lastAt cs) ps i) (marks : (j : ℕ) → j < 256 → getD part j 0 ≡ lastAt cs (i + j)) where
+  -- the next k positions, of which the part marks those that end a page
+  module _ (k : ℕ) (w : k ≡ min 256 (length ps - p .done)) (t : Turn) (part : List ℕ)
+      (m : Marked cs (p .turn) t part) where
     abbrev qs : List ℕ
     qs = take k (drop i ps)
+
+    marks : (j : ℕ) → j < 256 → getD part j 0 ≡ lastAt cs (i + j)
+    marks j l = m .marks j l ∙ at .page h j
 
     stretch-long : length qs ≡ k
     stretch-long = length-take-le k (drop i ps) (rw length-drop (omega arith))
@@ -368,30 +369,31 @@ module _ (s U : ℕ) (cs ps : List ℕ) (q : Placing s U cs ps) where
     position-at : (j : ℕ) → j < k → getD qs j 0 ≡ getD ps (i + j) 0
     position-at j l = getD-take k (drop i ps) j 0 l ∙ getD-drop i ps j 0
 
-    base-on : (j : ℕ) → j ≤ k → baseAt b (marksOf part) qs j ≡ baseAt s (lastAt cs) ps (i + j)
+    base-on : (j : ℕ) → j ≤ k → baseAt (p .base) (marksOf part) qs j ≡ baseAt s (lastAt cs) ps (i + j)
     base-on j l =
-        rw base (base-same (baseAt s (lastAt cs) ps i) (marksOf part) (λ n. lastAt cs (i + n)) qs (drop i ps) j
+        rw (at .base) (base-same (baseAt s (lastAt cs) ps i) (marksOf part) (λ n. lastAt cs (i + n)) qs (drop i ps) j
         (λ n u. marks n (omega arith)) (λ n u. getD-take k (drop i ps) n 0 (omega arith)))
         ∙ base-shift s (lastAt cs) ps i j
 
-    element-at : (j : ℕ) → j < k → baseAt b (marksOf part) qs j + getD qs j 0 ≡ getD es (i + j) 0
+    element-at : (j : ℕ) → j < k → baseAt (p .base) (marksOf part) qs j + getD qs j 0 ≡ getD es (i + j) 0
     element-at j l =
         rw (base-on j (omega arith), position-at j l)
-        (sym (placed-at s cs ps (q .counted) (q .summed) (i + j) (omega arith)))
+        (sym (placed-at s cs ps (at .placing .counted) (at .placing .summed) (i + j) (omega arith)))
 
-    pub stretch-bounded : Bounded b part qs
+    pub stretch-bounded : Bounded (p .base) part qs
     stretch-bounded j l =
         let m : j < k = omega (arith, stretch-long) in (
           rw (marks j (omega arith)) (last-le cs (i + j)),
           rw (element-at j m)
               (omega (
                 arith,
-                rising-at 0 U es (q .rises) (i + j) (omega (arith, long)) .1,
-                q .within,
+                rising-at 0 U es (at .placing .rises) (i + j) (omega (arith, long)) .1,
+                at .placing .within,
               )),
         )
 
-    pub stretch-placed : (out : List ℕ) → length out ≡ 256 → Based b part qs out → take k out ≡ take k (drop i es)
+    pub stretch-placed : (out : List ℕ) → length out ≡ 256 → Based (p .base) part qs out
+        → take k out ≡ take k (drop i es)
     stretch-placed out l f =
         let m : length (take k out) ≡ k = length-take-le k out (omega arith) in
         let n : length (take k (drop i es)) ≡ k =
@@ -401,7 +403,15 @@ module _ (s U : ℕ) (cs ps : List ℕ) (q : Placing s U cs ps) where
         getD-take k out j 0 v ∙ f j (omega (arith, stretch-long)) ∙ element-at j v
         ∙ sym (getD-take k (drop i es) j 0 v ∙ getD-drop i es j 0))
 
-    pub stretch-base : baseAt b (marksOf part) qs (length qs) ≡ baseAt s (lastAt cs) ps (min (i + 256) (length ps))
-    stretch-base =
-        let e : i + k ≡ min (i + 256) (length ps) = omega arith in
-        rw stretch-long (base-on k (omega arith) ∙ rw e)
+    pub spot-next : (b : ℕ) → b ≡ baseAt (p .base) (marksOf part) qs (length qs)
+        → SpotAt s U cs ps (record { done = i + k; turn = t; base = b })
+    spot-next b e = record {
+      placing = at .placing;
+      within = omega arith;
+      some = m .some;
+      small = m .small;
+      page = λ l j.
+          let f : i + (256 + j) ≡ i + k + j = omega arith in
+          m .rest j ∙ at .page h (256 + j) ∙ ap (lastAt cs) f;
+      base = e ∙ rw stretch-long (base-on k (omega arith));
+    }

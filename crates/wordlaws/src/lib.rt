@@ -14,6 +14,19 @@ pub struct Turn {
     pub end: usize,
 }
 
+// How many counts are passed, and the sum up to there.
+pub struct Tally {
+    pub done: usize,
+    pub sum: usize,
+}
+
+// How many positions are passed, the page that the next one is on, and its base.
+pub struct Spot {
+    pub done: usize,
+    pub turn: Turn,
+    pub base: usize,
+}
+
 // The shapes of a word's three lists.
 pub struct Shapes {
     pub pages: Shape,

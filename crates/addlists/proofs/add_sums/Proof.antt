@@ -1,31 +1,30 @@
 -- `add_sums` lays the sums of the counts, less 1, stretch by stretch: those of the counts passed are laid.
 use mathlib.Core.Bool.{true}
-use mathlib.Core.Path.{_≡_, refl, sym, ap, ap₂, _∙_}
+use mathlib.Core.Path.{_≡_, refl, sym, ap, _∙_}
 use mathlib.Core.List.{List}
-use Prim.Native.Nat.{ℕ, _+_, _-_, _≤_, min}
-use native.Mathlib.Nat.{add-zero}
+use Prim.Native.Nat.{ℕ, _-_, _≤_}
 use native.Mathlib.Omega.{arith}
 use borrow.Author.Needs.{needs}
 use lib.ListN.{length, take, drop, length-take}
-use lib.Seq.{take-all}
+use Rattle.rules.specs.Limits.{limit}
 use Rattle.rules.specs.List.{rising, size}
-use Rattle.rules.specs.Term.{total, sums}
+use Rattle.rules.specs.Term.{sums}
 use Rattle.rules.specs.InPlace.{added}
 use Rattle.termlaws.proofs.SumLaws.{length-sums}
 use Rattle.filllaws.proofs.WriteLaws.{end-of}
-use Rattle.wordlaws.proofs.LayLaws.{Width, stretch-width, stretch-is, total-split}
-use Rattle.wordlaws.proofs.LayLaws.{stretch-sums, stretch-positive, stretch-total}
+use Rattle.wordlaws.proofs.LayLaws.{sums-all, TallyAt}
+use Rattle.wordlaws.proofs.LayLaws.{tally-first, tally-left, tally-next, tally-part, tally-behind}
 use Rattle.addlaws.proofs.MoreLaws.{added-none, stretch-rises, stretch-added, sums-rise}
 use Rattle.addlists.proofs.add_sums.Statement.{statement}
 use Rattle.addlists.proofs.add_sums.Tie as tie
 
 abbrev Inv-loop : tie.InvT-loop
-Inv-loop block₀ g from before counts sum₀ done₀ block sum done =
-    (length block ≡ length block₀) × (sum ≡ before + total (take done counts))
-    × (block ≡ added (g .u) (g .n) from (take done (sums before counts)) block₀)
+Inv-loop block₀ g from before counts at₀ block at =
+    (length block ≡ length block₀) × TallyAt before counts at
+    × (block ≡ added (g .u) (g .n) from (take (at .done) (sums before counts)) block₀)
 
 abbrev μ-loop : tie.MeasureT-loop
-μ-loop block₀ g from before counts sum₀ done₀ block sum done = length counts - done
+μ-loop block₀ g from before counts at₀ block at = length counts - at .done
 
 -- all elements
 abbrev els : tie.Start Inv-loop μ-loop → List ℕ
@@ -42,111 +41,82 @@ abbrev entry : tie.At-loop Inv-loop μ-loop → tie.Start Inv-loop μ-loop
 entry l = l .before .before .before
 
 loop-holds : tie.Need-loop-holds Inv-loop μ-loop
-unfolding total
 loop-holds c =
     let s = c .before .before in
     let a = s .args in (
       refl,
-      sym (add-zero (a .before)),
+      tally-first (a .before) (a .counts .now),
       sym (added-none (a .g .u) (a .g .n) (a .from) (a .block .now) (λ i. c .before .slice-known .given i .fits)
           (fits s)),
     )
 
--- what the sums of a stretch are put into
-abbrev loop-of : tie.After-put-sums Inv-loop μ-loop → tie.At-loop Inv-loop μ-loop
-loop-of c = c .before .before .before .before .before
-
--- how many there are
-width : (c : tie.After-lesser Inv-loop μ-loop)
-    → let l = c .before .before in
-    Width (entry l .args .counts .now) (l .loop .done) (c .lesser .result)
-width c =
-    let l = c .before .before in
-    let s = entry l in
-    stretch-width (s .args .counts .now) (l .loop .done) (c .lesser .result)
-    (omega (arith, s .pre .1, s .pre .0 .below, s .pre .0 .within)) (omega arith) (c .lesser .ensures)
-
-part-is : (c : tie.After-put-sums Inv-loop μ-loop)
-    → let l = loop-of c in
-    let k = c .before .before .before .lesser .result in
-    take (k - 0) (c .put-sums .last .0) ≡ take 256 (drop (l .loop .done) (els (entry l)))
-part-is c =
-    let l = loop-of c in
-    let a = entry l .args in
-    let cs = a .counts .now in
-    let m = c .before .before .before in
-    let k = m .lesser .result in
-    let w = width m in
-    let i = l .loop .done in
-    let n : k - 0 ≡ length (take (i + k - i) (drop i cs)) = omega (arith, w) in
-    let e : k ≡ min 256 (length (els (entry l)) - i) = omega (arith, m .lesser .ensures, length-sums (a .before) cs) in
-    ap (λ (j : ℕ). take j (c .put-sums .last .0)) n ∙ c .put-sums .ensures .1
-    ∙ ap₂ sums (l .loop .inv .1) (ap (λ (j : ℕ). take j (drop i cs)) (w .is))
-    ∙ sym (stretch-sums (a .before) cs i k) ∙ stretch-is (els (entry l)) i k e
-
-put-sums-requires : tie.Need-put-sums-requires Inv-loop μ-loop
-put-sums-requires c κs =
-    let m = c .before .before in
-    let l = m .before .before in
-    let s = entry l in
-    let a = s .args in
-    let w = width m in (
-      omega (arith, w),
-      rw (w .is) (stretch-positive (a .before) (a .counts .now) (l .loop .done) (m .lesser .result) (s .pre .2)),
-      rw (w .is) (omega (
-        arith,
-        l .loop .inv .1,
-        stretch-total (a .before) (a .counts .now) (l .loop .done) (m .lesser .result) (a .g .u) (s .pre .3),
-        s .pre .0 .within,
-      )),
+next-sums-requires : tie.Need-next-sums-requires Inv-loop μ-loop
+next-sums-requires c κs =
+    let l = c .before .before .before in
+    let s = entry l in (
+      refl,
+      l .loop .inv .1 .within,
+      omega (arith, s .pre .1, s .pre .0 .below, s .pre .0 .within),
+      s .pre .2,
+      tally-left (s .args .before) (s .args .counts .now) (l .loop .at) (l .loop .inv .1) limit
+          (omega (arith, s .pre .3, s .pre .0 .within)),
     )
+
+part-is : (c : tie.After-next-sums Inv-loop μ-loop)
+    → let l = c .before .before .before .before in
+    take (c .next-sums .result .done - l .loop .at .done - 0) (c .next-sums .last .0)
+    ≡ take 256 (drop (l .loop .at .done) (els (entry l)))
+part-is c =
+    let l = c .before .before .before .before in
+    let a = entry l .args in
+    tally-part (a .before) (a .counts .now) (l .loop .at) (l .loop .inv .1) (c .next-sums .result)
+    (c .next-sums .last .0) (c .next-sums .ensures)
 
 add-all-requires : tie.Need-add-all-requires Inv-loop μ-loop
 add-all-requires c κs =
-    let k = c .before .before .before .before in
-    let l = loop-of k in
-    let s = entry l in
-    let w = width (k .before .before .before) in
-    let part : List ℕ = take (k .before .before .before .lesser .result - 0) (k .put-sums .last .0) in (
+    let k = c .before .before .before .before .before .before .before in
+    let l = k .before .before .before .before in
+    let i = l .loop .at .done in
+    let s = entry l in (
       record {
         shape = s .pre .0 .shape;
         below = s .pre .0 .below;
         within = s .pre .0 .within;
         room = omega (arith, s .pre .0 .room, l .loop .inv .0);
       },
-      rw length-take (omega (arith, s .pre .1, w)),
-      stretch-rises (s .args .g .u) (l .loop .done) 256 (els s) part (els-rise s) (part-is k),
+      rw length-take (omega (arith, s .pre .1, k .next-sums .ensures .done)),
+      stretch-rises (s .args .g .u) i 256 (els s) (take (k .next-sums .result .done - i - 0) (k .next-sums .last .0))
+          (els-rise s) (part-is k),
     )
 
 loop-again : tie.Need-loop-again Inv-loop μ-loop
 loop-again c =
     let y = c .before .before in
-    let k = y .before .before .before .before .before in
-    let l = loop-of k in
+    let k = y .before .before .before .before .before .before .before .before in
+    let n = k .next-sums in
+    let l = k .before .before .before .before in
+    let t = l .loop .at in
+    let h = l .loop .inv .1 in
     let s = entry l in
     let a = s .args in
-    let cs = a .counts .now in
-    let i = l .loop .done in
-    let m = k .before .before .before in
-    let n = m .lesser .result in
-    let w = width m in (
+    let cs = a .counts .now in (
       omega arith,
-      k .put-sums .ensures .0 ∙ rw (w .is, l .loop .inv .1, stretch-is cs i n (m .lesser .ensures))
-          (omega (arith, total-split cs i 256)),
+      tally-next (a .before) cs t h (n .result) (n .last .0) (n .ensures),
       y .add-all .ensures
-          ∙ stretch-added (a .g .u) i 256 (els s) (take (n - 0) (k .put-sums .last .0)) (els-rise s) (part-is k)
-          (a .g .n) (a .from) (a .block .now) (l .loop .block) (omega (arith, w, length-sums (a .before) cs)) (fits s)
-          (l .loop .inv .2),
+          ∙ stretch-added (a .g .u) (t .done) 256 (els s) (take (n .result .done - t .done - 0) (n .last .0))
+          (els-rise s) (part-is k) (a .g .n) (a .from) (a .block .now) (l .loop .block)
+          (omega (arith, h .within, length-sums (a .before) cs)) (fits s) (l .loop .inv .2)
+          ∙ ap (λ (xs : List ℕ). added (a .g .u) (a .g .n) (a .from) xs (a .block .now))
+          (tally-behind (a .before) cs t h (n .result) (n .last .0) (n .ensures)),
     )
 
 returns : tie.Need-returns Inv-loop μ-loop
 returns c =
-    let l = c .before in
-    let s = entry l in
-    let a = s .args in
+    let l = c .before .before in
+    let a = entry l .args in
     l .loop .inv .2
     ∙ ap (λ (xs : List ℕ). added (a .g .u) (a .g .n) (a .from) xs (a .block .now))
-    (take-all (l .loop .done) (els s) (omega (arith, length-sums (a .before) (a .counts .now))))
+    (sums-all (a .before) (a .counts .now) (l .loop .at .done) (omega arith))
 
 pub add-sums-spec : {M : Type 1} → statement M
 add-sums-spec =
@@ -155,22 +125,19 @@ add-sums-spec =
     Inv-loop
     μ-loop
     loop-holds
-    (λ c. omega arith)
-    (λ c κs. search needs)
     (λ c. refl)
-    (λ c. omega (arith, width (c .before)))
-    (λ c. omega (arith, width (c .before)))
-    (λ c. omega arith)
-    (λ c. omega (arith, width (c .before)))
-    (λ c. omega (arith, width (c .before)))
-    put-sums-requires
-    (λ c. omega (arith, width (c .before .before .before .before .before)))
+    next-sums-requires
+    (λ c. omega (arith, c .before .before .before .next-sums .ensures .done))
     (λ c. omega arith)
     (λ c. omega arith)
-    (λ c. omega (arith, width (c .before .before .before .before .before .before)))
+    (λ c. omega arith)
+    (λ c. omega (arith, c .before .before .before .before .before .before .next-sums .ensures .done))
     add-all-requires
-    (λ c. omega (arith, width (c .before .before .before .before .before .before .before .before .before .before)))
-    (λ c. omega (arith, width (c .before .before .before .before .before .before .before .before .before .before)))
+    (λ c. omega (
+      arith,
+      c .before .before .before .before .before .before .before .before .before .before .next-sums
+          .ensures .done,
+    ))
     loop-again
     (λ c. search needs)
     returns)
