@@ -8,6 +8,8 @@ ghost use Rattle.rules.specs.Index.{indexT, indexRefusal};
 ghost use Rattle.rules.specs.Questions.{byPhrase, phraseIn, answer, wordsGood, phraseGood, goodQuestion};
 ghost use Rattle.questions.specs.Wrote.{Wrote};
 ghost use Rattle.triallaws.specs.Asked.{offsetsIn, AskedIn, PhraseOpened};
+ghost use Rattle.bytetable.specs.Places.{PlacesOfOnes};
+use bytetable::Table;
 use triallaws::COUNTS;
 use triallaws::LEAD;
 use triallaws::OFFSETS;
@@ -43,31 +45,31 @@ fn open_phrase(card: &[u8], pairs: &[u32], terms: &mut [u32], lists: &mut [u32])
 }
 
 // Kind 4: the pages with a start of the phrase, each with the number of its starts.
-fn by_phrase(card: &[u8], pairs: &[u32], room: &mut [u32]) -> usize
-    requires { ⌜ (indexRefusal (now card) ≡ Accepted) × (phraseGood (indexT (now card)) (now pairs) ≡ true) ⌝ }
+fn by_phrase(table: &Table, card: &[u8], pairs: &[u32], room: &mut [u32]) -> usize
+    requires { ⌜ (indexRefusal (now card) ≡ Accepted) × (phraseGood (indexT (now card)) (now pairs) ≡ true) × PlacesOfOnes (now table) ⌝ }
     ensures { λ r. ⌜ Wrote (byPhrase (phraseIn (now (card .entry)) (now (pairs .entry)))) (now (room .entry)) r
         (now (room .exit)) ⌝ }
 {
     let mut terms = [0u32; 8];
     let mut lists = [0u32; 201];
     let k = open_phrase(card, pairs, &mut terms, &mut lists);
-    pairs::put_starts(card, &terms[0..k], &lists, room)
+    pairs::put_starts(table, card, &terms[0..k], &lists, room)
 }
 
 // The answer of a question that may be asked, whole at the front of the room; 0 where it does not fit.
-pub fn answer_one(card: &[u8], kind: u32, args: &[u32], room: &mut [u32]) -> usize
-    requires { ⌜ (indexRefusal (now card) ≡ Accepted) × (goodQuestion (indexT (now card)) kind (now args) ≡ true) ⌝ }
+pub fn answer_one(table: &Table, card: &[u8], kind: u32, args: &[u32], room: &mut [u32]) -> usize
+    requires { ⌜ (indexRefusal (now card) ≡ Accepted) × (goodQuestion (indexT (now card)) kind (now args) ≡ true) × PlacesOfOnes (now table) ⌝ }
     ensures { λ r. ⌜ Wrote (answer (now (card .entry)) kind (now (args .entry))) (now (room .entry)) r
         (now (room .exit)) ⌝ }
 {
     if kind == 1 {
-        return kinds::by_rank(card, args[0] as usize, args[1] as usize, room);
+        return kinds::by_rank(table, card, args[0] as usize, args[1] as usize, room);
     }
     if kind == 2 {
-        return kinds::by_bound(card, args[0], args[1] as usize, room);
+        return kinds::by_bound(table, card, args[0], args[1] as usize, room);
     }
     if kind == 3 {
-        return bycommon::by_common(card, args, room);
+        return bycommon::by_common(table, card, args, room);
     }
-    by_phrase(card, args, room)
+    by_phrase(table, card, args, room)
 }

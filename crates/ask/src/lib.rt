@@ -8,13 +8,15 @@ ghost use Rattle.rules.specs.Index.{indexT, indexRefusal};
 ghost use Rattle.rules.specs.Ask.{asked, put, fitted};
 ghost use Rattle.rules.specs.Promises.{Answered};
 ghost use Rattle.questions.specs.Formed.{formed, answersTo};
+ghost use Rattle.bytetable.specs.Places.{PlacesOfOnes};
+use bytetable::Table;
 use rules::INDEX_T_AT;
 use rules::Outcome;
 use rules::Refusal;
 
 // Answers well-formed questions in turn, each behind the answers before it.
-fn answer_all(card: &[u8], questions: &[u32], room: &mut [u32]) -> Outcome
-    requires { ⌜ (indexRefusal (now card) ≡ Accepted) × (formed (indexT (now card)) (now questions) ≡ true) ⌝ }
+fn answer_all(table: &Table, card: &[u8], questions: &[u32], room: &mut [u32]) -> Outcome
+    requires { ⌜ (indexRefusal (now card) ≡ Accepted) × (formed (indexT (now card)) (now questions) ≡ true) × PlacesOfOnes (now table) ⌝ }
     ensures { λ r. ⌜ asked r (now (room .exit))
         ≡ put (fitted (length (now (room .entry))) (answersTo (now (card .entry)) (now (questions .entry))))
         (now (room .entry)) ⌝ }
@@ -25,7 +27,13 @@ fn answer_all(card: &[u8], questions: &[u32], room: &mut [u32]) -> Outcome
         let from = at + 2;
         let to = questions::end_of(questions, at);
         let used = run.used;
-        let size = answer::answer_one(card, questions[at], &questions[from..to], &mut room[used..]);
+        let size = answer::answer_one(
+            table,
+            card,
+            questions[at],
+            &questions[from..to],
+            &mut room[used..],
+        );
         if size == 0 {
             return replies::stopped(run);
         }
@@ -54,5 +62,6 @@ pub fn ask(card: &[u8], questions: &[u32], room: &mut [u32]) -> Outcome
             used: 0,
         };
     }
-    answer_all(card, questions, room)
+    let table = bytetable::places();
+    answer_all(&table, card, questions, room)
 }

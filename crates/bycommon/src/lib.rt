@@ -11,16 +11,18 @@ ghost use Rattle.questions.specs.Wrote.{Wrote};
 ghost use Rattle.querylaws.specs.Lists.{Lists};
 ghost use Rattle.querylaws.specs.Listings.{wholeIn};
 ghost use Rattle.bycommon.specs.Tallies.{tallied};
+ghost use Rattle.bytetable.specs.Places.{PlacesOfOnes};
+use bytetable::Table;
 use querylaws::LENGTH;
 
 // Puts the answer into room that is enough for it.
-fn put_common(card: &[u8], shapes: &[u32], k: usize, room: &mut [u32]) -> usize
+fn put_common(table: &Table, card: &[u8], shapes: &[u32], k: usize, room: &mut [u32]) -> usize
     requires { ⌜ Lists (now card) (now shapes) k
-        × (length (wholeIn (now card) (now shapes) k .listed) + 3 ≤ length (now room)) ⌝ }
+        × (length (wholeIn (now card) (now shapes) k .listed) + 3 ≤ length (now room)) × PlacesOfOnes (now table) ⌝ }
     ensures { λ r. ⌜ Wrote (tallied (wholeIn (now (card .entry)) (now (shapes .entry)) k)) (now (room .entry)) r
         (now (room .exit)) ⌝ }
 {
-    let listed = query::list_common(card, shapes, k, &mut room[3..]);
+    let listed = query::list_common(table, card, shapes, k, &mut room[3..]);
     room[0] = (listed.found + 2) as u32;
     room[1] = listed.seeks;
     room[2] = listed.looks;
@@ -28,8 +30,8 @@ fn put_common(card: &[u8], shapes: &[u32], k: usize, room: &mut [u32]) -> usize
 }
 
 // The pages of the words; they are counted first only where the room may be too small for them.
-pub fn by_common(card: &[u8], terms: &[u32], room: &mut [u32]) -> usize
-    requires { ⌜ (indexRefusal (now card) ≡ Accepted) × (wordsGood (indexT (now card)) (now terms) ≡ true) ⌝ }
+pub fn by_common(table: &Table, card: &[u8], terms: &[u32], room: &mut [u32]) -> usize
+    requires { ⌜ (indexRefusal (now card) ≡ Accepted) × (wordsGood (indexT (now card)) (now terms) ≡ true) × PlacesOfOnes (now table) ⌝ }
     ensures { λ r. ⌜ Wrote
         (byCommon (indexN (now (card .entry))) (listsIn (now (card .entry)) (now (terms .entry))))
         (now (room .entry)) r (now (room .exit)) ⌝ }
@@ -38,12 +40,12 @@ pub fn by_common(card: &[u8], terms: &[u32], room: &mut [u32]) -> usize
     let mut shapes = [0u32; 64];
     wordlists::open_pages(card, terms, &mut shapes);
     if rows::number(&shapes, 0, LENGTH) + 3 <= room.len() {
-        return put_common(card, &shapes, k, room);
+        return put_common(table, card, &shapes, k, room);
     }
     let mut none = [0u32; 0];
-    let counted = query::list_common(card, &shapes, k, &mut none);
+    let counted = query::list_common(table, card, &shapes, k, &mut none);
     if room.len() < counted.found + 3 {
         return 0;
     }
-    put_common(card, &shapes, k, room)
+    put_common(table, card, &shapes, k, room)
 }

@@ -7,11 +7,13 @@ ghost use Rattle.rules.specs.Counts.{onesBelow};
 ghost use Rattle.rules.specs.ReadList.{decode};
 ghost use Rattle.readlaws.specs.Open.{Open, shapeIn};
 ghost use Rattle.readlaws.specs.Open.{Sought, OneAt, OneAhead};
+ghost use Rattle.bytetable.specs.Places.{PlacesOfOnes};
+use bytetable::Table;
 use shape::Shape;
 
 // The place of the one number `rank` of a run, of whose ones `before` lie below place `start`.
-fn one_past(run: &[u8], start: usize, before: usize, rank: usize) -> usize
-    requires { ⌜ OneAhead (now run) start before rank ⌝ }
+fn one_past(table: &Table, run: &[u8], start: usize, before: usize, rank: usize) -> usize
+    requires { ⌜ OneAhead (now run) start before rank × PlacesOfOnes (now table) ⌝ }
     ensures { λ r. ⌜ OneAt (now (run .entry)) 0 rank r × (r < 64 * (length (now (run .entry)) / 8)) ⌝ }
 {
     let mut k = start / 64;
@@ -24,38 +26,45 @@ fn one_past(run: &[u8], start: usize, before: usize, rank: usize) -> usize
         x = runs::run_word(run, 0, k);
         counts = selection::running_counts(x);
     }
-    64 * k + selection::select_by(x, counts, left as u32) as usize
+    64 * k + selection::select_by(table, x, counts, left as u32) as usize
 }
 
 // The place in the upper run of the one number `rank`, from the last pointer before it. It takes the three numbers of
 // the shape that it needs, and not the shape, so that a call has all in registers.
-fn place_of(block: &[u8], last: usize, n: usize, upper: usize, rank: usize) -> usize
-    requires { ⌜ Sought (now block) last n rank × (upper ≡ shapeIn (now block) .upper) ⌝ }
+fn place_of(table: &Table, block: &[u8], last: usize, n: usize, upper: usize, rank: usize) -> usize
+    requires { ⌜ Sought (now block) last n rank × (upper ≡ shapeIn (now block) .upper) × PlacesOfOnes (now table) ⌝ }
     ensures { λ r. ⌜ OneAt (now (block .entry)) upper rank r ⌝ }
 {
     let i = pointers::pointer_before(block, last, n, rank);
     let start = reading::pointer_in(block, i);
     let end = block.len();
-    one_past(&block[upper..end], start, start - 256 * i, rank)
+    one_past(table, &block[upper..end], start, start - 256 * i, rank)
 }
 
 // Element number `rank`, found without reading the elements before it.
-pub fn element_at(block: &[u8], g: Shape, rank: usize) -> usize
-    requires { ⌜ Open (now block) g × (rank < g .n) ⌝ }
+pub fn element_at(table: &Table, block: &[u8], g: Shape, rank: usize) -> usize
+    requires { ⌜ Open (now block) g × (rank < g .n) × PlacesOfOnes (now table) ⌝ }
     ensures { λ r. ⌜ r ≡ getD (decode (now (block .entry))) rank 0 ⌝ }
 {
-    let found = place_of(block, pointers::last_pointer(g), g.n, g.upper, rank);
+    let found = place_of(table, block, pointers::last_pointer(g), g.n, g.upper, rank);
     reading::value_at(block, g, found, rank)
 }
 
 // That place, from `start` on, below which `before` ones lie; from a pointer where that is far.
-pub fn place_near(block: &[u8], g: Shape, start: usize, before: usize, rank: usize) -> usize
+pub fn place_near(
+    table: &Table,
+    block: &[u8],
+    g: Shape,
+    start: usize,
+    before: usize,
+    rank: usize,
+) -> usize
     requires { ⌜ Open (now block) g × (rank < g .n) × (onesBelow (now block) (g .upper) start ≡ before)
-        × (before ≤ rank) ⌝ }
+        × (before ≤ rank) × PlacesOfOnes (now table) ⌝ }
     ensures { λ r. ⌜ OneAt (now (block .entry)) (g .upper) rank r ⌝ }
 {
     if before + 256 < rank {
-        return place_of(block, pointers::last_pointer(g), g.n, g.upper, rank);
+        return place_of(table, block, pointers::last_pointer(g), g.n, g.upper, rank);
     }
-    one_past(reading::upper_of(block, g), start, before, rank)
+    one_past(table, reading::upper_of(block, g), start, before, rank)
 }

@@ -5,6 +5,8 @@ ghost use Prim.Native.Nat.{_+_, _-_, _*_, _/_, _^_, _≤_, _<_};
 ghost use lib.Count.{ones};
 ghost use Rattle.readlaws.specs.Open.{Open};
 ghost use Rattle.walklaws.specs.Walks.{Started, Paid, Skipping, ZeroIn, AtZero, Skipped, Passed};
+ghost use Rattle.bytetable.specs.Places.{PlacesOfOnes};
+use bytetable::Table;
 use shape::Shape;
 use walklaws::Ones;
 use walklaws::StartPlace;
@@ -26,13 +28,18 @@ fn with_ones(x: usize, left: u64) -> usize
 }
 
 // Goes on to zero number h of the run, counted from 1, which is in what is left of the word.
-fn to_zero(at: Ones, h: usize) -> Ones
-    requires { ⌜ ZeroIn h at ⌝ }
+fn to_zero(table: &Table, at: Ones, h: usize) -> Ones
+    requires { ⌜ ZeroIn h at × PlacesOfOnes (now table) ⌝ }
     ensures { λ r. ⌜ AtZero h at r ⌝ }
 {
     let j = h + at.rank - 64 * at.k - 1;
     let zeros = !at.left;
-    let place = selection::select_by(zeros, selection::running_counts(zeros), j as u32) as usize;
+    let place = selection::select_by(
+        table,
+        zeros,
+        selection::running_counts(zeros),
+        j as u32,
+    ) as usize;
     Ones {
         left: fields::from_bit(at.left, place),
         k: at.k,
@@ -42,8 +49,8 @@ fn to_zero(at: Ones, h: usize) -> Ones
 
 // Passes words by their counts of ones to the one with zero number h, and stands there. Among the zeros of what is left
 // of a word, with all bits before that, this zero has the number `wanted`.
-fn skip(s: &[u8], g: Shape, h: usize, from: Ones, looks: &mut u32) -> Ones
-    requires { ⌜ Open (now s) g × (h + g .n ≤ g .bits) × Skipping (now s) g h from × (now looks ≤ 2 ^ 31 + from .k) ⌝ }
+fn skip(table: &Table, s: &[u8], g: Shape, h: usize, from: Ones, looks: &mut u32) -> Ones
+    requires { ⌜ Open (now s) g × (h + g .n ≤ g .bits) × Skipping (now s) g h from × (now looks ≤ 2 ^ 31 + from .k) × PlacesOfOnes (now table) ⌝ }
     ensures { λ r. ⌜ Skipped (now (s .entry)) g h r × Paid (from .k) (now (looks .entry)) (r .k) (now (looks .exit)) ⌝ }
 {
     let mut left = from.left;
@@ -60,14 +67,14 @@ fn skip(s: &[u8], g: Shape, h: usize, from: Ones, looks: &mut u32) -> Ones
         k,
         rank: wanted + 64 * k - h,
     };
-    to_zero(at, h)
+    to_zero(table, at, h)
 }
 
 // Looks at the word of the start, and passes the cursor's own element, which is below the bound; then passes on to the
 // zero before the bound's high part where that is not near.
-pub fn pass(s: &[u8], g: Shape, b: usize, from: StartPlace, looks: &mut u32) -> Ones
+pub fn pass(table: &Table, s: &[u8], g: Shape, b: usize, from: StartPlace, looks: &mut u32) -> Ones
     requires { ⌜ Open (now s) g × (b < g .u) × Started (now s) g b from × (from .bit < g .bits)
-        × (now looks < 2 ^ 31) ⌝ }
+        × (now looks < 2 ^ 31) × PlacesOfOnes (now table) ⌝ }
     ensures { λ r. ⌜ Passed (now (s .entry)) g b r
         × Paid (from .bit / 64) (now (looks .entry) + 1) (r .k) (now (looks .exit)) ⌝ }
 {
@@ -82,5 +89,5 @@ pub fn pass(s: &[u8], g: Shape, b: usize, from: StartPlace, looks: &mut u32) -> 
     if h <= from.zeros + 3 {
         return at;
     }
-    skip(s, g, h, at, looks)
+    skip(table, s, g, h, at, looks)
 }

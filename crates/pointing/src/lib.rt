@@ -21,8 +21,11 @@ fn after_zero(x: u64, j: usize) -> usize
     requires { ⌜ j + ones x < 64 ⌝ }
     ensures { λ r. ⌜ After (onesTo x) (j + 1) r × (r ≤ 64) ⌝ }
 {
-    let zeros = !x;
-    selection::select_by(zeros, selection::running_counts(zeros), j as u32) as usize + 1
+    let mut zeros = !x;
+    for _ in 0..j {
+        zeros = zeros & (zeros - 1);
+    }
+    u64::trailing_zeros(zeros) as usize + 1
 }
 
 // Passes words of a run of b bits by their counts of ones, up to the word with zero number h or to the run's end.

@@ -8,6 +8,8 @@ ghost use Rattle.querylaws.specs.Lists.{Lists};
 ghost use Rattle.querylaws.specs.Queries.{movedIn, toldIn, Seekable, Running};
 ghost use Rattle.querylaws.specs.Batches.{Batched};
 ghost use Rattle.querylaws.specs.Listings.{wholeIn, laidWithin, Tells};
+ghost use Rattle.bytetable.specs.Places.{PlacesOfOnes};
+use bytetable::Table;
 use querylaws::FROM;
 use querylaws::Listed;
 use querylaws::Query;
@@ -24,14 +26,14 @@ struct InHand {
 }
 
 // A seek for b on list i, by the cursor in hand: the query comes back as it was, the hand moved, and the rank told.
-fn seek_in(card: &[u8], shapes: &[u32], mut s: InHand, i: usize, b: usize) -> InHand
-    requires { ⌜ Seekable (now card) (now shapes) i (s .hand) ⌝ }
+fn seek_in(table: &Table, card: &[u8], shapes: &[u32], mut s: InHand, i: usize, b: usize) -> InHand
+    requires { ⌜ Seekable (now card) (now shapes) i (s .hand) × PlacesOfOnes (now table) ⌝ }
     ensures { λ r. ⌜ (r .q ≡ s .q) × (r .hand ≡ movedIn (now (card .entry)) (now (shapes .entry)) i (s .hand) b)
         × (r .rank ≡ toldIn (now (card .entry)) (now (shapes .entry)) i (s .hand) b) ⌝ }
 {
     let from = rows::number(shapes, i, FROM);
     let to = rows::number(shapes, i, TO);
-    let moved = seek::seek(&card[from..to], rows::shape_in(shapes, i), s.hand, b);
+    let moved = seek::seek(table, &card[from..to], rows::shape_in(shapes, i), s.hand, b);
     let hand = moved.cursor;
     s.hand = hand;
     s.rank = moved.rank;
@@ -52,8 +54,16 @@ fn turn_of(q: Query, mark: u32, rank: u32, found: usize) -> Turn
 
 // Lists the pages from b0 on that the first k lists share, until the room is full or none is left. It is the one loop
 // of seeks, and the query goes by value through each of them.
-pub fn batch(card: &[u8], shapes: &[u32], q0: Query, k: usize, b0: usize, room: &mut [u32]) -> Turn
-    requires { ⌜ Running (now card) (now shapes) k q0 b0 × (0 < length (now room)) ⌝ }
+pub fn batch(
+    table: &Table,
+    card: &[u8],
+    shapes: &[u32],
+    q0: Query,
+    k: usize,
+    b0: usize,
+    room: &mut [u32],
+) -> Turn
+    requires { ⌜ Running (now card) (now shapes) k q0 b0 × (0 < length (now room)) × PlacesOfOnes (now table) ⌝ }
     ensures { λ r. ⌜ Batched (now (card .entry)) (now (shapes .entry)) k q0 b0 (now (room .entry)) r
         (now (room .exit)) ⌝ }
 {
@@ -63,7 +73,7 @@ pub fn batch(card: &[u8], shapes: &[u32], q0: Query, k: usize, b0: usize, room: 
     let mut found = 0;
     loop {
         let hand = q.cursors[i];
-        let s = seek_in(card, shapes, InHand { q, hand, rank: 0 }, i, b);
+        let s = seek_in(table, card, shapes, InHand { q, hand, rank: 0 }, i, b);
         let back = s.q;
         q = back;
         let c = s.hand;
@@ -94,8 +104,8 @@ pub fn batch(card: &[u8], shapes: &[u32], q0: Query, k: usize, b0: usize, room: 
 
 // Counts the pages that the first k lists share, and lists them at the room's front, as far as it goes; those behind its
 // end go to a room that is dropped.
-pub fn list_common(card: &[u8], shapes: &[u32], k: usize, room: &mut [u32]) -> Listed
-    requires { ⌜ Lists (now card) (now shapes) k ⌝ }
+pub fn list_common(table: &Table, card: &[u8], shapes: &[u32], k: usize, room: &mut [u32]) -> Listed
+    requires { ⌜ Lists (now card) (now shapes) k × PlacesOfOnes (now table) ⌝ }
     ensures { λ r. ⌜ Tells (wholeIn (now (card .entry)) (now (shapes .entry)) k) r
         × (now (room .exit) ≡ laidWithin (wholeIn (now (card .entry)) (now (shapes .entry)) k .listed)
         (now (room .entry))) ⌝ }
@@ -108,12 +118,12 @@ pub fn list_common(card: &[u8], shapes: &[u32], k: usize, room: &mut [u32]) -> L
         found: 0,
     };
     if 0 < room.len() {
-        s = batch(card, shapes, q, k, 0, room);
+        s = batch(table, card, shapes, q, k, 0, room);
     }
     let mut found = s.found;
     let mut rest = [0u32; 64];
     while s.mark != SPENT {
-        s = batch(card, shapes, s.q, k, s.mark as usize, &mut rest);
+        s = batch(table, card, shapes, s.q, k, s.mark as usize, &mut rest);
         found += s.found;
     }
     rows::totals(s.q, found)

@@ -4,16 +4,18 @@ ghost use mathlib.Core.Path.{_≡_};
 ghost use Prim.Native.Nat.{_+_, _*_, _/_, _%_, _^_, _<_};
 ghost use lib.Count.{ones};
 ghost use Rattle.fields.specs.Words.{placeOfOne};
+ghost use Rattle.bytetable.specs.Places.{PlacesOfOnes};
 ghost use Rattle.selectlaws.specs.ByteCounts.{each, byteOnes, runningOnes, highestByte, marked};
+use bytetable::Table;
 use std::num::wrapping_add_u64;
 
 // How many ones each byte has.
 fn byte_counts(x: u64) -> u64
     ensures { λ r. ⌜ r ≡ byteOnes 8 x ⌝ }
 {
-    let pairs = (x & 0x5555555555555555) + ((x >> 1) & 0x5555555555555555);
+    let pairs = x - ((x >> 1) & 0x5555555555555555);
     let halves = (pairs & 0x3333333333333333) + ((pairs >> 2) & 0x3333333333333333);
-    (halves & 0x0F0F0F0F0F0F0F0F) + ((halves >> 4) & 0x0F0F0F0F0F0F0F0F)
+    (halves + (halves >> 4)) & 0x0F0F0F0F0F0F0F0F
 }
 
 // Each byte with those below it added.
@@ -47,22 +49,20 @@ fn above(sums: u64, j: u32) -> u64
     ((sums | 0x8080808080808080) - (j as u64 + 1) * 0x0101010101010101) & 0x8080808080808080
 }
 
-// The place of the one number j, counted from 0, of a byte, or 8: each bit is spread to a byte of its own.
-fn one_of_byte(b: u8, j: u32) -> u32
-    requires { ⌜ j < 8 ⌝ }
+// The place of the one number j, counted from 0, of a byte, or 8, by the table.
+fn one_of_byte(table: &Table, b: u8, j: u32) -> u32
+    requires { ⌜ (j < 8) × PlacesOfOnes (now table) ⌝ }
     ensures { λ r. ⌜ r ≡ placeOfOne 8 b j ⌝ }
 {
-    let spread = (b as u64 * 0x0101010101010101) & 0x8040201008040201;
-    let ones = ((spread + 0x7F7F7F7F7F7F7F7F) >> 7) & 0x0101010101010101;
-    u64::trailing_zeros(above(summed(ones), j)) / 8
+    table[b as usize * 8 + j as usize] as u32
 }
 
 // The place of the one number j, counted from 0, of a word that has more ones, by its running counts.
-pub fn select_by(x: u64, counts: u64, j: u32) -> u32
-    requires { ⌜ (counts ≡ runningOnes 8 0 x) × (j < ones x) ⌝ }
+pub fn select_by(table: &Table, x: u64, counts: u64, j: u32) -> u32
+    requires { ⌜ (counts ≡ runningOnes 8 0 x) × (j < ones x) × PlacesOfOnes (now table) ⌝ }
     ensures { λ r. ⌜ (r ≡ placeOfOne 64 x j) × (r < 64) ⌝ }
 {
     let p = u64::trailing_zeros(above(counts, j)) - 7;
     let before = (((counts << 8) >> p) & 255) as u32;
-    p + one_of_byte(((x >> p) & 255) as u8, j - before)
+    p + one_of_byte(table, ((x >> p) & 255) as u8, j - before)
 }

@@ -8,7 +8,7 @@ use native.Mathlib.Nat.{mul-add-mod-self-right, add-mul, mul-assoc, mod-lt, lt-o
 use native.Mathlib.Decide.{decLt}
 use native.Mathlib.Omega.{arith}
 use lib.Bits.{bitAnd}
-use lib.Bits.{and-mask, and-block, and-zero-r, and-le-r}
+use lib.Bits.{and-mask, and-mod, and-block, and-zero-r, and-le-l, and-le-r}
 use lib.Count.{ones, ones-le}
 use lib.Dec.{T, eqb, eqb→eq, lit<}
 use lib.Arith.{digits-lt, mod-mul}
@@ -41,38 +41,45 @@ shift-part k s t x l m M e hl hm =
     ∙ and-block k (x / 2 ^ s) M (u * 2 ^ t + v) m low (lt-of-lt-of-le hm (pow-mono {j = k} (omega arith)))
     ∙ ap (λ (y : ℕ). bitAnd (x / 2 ^ s) M * 2 ^ k + y) a'
 
--- `(x & m) + ((x >> s) & m)`
-abbrev pub folded : ℕ → ℕ → ℕ → ℕ
-folded s m x = bitAnd x m + bitAnd (x / 2 ^ s) m
+-- `x - ((x >> 1) & m)`
+abbrev pub paired : ℕ → ℕ → ℕ
+paired m x = x - bitAnd (x / 2) m
 
-folded-part : (k s t x l m M : ℕ) → s + t ≡ k → l < 2 ^ k → m < 2 ^ t
-    → folded s (M * 2 ^ k + m) (x * 2 ^ k + l) ≡ folded s M x * 2 ^ k + folded s m l
-folded-part k s t x l m M e hl hm =
-    let lo : m < 2 ^ k = lt-of-lt-of-le hm (pow-mono {j = k} (omega arith)) in
-    let a = and-block k x M l m hl lo in
-    let b = shift-part k s t x l m M e hl hm in
-    ap₂ (λ (y z : ℕ). y + z) a b ∙ omega (arith, add-mul (bitAnd x M) (bitAnd (x / 2 ^ s) M) (2 ^ k))
+paired-part : (x l m M : ℕ) → l < 256 → m < 128
+    → paired (M * 256 + m) (x * 256 + l) ≡ paired M x * 256 + paired m l
+paired-part x l m M hl hm =
+    omega (arith, shift-part 8 1 7 x l m M refl hl hm, and-le-l (x / 2) M, and-le-l (l / 2) m)
 
-pub folded-le : (s m x : ℕ) → folded s m x ≤ m + m
-folded-le s m x = omega (arith, and-le-r x m, and-le-r (x / 2 ^ s) m)
+-- `(x & m) + ((x >> 2) & m)`
+abbrev folded : ℕ → ℕ → ℕ
+folded m x = bitAnd x m + bitAnd (x / 4) m
 
-folded-lt : (s m x : ℕ) → m < 128 → folded s m x < 256
-folded-lt s m x h = omega (arith, folded-le s m x)
+folded-part : (x l m M : ℕ) → l < 256 → m < 64
+    → folded (M * 256 + m) (x * 256 + l) ≡ folded M x * 256 + folded m l
+folded-part x l m M hl hm =
+    omega (arith, and-block 8 x M l m hl (omega arith), shift-part 8 2 6 x l m M refl hl hm)
 
--- the ones of each byte, by adding bits, pairs and halves
-abbrev pub counted : ℕ → ℕ → ℕ
-counted m x = folded 4 (each m 15) (folded 2 (each m 51) (folded 1 (each m 85) x))
+pub folded-le : (m x : ℕ) → folded m x ≤ m + m
+folded-le m x = omega (arith, and-le-r x m, and-le-r (x / 4) m)
+
+-- the ones of each half of a byte, by adding bits and pairs
+abbrev halves : ℕ → ℕ → ℕ
+halves m x = folded (each m 51) (paired (each m 85) x)
+
+-- the ones of each byte: `(h + (h >> 4)) & m` of its halves h
+abbrev counted : ℕ → ℕ → ℕ
+counted m x = bitAnd (halves m x + halves m x / 16) (each m 15)
 
 -- a test of every number below n
-unfoldable pub every : ℕ → (ℕ → Bool) → Bool
+unfoldable every : ℕ → (ℕ → Bool) → Bool
 every zero f = true
 every (suc n) f = f n && every n f
 
-both : (a b : Bool) → T (a && b) → T a × T b
+pub both : (a b : Bool) → T (a && b) → T a × T b
 both true b t = (tt, t)
 both false b t = absurd t
 
-pub every-at : (n : ℕ) (f : ℕ → Bool) → T (every n f) → (i : ℕ) → i < n → T (f i)
+every-at : (n : ℕ) (f : ℕ → Bool) → T (every n f) → (i : ℕ) → i < n → T (f i)
 unfolding every
 every-at zero f t i h = absurd (omega arith)
 every-at (suc n) f t i h =
@@ -83,34 +90,19 @@ every-at (suc n) f t i h =
           subst (λ (m : ℕ). T (f m)) e (both (f n) (every n f) t .0)
     ]
 
--- half a byte, by a computed test
-half-count : (l : ℕ) → l < 16 → folded 2 3 (folded 1 5 l) ≡ ones l
+-- one byte, by a computed test
+byte-count : (l : ℕ) → l < 256 → (halves 1 l + halves 1 l / 16) % 16 ≡ ones l
 unfolding every ones
-half-count l h = eqb→eq (folded 2 3 (folded 1 5 l)) (ones l)
-    (every-at 16 (λ i. eqb (folded 2 3 (folded 1 5 i)) (ones i)) tt l h)
+byte-count l h = eqb→eq ((halves 1 l + halves 1 l / 16) % 16) (ones l)
+    (every-at 256 (λ i. eqb ((halves 1 i + halves 1 i / 16) % 16) (ones i)) tt l h)
 
-byte-count : (l : ℕ) → l < 256 → folded 4 15 (folded 2 51 (folded 1 85 l)) ≡ ones l
-byte-count l b =
-    let h : ℕ = l / 16 in
-    let n : ℕ = l % 16 in
-    let hn : n < 16 = mod-lt l (pow-pos 4) in
-    let hh : h < 16 = omega arith in
-    let A : ℕ = folded 2 3 (folded 1 5 h) in
-    let B : ℕ = folded 2 3 (folded 1 5 n) in
-    let p : folded 1 85 l ≡ folded 1 5 h * 16 + folded 1 5 n =
-    ap (folded 1 85) (sym (split l 4)) ∙ folded-part 4 1 3 h n 5 5 refl hn (lit< tt) in
-    let q : folded 2 51 (folded 1 5 h * 16 + folded 1 5 n) ≡ A * 16 + B =
-    folded-part 4 2 2 (folded 1 5 h) (folded 1 5 n) 3 3 refl (omega (arith, folded-le 1 5 n)) (lit< tt) in
-    let a : A < 16 = omega (arith, folded-le 2 3 (folded 1 5 h)) in
-    let c : B < 16 = omega (arith, folded-le 2 3 (folded 1 5 n)) in
-    let low : bitAnd (A * 16 + B) 15 ≡ B = and-mask (A * 16 + B) 4 ∙ omega arith in
-    let up : (A * 16 + B) / 16 ≡ A = omega arith in
-    let o : ones l ≡ ones n + ones h = sym (ap ones (mod-eq-of-lt b)) ∙ ones-parts l 4 4
-    ∙ ap (λ (y : ℕ). ones n + ones y) (mod-eq-of-lt hh) in
-    let high : bitAnd A 15 ≡ A = and-mask A 4 ∙ mod-eq-of-lt a in
-    ap (λ (y : ℕ). folded 4 15 (folded 2 51 y)) p ∙ ap (folded 4 15) q
-    ∙ ap₂ (λ (y z : ℕ). y + z) low (ap (λ (y : ℕ). bitAnd y 15) up ∙ high)
-    ∙ omega (arith, half-count h hh, half-count n hn, o)
+and-low : (m x : ℕ) → bitAnd x (each m 51) % 16 ≤ 3
+and-low zero x = rw and-zero-r (omega arith)
+and-low (suc m) x = omega (arith, and-mod x (each (suc m) 51) 4, and-le-r (x % 16) (each (suc m) 51 % 16))
+
+-- the low half of the next byte is small, so that no byte of the sum overflows
+folded-low : (m x : ℕ) → folded (each m 51) x % 16 ≤ 6
+folded-low m x = omega (arith, and-low m x, and-low m (x / 4))
 
 pub counted-is : (m x : ℕ) → counted m x ≡ byteOnes m x
 unfolding byteOnes
@@ -119,14 +111,18 @@ counted-is (suc m) x =
     let h : ℕ = x / 256 in
     let l : ℕ = x % 256 in
     let hl : l < 256 = mod-lt x (pow-pos 8) in
-    let a : folded 1 (each (suc m) 85) x ≡ folded 1 (each m 85) h * 256 + folded 1 85 l =
-    ap (folded 1 (each (suc m) 85)) (sym (split x 8)) ∙ folded-part 8 1 7 h l 85 (each m 85) refl hl (lit< tt) in
-    let b = folded-part 8 2 6 (folded 1 (each m 85) h) (folded 1 85 l) 51 (each m 51) refl
-    (folded-lt 1 85 l (lit< tt)) (lit< tt) in
-    let c = folded-part 8 4 4 (folded 2 (each m 51) (folded 1 (each m 85) h))
-    (folded 2 51 (folded 1 85 l)) 15 (each m 15) refl (folded-lt 2 51 (folded 1 85 l) (lit< tt)) (lit< tt) in
-    ap (λ (y : ℕ). folded 4 (each (suc m) 15) (folded 2 (each (suc m) 51) y)) a ∙ ap (folded 4 (each (suc m) 15)) b ∙ c
-    ∙ ap₂ (λ (y z : ℕ). y * 256 + z) (counted-is m h) (byte-count l hl)
+    let H : ℕ = halves m h in
+    let v : ℕ = halves 1 l in
+    let r : ℕ = H % 16 * 16 + (v + v / 16) in
+    let a : halves (suc m) x ≡ H * 256 + v = ap (halves (suc m)) (sym (split x 8))
+    ∙ ap (folded (each (suc m) 51)) (paired-part h l 85 (each m 85) hl (lit< tt))
+    ∙ folded-part (paired (each m 85) h) (paired 85 l) 51 (each m 51) (omega arith) (lit< tt) in
+    let b : H * 256 + v + (H * 256 + v) / 16 ≡ (H + H / 16) * 256 + r = omega arith in
+    let hr : r < 256 = omega (arith, folded-le 51 (paired 85 l), folded-low m (paired (each m 85) h)) in
+    let low : bitAnd r 15 ≡ ones l = and-mask r 4 ∙ omega (arith, byte-count l hl) in
+    ap (λ (y : ℕ). bitAnd (y + y / 16) (each (suc m) 15)) a ∙ ap (λ (y : ℕ). bitAnd y (each (suc m) 15)) b
+    ∙ and-block 8 (H + H / 16) (each m 15) r 15 hr (lit< tt)
+    ∙ ap₂ (λ (y z : ℕ). y * 256 + z) (counted-is m h) low
 
 -- ---- the counts added up
 

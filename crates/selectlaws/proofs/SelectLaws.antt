@@ -1,6 +1,5 @@
 -- Laws behind `select_by`: the byte that holds a one, by the counts of ByteLaws, and the one within it.
 use mathlib.Core.Path.{_≡_, refl, sym, ap, ap₂, _∙_, subst}
-use mathlib.Core.Bool.{Bool, false}
 use mathlib.Core.Logic.{_⊎_, inl, inr}
 use Prim.Native.Nat.{ℕ, zero, suc, _+_, _-_, _*_, _/_, _%_, _^_, _≤_, _<_, min}
 use native.Mathlib.Nat.{mul-le-mul-right, mod-eq-of-lt, mod-one, mul-add, mul-assoc, mod-lt}
@@ -9,15 +8,15 @@ use native.Mathlib.Omega.{arith}
 use lib.Bits.{bitAnd, bitOr, or-block, or-shifted-r, or-add-and, and-le-l, and-high}
 use lib.Bits.{and-mask, and-step, and-self, and-block, and-zero-r, and-le-r}
 use lib.Count.{ones, ones-le, trailingZeros}
-use lib.Dec.{T, eqb, eqb→eq, lit<}
-use lib.Pow.{split, pow-pos}
+use lib.Dec.{lit<}
+use lib.Pow.{pow-pos}
 use Rattle.laws.proofs.BitLaws.{digit}
 use Rattle.laws.proofs.CountLaws.{ones-parts}
 use Rattle.fields.specs.Words.{placeOfOne}
 use Rattle.selectlaws.specs.ByteCounts.{each, runningOnes, marked}
 use Rattle.fields.proofs.WordLaws.{place-past, place-here, place-next, place-shl, place-trailing}
 use Rattle.fields.proofs.WordLaws.{place-mod, place-low, place-high}
-use Rattle.selectlaws.proofs.ByteLaws.{every, every-at, count-before}
+use Rattle.selectlaws.proofs.ByteLaws.{count-before}
 
 -- ---- the lowest one taken away
 
@@ -143,79 +142,6 @@ searched (suc m) a x j h hj l =
     ]
 
 -- ---- within the byte
-
--- each bit of b as a byte: `(((b * 0x01..) & 0x8040201008040201) + 0x7F..) >> 7) & 0x01..`
-abbrev spaced : ℕ → ℕ
-spaced b = bitAnd ((bitAnd (b * each 8 1) 9241421688590303745 + each 8 127) / 2 ^ 7) (each 8 1)
-
-pub spaced-fits : (b : ℕ) → bitAnd (b * each 8 1) 9241421688590303745 + each 8 127 < 2 ^ 64
-spaced-fits b = omega (arith, and-le-r (b * each 8 1) 9241421688590303745)
-
--- the sums of these, each byte with its highest bit set
-abbrev raised : ℕ → ℕ
-raised b = bitOr (spaced b * each 8 1 % 2 ^ 64) (each 8 128)
-
--- the first of the m low bytes of v whose highest bit is set; m where there is none
-firstHigh : ℕ → ℕ → ℕ
-firstHigh zero v = 0
-firstHigh (suc m) v = elim (v / 128 % 2) [ zero ↦ suc (firstHigh m (v / 256)) | suc _ ↦ 0 ]
-
-high-byte : (m v : ℕ)
-    → bitAnd v (each (suc m) 128) ≡ bitAnd (v / 256) (each m 128) * 2 ^ 8 + v / 128 % 2 * 2 ^ 7
-high-byte m v =
-    let q : v % 256 / 128 % 2 ≡ v / 128 % 2 = omega arith in
-    ap (λ (y : ℕ). bitAnd y (each (suc m) 128)) (sym (split v 8))
-    ∙ and-block 8 (v / 256) (each m 128) (v % 256) 128 (mod-lt v (pow-pos 8)) (lit< tt)
-    ∙ ap (λ (y : ℕ). bitAnd (v / 256) (each m 128) * 2 ^ 8 + y)
-    (and-high (v % 256) 1 7 ∙ ap (λ (y : ℕ). y * 2 ^ 7) q)
-
-high-place : (m v : ℕ) → placeOfOne (8 * m) (bitAnd v (each m 128)) 0 / 8 ≡ firstHigh m v
-unfolding firstHigh placeOfOne
-high-place zero v = refl
-high-place (suc m) v =
-    let t : ℕ = bitAnd (v / 256) (each m 128) in
-    let p : ℕ = placeOfOne (8 * m) t 0 in
-    elim (digit (v / 128)) [
-      | inl e ↦
-          let w : bitAnd v (each (suc m) 128) ≡ t * 2 ^ 8 = high-byte m v ∙ omega (arith, e) in
-          let d : (8 + p) / 8 ≡ suc (p / 8) = omega arith in
-          ap (λ (y : ℕ). placeOfOne (8 * suc m) y 0 / 8) w ∙ ap (λ (y : ℕ). y / 8) (mark-past m t) ∙ d
-          ∙ rw (e, firstHigh) (ap suc (high-place m (v / 256)))
-      | inr e ↦
-          let w : bitAnd v (each (suc m) 128) ≡ (t * 2 + 1) * 2 ^ 7 = high-byte m v ∙ omega (arith, e) in
-          ap (λ (y : ℕ). placeOfOne (8 * suc m) y 0 / 8) w ∙ ap (λ (y : ℕ). y / 8) (mark-here m t) ∙ rw (e, firstHigh)
-    ]
-
-high-first : (m v : ℕ) → trailingZeros (8 * m) (bitAnd v (each m 128)) / 8 ≡ firstHigh m v
-high-first m v = ap (λ (n : ℕ). n / 8) (place-trailing (8 * m) (bitAnd v (each m 128))) ∙ high-place m v
-
--- the test of a byte b; u is met as a number, and so is worked out once for all j
-sameByte : ℕ → ℕ → Bool
-sameByte b zero = false
-sameByte b (suc u) = every 8 (λ j. eqb (firstHigh 8 (suc u - (j + 1) * each 8 1)) (placeOfOne 8 b j))
-
-byte-tests : T (every 256 (λ b. sameByte b (raised b)))
-unfolding every sameByte firstHigh placeOfOne
-byte-tests = tt
-
-same-byte : (b u : ℕ) → T (sameByte b u) → (j : ℕ) → j < 8 → firstHigh 8 (u - (j + 1) * each 8 1) ≡ placeOfOne 8 b j
-unfolding sameByte
-same-byte b zero t j l = absurd t
-same-byte b (suc u) t j l =
-    eqb→eq (firstHigh 8 (suc u - (j + 1) * each 8 1)) (placeOfOne 8 b j)
-    (every-at 8 (λ i. eqb (firstHigh 8 (suc u - (i + 1) * each 8 1)) (placeOfOne 8 b i)) t j l)
-
-byte-first : (b j : ℕ) → b < 256 → j < 8
-    → trailingZeros 64 (marked 8 (spaced b * each 8 1 % 2 ^ 64) j) / 8 ≡ placeOfOne 8 b j
-byte-first b j h l =
-    high-first 8 (raised b - (j + 1) * each 8 1)
-    ∙ same-byte b (raised b) (every-at 256 (λ i. sameByte i (raised i)) byte-tests b h) j l
-
--- as `one_of_byte` has it, where s holds the sums and t the marks
-pub byte-place : (b j s t : ℕ) → b < 256 → j < 8 → s ≡ spaced b * each 8 1 % 2 ^ 64 → t ≡ marked 8 s j
-    → trailingZeros 64 t / 8 ≡ placeOfOne 8 b j
-byte-place b j s t h l e f =
-    ap (λ (n : ℕ). trailingZeros 64 n / 8) (f ∙ ap (λ (n : ℕ). marked 8 n j) e) ∙ byte-first b j h l
 
 -- the one number j of the word, as a one of the byte that holds it
 place-byte : (x j i : ℕ) → i < 8 → ones (x % 2 ^ (8 * i)) ≤ j → j < ones (x % 2 ^ (8 * i + 8))

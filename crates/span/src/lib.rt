@@ -3,6 +3,8 @@
 ghost use Prim.Native.Nat.{_+_, _≤_, _<_};
 ghost use Rattle.readlaws.specs.Open.{Open, OneAt};
 ghost use Rattle.span.specs.Walks.{WalkOn, PassedTo};
+ghost use Rattle.bytetable.specs.Places.{PlacesOfOnes};
+use bytetable::Table;
 use shape::Shape;
 
 // Where reading stands: how many elements are passed, one past the last of them, and the place behind its one.
@@ -25,14 +27,14 @@ pub fn walk_past(block: &[u8], g: Shape, place: usize, rank: usize) -> Walk
 }
 
 // Passes elements until n are passed.
-pub fn pass_to(block: &[u8], g: Shape, w: Walk, n: usize) -> Walk
-    requires { ⌜ WalkOn (now block) g w × (w .next ≤ n) × (n ≤ g .n) ⌝ }
+pub fn pass_to(table: &Table, block: &[u8], g: Shape, w: Walk, n: usize) -> Walk
+    requires { ⌜ WalkOn (now block) g w × (w .next ≤ n) × (n ≤ g .n) × PlacesOfOnes (now table) ⌝ }
     ensures { λ r. ⌜ PassedTo (now (block .entry)) g n r ⌝ }
 {
     if n == w.next {
         return w;
     }
-    let place = byrank::place_near(block, g, w.place, w.next, n - 1);
+    let place = byrank::place_near(table, block, g, w.place, w.next, n - 1);
     walk_past(block, g, place, n - 1)
 }
 

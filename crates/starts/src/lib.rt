@@ -2,6 +2,8 @@
 
 ghost use Prim.Native.Nat.{_-_};
 ghost use Rattle.triallaws.specs.Asked.{Turnable, CountedOn};
+ghost use Rattle.bytetable.specs.Places.{PlacesOfOnes};
+use bytetable::Table;
 use querylaws::Turn;
 use trial::Trial;
 use triallaws::COUNTS;
@@ -10,8 +12,15 @@ use triallaws::OFFSETS;
 use triallaws::POSITIONS;
 
 // The starts of several words on a page that all cursors are on: the words are turned to it only as they are needed.
-fn count_starts(card: &[u8], terms: &[u32], lists: &[u32], turn: Turn, words: &mut [usize]) -> usize
-    requires { ⌜ Turnable (now card) (now terms) (now lists) turn (now words) ⌝ }
+fn count_starts(
+    table: &Table,
+    card: &[u8],
+    terms: &[u32],
+    lists: &[u32],
+    turn: Turn,
+    words: &mut [usize],
+) -> usize
+    requires { ⌜ Turnable (now card) (now terms) (now lists) turn (now words) × PlacesOfOnes (now table) ⌝ }
     ensures { λ r. ⌜ CountedOn (now (card .entry)) (now (terms .entry)) (now (lists .entry)) (turn .mark - 1) r
         (now (words .exit)) ⌝ }
 {
@@ -22,7 +31,7 @@ fn count_starts(card: &[u8], terms: &[u32], lists: &[u32], turn: Turn, words: &m
         count: 0,
     };
     loop {
-        let turned = trying::turn_next(card, terms, lists, turn, at, words);
+        let turned = trying::turn_next(table, card, terms, lists, turn, at, words);
         let i = openlists::source_of(lists[LEAD] as usize, turned.standing);
         let offset = lists[OFFSETS + i] as usize;
         let next = phrase::position_from(
@@ -41,20 +50,21 @@ fn count_starts(card: &[u8], terms: &[u32], lists: &[u32], turn: Turn, words: &m
 
 // The starts on a page that all cursors are on; of a word alone, its positions there, and none of them is read.
 pub fn page_starts(
+    table: &Table,
     card: &[u8],
     terms: &[u32],
     lists: &[u32],
     turn: Turn,
     words: &mut [usize],
 ) -> usize
-    requires { ⌜ Turnable (now card) (now terms) (now lists) turn (now words) ⌝ }
+    requires { ⌜ Turnable (now card) (now terms) (now lists) turn (now words) × PlacesOfOnes (now table) ⌝ }
     ensures { λ r. ⌜ CountedOn (now (card .entry)) (now (terms .entry)) (now (lists .entry)) (turn .mark - 1) r
         (now (words .exit)) ⌝ }
 {
     if terms.len() == 1 {
         let rank = rows::rank_in(&lists[0..COUNTS], turn.q, 0);
-        let x = turning::ranks_at(card, &lists[COUNTS..POSITIONS], 0, rank, words);
+        let x = turning::ranks_at(table, card, &lists[COUNTS..POSITIONS], 0, rank, words);
         return x.to - x.from;
     }
-    count_starts(card, terms, lists, turn, words)
+    count_starts(table, card, terms, lists, turn, words)
 }

@@ -3,6 +3,8 @@
 ghost use mathlib.Core.Path.{_≡_};
 ghost use Prim.Native.Nat.{_-_, _<_};
 ghost use Rattle.triallaws.specs.Asked.{pagesIn, AskedIn, OnAll, TryingIn};
+ghost use Rattle.bytetable.specs.Places.{PlacesOfOnes};
+use bytetable::Table;
 use querylaws::Turn;
 use trial::Trial;
 use triallaws::COUNTS;
@@ -12,6 +14,7 @@ use triallaws::POSITIONS;
 // Turns the next word to be tried to the page that all cursors are on, where it is not turned yet; words are tried in
 // the order of their slots, of which the word that leads has the first.
 pub fn turn_next(
+    table: &Table,
     card: &[u8],
     terms: &[u32],
     lists: &[u32],
@@ -21,7 +24,7 @@ pub fn turn_next(
 ) -> Trial
     requires { ⌜ AskedIn (now card) (now terms) (now lists)
         × OnAll (now card) (now terms) (pagesIn (now lists)) (turn .q) (turn .mark - 1)
-        × TryingIn (now card) (now terms) (now lists) (turn .mark - 1) at (now words) ⌝ }
+        × TryingIn (now card) (now terms) (now lists) (turn .mark - 1) at (now words) × PlacesOfOnes (now table) ⌝ }
     ensures { λ r. ⌜ TryingIn (now (card .entry)) (now (terms .entry)) (now (lists .entry)) (turn .mark - 1) r
         (now (words .exit)) × (r .standing < r .turned) × (r .start ≡ at .start) × (r .standing ≡ at .standing) ⌝ }
 {
@@ -30,8 +33,8 @@ pub fn turn_next(
     }
     let i = openlists::source_of(lists[LEAD] as usize, at.standing);
     let rank = rows::rank_in(&lists[0..COUNTS], turn.q, at.standing);
-    let x = turning::ranks_at(card, &lists[COUNTS..POSITIONS], i, rank, words);
-    turning::turn_to(card, &lists[POSITIONS..LEAD], i, x, words);
+    let x = turning::ranks_at(table, card, &lists[COUNTS..POSITIONS], i, rank, words);
+    turning::turn_to(table, card, &lists[POSITIONS..LEAD], i, x, words);
     Trial {
         turned: at.turned + 1,
         start: at.start,

@@ -7,6 +7,8 @@ ghost use lib.ListN.{length};
 ghost use Rattle.querylaws.specs.Lists.{numberOf, partAt};
 ghost use Rattle.turning.specs.Words.{elementsAt, walkAt, withWalk, positionWalk, ranksOf};
 ghost use Rattle.turning.specs.Words.{BlockAt, Readable, Walked, TurnedOn};
+ghost use Rattle.bytetable.specs.Places.{PlacesOfOnes};
+use bytetable::Table;
 use span::Walk;
 
 // ---- a word's list
@@ -60,16 +62,23 @@ pub struct Ranks {
 }
 
 // Those of word i's page number `rank`, by the counts before it and with it.
-pub fn ranks_at(card: &[u8], counts: &[u32], i: usize, rank: usize, words: &mut [usize]) -> Ranks
+pub fn ranks_at(
+    table: &Table,
+    card: &[u8],
+    counts: &[u32],
+    i: usize,
+    rank: usize,
+    words: &mut [usize],
+) -> Ranks
     requires { ⌜ Readable (now card) (now counts) (now words) i (8 * i) × (walkAt (now words) (8 * i) .next ≤ rank)
-        × (rank < numberOf (now counts) i 7) ⌝ }
+        × (rank < numberOf (now counts) i 7) × PlacesOfOnes (now table) ⌝ }
     ensures { λ r. ⌜ (r ≡ ranksOf (elementsAt (now (card .entry)) (now (counts .entry)) i) rank)
         × Walked (now (card .entry)) (now (counts .entry)) (now (words .entry)) i (8 * i) (rank + 1)
         (now (words .exit)) ⌝ }
 {
     let block = part_at(card, counts, i);
     let g = rows::shape_in(counts, i);
-    let w = span::pass_to(block, g, walk_at(words, 8 * i), rank);
+    let w = span::pass_to(table, block, g, walk_at(words, 8 * i), rank);
     let v = span::pass_one(block, g, w);
     put_walk(words, 8 * i, v);
     Ranks {
@@ -79,14 +88,15 @@ pub fn ranks_at(card: &[u8], counts: &[u32], i: usize, rank: usize, words: &mut 
 }
 
 // Turns word i to the page of those positions: puts its span, and stands before them.
-pub fn turn_to(card: &[u8], shapes: &[u32], i: usize, x: Ranks, words: &mut [usize])
+pub fn turn_to(table: &Table, card: &[u8], shapes: &[u32], i: usize, x: Ranks, words: &mut [usize])
     requires { ⌜ Readable (now card) (now shapes) (now words) i (8 * i + 3)
-        × (positionWalk (now words) i .next ≤ x .from) × (x .from ≤ numberOf (now shapes) i 7) ⌝ }
+        × (positionWalk (now words) i .next ≤ x .from) × (x .from ≤ numberOf (now shapes) i 7) × PlacesOfOnes (now table) ⌝ }
     ensures { λ _. ⌜ TurnedOn (now (card .entry)) (now (shapes .entry)) (now (words .entry)) i x
         (now (words .exit)) ⌝ }
 {
     let w = walk_at(words, 8 * i + POSITIONS);
     let v = span::pass_to(
+        table,
         part_at(card, shapes, i),
         rows::shape_in(shapes, i),
         w,

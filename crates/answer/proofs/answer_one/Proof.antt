@@ -37,6 +37,7 @@ by-rank-requires c κs = (
   c .before .before .before .before .before .before .before .pre .0,
   pair
       (c .before .before .before .before .before .before .before) (omega arith) (omega arith) .1,
+  c .before .before .before .before .before .before .before .pre .2,
 )
 
 returns : tie.Need-returns
@@ -61,6 +62,7 @@ by-bound-requires c κs = (
   c .before .before .before .before .before .before .before .before .pre .0,
   pair
       (c .before .before .before .before .before .before .before .before) (omega arith) (omega arith) .1,
+  c .before .before .before .before .before .before .before .before .pre .2,
 )
 
 returns-2 : tie.Need-returns-2
@@ -72,8 +74,11 @@ returns-2 c =
 by-common-requires : tie.Need-by-common-requires
 by-common-requires c κs =
     let b = c .before .before .before .before .before .before .before in
-    let a = b .args in
-    (b .pre .0, sym (good-words (indexT (a .card .now)) (a .kind) (a .args .now) (c .before .if3 .taken)) ∙ b .pre .1)
+    let a = b .args in (
+      b .pre .0,
+      sym (good-words (indexT (a .card .now)) (a .kind) (a .args .now) (c .before .if3 .taken)) ∙ b .pre .1,
+      b .pre .2,
+    )
 
 returns-3 : tie.Need-returns-3
 returns-3 c =
@@ -88,6 +93,7 @@ by-phrase-requires c κs =
       b .pre .0,
       good-rest (indexT (a .card .now)) (a .kind) (a .args .now) (λ e. omega arith) (λ e. omega arith)
           (λ e. omega arith) (b .pre .1),
+      b .pre .2,
     )
 
 returns-4 : tie.Need-returns-4

@@ -17,7 +17,7 @@ few c =
 put-starts-requires : tie.Need-put-starts-requires
 put-starts-requires c κs =
     let t = c .before .before .before .before .before .before in
-    opened-asked _ _ (start t .pre .1) _ _ _ (t .open-phrase .ensures)
+    (opened-asked _ _ (start t .pre .1) _ _ _ (t .open-phrase .ensures), start t .pre .2)
 
 returns : tie.Need-returns
 returns c =

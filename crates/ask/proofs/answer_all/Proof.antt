@@ -11,11 +11,11 @@ use Rattle.ask.proofs.answer_all.Statement.{statement}
 use Rattle.ask.proofs.answer_all.Tie as tie
 
 abbrev Inv-loop : tie.InvT-loop
-Inv-loop card questions room₀ run₀ room run =
+Inv-loop table card questions room₀ run₀ room run =
     Under card questions room₀ room (run .at) (run .answered) (run .used)
 
 abbrev μ-loop : tie.MeasureT-loop
-μ-loop card questions room₀ run₀ room run = length questions - run .at
+μ-loop table card questions room₀ run₀ room run = length questions - run .at
 
 loop-holds : tie.Need-loop-holds Inv-loop μ-loop
 loop-holds c =
@@ -71,6 +71,7 @@ answer-one-requires c κs =
       b .pre .0,
       turn-good (a .card .now) (a .questions .now) (a .room .now) (at .room) (at .run .at) (at .run .answered)
           (at .run .used) (at .inv) (e .end-of .result) (e .before .if1 .taken) (e .end-of .ensures .0),
+      b .pre .2,
     )
 
 -- what the turn brings
@@ -80,7 +81,7 @@ turn : (c : tie.After-answer-one Inv-loop μ-loop) →
     let u = at .loop .run .used in
     Turned (a .card .now) (a .questions .now) (a .room .now) (at .loop .run .answered) u
     (c .before .before .before .before .end-of .result) (c .answer-one .result)
-    (putMid u (length (at .loop .room) - u) (at .loop .room) (c .answer-one .last .1 .1 .1 .0))
+    (putMid u (length (at .loop .room) - u) (at .loop .room) (c .answer-one .last .1 .1 .1 .1 .0))
 turn c =
     let e = c .before .before .before .before in
     let at = e .before .before .before .loop in
@@ -88,7 +89,7 @@ turn c =
     let one = c .answer-one in
     turned (a .card .now) (a .questions .now) (a .room .now) (at .room) (at .run .at) (at .run .answered) (at .run .used)
     (at .inv) (e .end-of .result) (e .before .if1 .taken) (e .end-of .ensures .0) (one .result)
-    (one .last .1 .1 .1 .0) (one .ensures)
+    (one .last .1 .1 .1 .1 .0) (one .ensures)
 
 same-length : tie.Need-same-length Inv-loop μ-loop
 same-length c = turn (c .before .before .before .before) .same

@@ -53,15 +53,16 @@ returns-2 c =
 
 answer-all-requires : tie.Need-answer-all-requires
 answer-all-requires c κs =
-    let w = c .before .before in (
+    let e = c .before .before .before in
+    let w = e .before in (
       accepted-true _ (good (w .before .before)),
-      sym (asked-well w)
-          ∙ not-false (w .well-formed .result) (c .before .if2 .left),
+      sym (asked-well w) ∙ not-false (w .well-formed .result) (e .if2 .left),
+      c .before .before .places .ensures,
     )
 
 returns-3 : tie.Need-returns-3
 returns-3 c =
-    let d = c .before .before .before .before in
+    let d = c .before .before .before .before .before .before in
     let w = d .before in
     let e = w .before .before in
     let a = e .before .before .before .before .before .before .args in
@@ -79,6 +80,7 @@ ask-spec =
     read-u16-requires
     (λ c κs. search needs)
     returns-2
+    (λ c κs. search needs)
     answer-all-requires
     (λ c. search needs)
     returns-3)

@@ -29,8 +29,11 @@ put-common-requires c κs =
     let p = c .before .before .before .before .before .before in
     let a = p .before .before .before .before .before .args in
     let r = p .open-pages .last .1 .1 .0 in
-    let w = whole-few (a .card .now) r (length (a .terms .now)) (opened p .lists) in
-    (opened p .lists, omega (arith, c .before .before .before .number .ensures, c .before .before .if1 .taken))
+    let w = whole-few (a .card .now) r (length (a .terms .now)) (opened p .lists) in (
+      opened p .lists,
+      omega (arith, c .before .before .before .number .ensures, c .before .before .if1 .taken),
+      p .before .before .before .before .before .pre .2,
+    )
 
 returns : tie.Need-returns
 returns c =
@@ -68,6 +71,7 @@ put-common-requires-2 c κs =
         c .before .before .before .before .before .list-common .ensures .0 .found,
         c .before .before .if2 .left,
       ),
+      p .before .before .before .before .before .pre .2,
     )
 
 returns-3 : tie.Need-returns-3

@@ -26,7 +26,7 @@ returns c =
     let l = c .before .before .before .before in
     let b = l .before .before .before .before .before in
     put-tally (wholeIn (b .args .card .now) (b .args .shapes .now) (b .args .k)) (b .args .room .now)
-    (l .list-common .last .1 .1 .1 .0)
+    (l .list-common .last .1 .1 .1 .1 .0)
     (l .list-common .result .found) (l .list-common .result .seeks) (l .list-common .result .looks) (b .pre .1)
     (l .list-common .ensures .1) (l .list-common .ensures .0 .found) (l .list-common .ensures .0 .seeks)
     (l .list-common .ensures .0 .looks)

@@ -14,8 +14,10 @@ place-of-requires : tie.Need-place-of-requires
 place-of-requires c κs =
     let start = c .before .before in
     let a = start .args in
+    let s =
     sought (a .block .now) (a .g) (start .pre .0) (c .last-pointer .result) (a .rank) (c .last-pointer .ensures)
-    (start .pre .1)
+    (start .pre .1) in
+    (s .0, s .1, start .pre .2)
 
 pub element-at-spec : {M : Type 1} → statement M
 element-at-spec =

@@ -13,28 +13,28 @@ use Rattle.byrank.proofs.one_past.Statement.{statement}
 use Rattle.byrank.proofs.one_past.Tie as tie
 
 abbrev Inv-loop : tie.InvT-loop
-Inv-loop run start before rank k₀ left₀ x₀ counts₀ k left x counts =
+Inv-loop table run start before rank k₀ left₀ x₀ counts₀ k left x counts =
     (left ≤ rank) × Onward run k x (rank - left) × (counts ≡ runningOnes 8 0 x)
 
 abbrev μ-loop : tie.MeasureT-loop
-μ-loop run start before rank k₀ left₀ x₀ counts₀ k left x counts = length run / 8 - k
+μ-loop table run start before rank k₀ left₀ x₀ counts₀ k left x counts = length run / 8 - k
 
 sub-left : tie.Need-sub-left Inv-loop μ-loop
-sub-left c = c .before .pre .ahead
+sub-left c = c .before .pre .0 .ahead
 
 run-word-requires : tie.Need-run-word-requires Inv-loop μ-loop
 run-word-requires c κs =
     let a = c .before .args in
-    omega (arith, start-word (a .run .now) (a .start) (a .before) (a .rank) (c .before .pre))
+    omega (arith, start-word (a .run .now) (a .start) (a .before) (a .rank) (c .before .pre .0))
 
 loop-holds : tie.Need-loop-holds Inv-loop μ-loop
 loop-holds c =
     let word = c .before .before in
     let start = word .before .before in
     let a = start .args in
-    let e : a .rank - (a .rank - a .before) ≡ a .before = omega (arith, start .pre .ahead) in (
+    let e : a .rank - (a .rank - a .before) ≡ a .before = omega (arith, start .pre .0 .ahead) in (
       omega arith,
-      rw e (onward-start (a .run .now) (a .start) (a .before) (a .rank) (start .pre) (word .run-word .result)
+      rw e (onward-start (a .run .now) (a .start) (a .before) (a .rank) (start .pre .0) (word .run-word .result)
           (c .before .from-bit .result) (word .run-word .ensures) (omega arith) (c .before .from-bit .ensures)
           (omega arith)),
       c .running-counts .ensures,
@@ -54,7 +54,7 @@ left c =
       omega (arith, t),
       omega (arith, t),
       onward-next (a .run .now) (at .k) (at .x) (a .rank - at .left) (a .rank) (at .inv .1)
-          (omega (arith, at .inv .0)) (start .pre .some),
+          (omega (arith, at .inv .0)) (start .pre .0 .some),
     )
 
 sub-left-2 : tie.Need-sub-left-2 Inv-loop μ-loop
@@ -92,7 +92,7 @@ here c =
 mul-result : tie.Need-mul-result Inv-loop μ-loop
 mul-result c =
     let start = c .before .before .before .before .before .before .before in
-    record { fits = omega (arith, c .before .before .loop .inv .1 .inside, start .pre .short) }
+    record { fits = omega (arith, c .before .before .loop .inv .1 .inside, start .pre .0 .short) }
 
 cast-select-by : tie.Need-cast-select-by Inv-loop μ-loop
 cast-select-by c =
@@ -100,13 +100,14 @@ cast-select-by c =
     record { fits = omega (arith, here c, ones-le 64 (at .x) (at .inv .1 .fits)) }
 
 select-by-requires : tie.Need-select-by-requires Inv-loop μ-loop
-select-by-requires c κs = (c .before .before .loop .inv .2, here c)
+select-by-requires c κs =
+    (c .before .before .loop .inv .2, here c, c .before .before .before .before .before .before .before .pre .1)
 
 add-result : tie.Need-add-result Inv-loop μ-loop
 add-result c =
     let start = c .before .before .before .before .before .before .before .before in
     record {
-      fits = omega (arith, c .before .before .before .loop .inv .1 .inside, start .pre .short, c .select-by .ensures .1);
+      fits = omega (arith, c .before .before .before .loop .inv .1 .inside, start .pre .0 .short, c .select-by .ensures .1);
     }
 
 returns : tie.Need-returns Inv-loop μ-loop

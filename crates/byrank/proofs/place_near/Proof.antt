@@ -21,16 +21,20 @@ place-of-requires : tie.Need-place-of-requires
 place-of-requires c κs =
     let start = c .before .before .before in
     let a = start .args in
+    let s =
     sought (a .block .now) (a .g) (start .pre .0) (c .last-pointer .result) (a .rank) (c .last-pointer .ensures)
-    (start .pre .1)
+    (start .pre .1) in
+    (s .0, s .1, start .pre .4)
 
 one-past-requires : tie.Need-one-past-requires
 one-past-requires c κs =
     let start = c .before .before .before in
     let a = start .args in
-    let p = start .pre in
-    run-ahead (a .block .now) (a .g) (p .0) (c .upper-of .result .now) (c .upper-of .ensures) (a .start) (a .before)
-    (a .rank) (p .2) (p .3) (p .1)
+    let p = start .pre in (
+      run-ahead (a .block .now) (a .g) (p .0) (c .upper-of .result .now) (c .upper-of .ensures) (a .start) (a .before)
+          (a .rank) (p .2) (p .3) (p .1),
+      p .4,
+    )
 
 returns-2 : tie.Need-returns-2
 returns-2 c =

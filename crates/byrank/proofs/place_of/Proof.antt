@@ -44,9 +44,11 @@ one-past-requires c κs =
     let o = start .pre .0 in
     let p =
     pointer-ones s (shapeIn s) (o .opened) _ (run-in start .1) (b .pointer-before .result) (a .rank)
-    (c .before .pointer-in .result) (c .before .pointer-in .ensures) (b .pointer-before .ensures) in
-    run-ahead s (shapeIn s) (o .opened) _ (run-in start .1) _ _ (a .rank) (p .1) (p .2)
-    (omega (arith, o .below, o .elements))
+    (c .before .pointer-in .result) (c .before .pointer-in .ensures) (b .pointer-before .ensures) in (
+      run-ahead s (shapeIn s) (o .opened) _ (run-in start .1) _ _ (a .rank) (p .1) (p .2)
+          (omega (arith, o .below, o .elements)),
+      start .pre .2,
+    )
 
 returns : tie.Need-returns
 returns c =

@@ -23,6 +23,7 @@ batch-requires c κs =
       rw (c .before .new .ensures) (new-running (o .before .pages-in .result .now) (o .open-alone .result) 1
           (o .open-alone .ensures .lists) _),
       omega arith,
+      o .before .before .before .before .pre .2,
     )
 
 -- what is known of the one list, seen from behind the search
@@ -59,8 +60,8 @@ returns c =
     )
     (c .before .before .put .ensures)
 
-sub-t23 : tie.Need-sub-t23
-sub-t23 c =
+sub-t24 : tie.Need-sub-t24
+sub-t24 c =
     let n = c .before .before .before .before in
     let o = opened n in
     let a = o .before .before .before .before .args in
@@ -93,7 +94,7 @@ by-bound-spec =
     (λ c κs. search needs)
     (λ c. search needs)
     returns
-    sub-t23
+    sub-t24
     (λ c. search needs)
     (λ c κs. search needs)
     (λ c. search needs)

@@ -6,8 +6,10 @@ use Rattle.kinds.proofs.by_rank.Tie as tie
 
 put-ranked-requires : tie.Need-put-ranked-requires
 put-ranked-requires c κs =
-    let a = c .before .before .before .before in
-    rw (c .before .pages-in .ensures) (pages-accepted (a .args .card .now) (a .args .t) (a .pre .0) (a .pre .1))
+    let a = c .before .before .before .before in (
+      rw (c .before .pages-in .ensures) (pages-accepted (a .args .card .now) (a .args .t) (a .pre .0) (a .pre .1)),
+      a .pre .2,
+    )
 
 returns : tie.Need-returns
 returns c =

@@ -14,18 +14,18 @@ returns c =
     let h = p .before .before .before .before .before in
     let a = h .before .before .before in
     let l = open-length (a .args .pages .now) (h .shape-at .result) (record {
-      accepted = a .pre;
+      accepted = a .pre .0;
       shape = h .shape-at .ensures;
     }) in
     rw (rank-none (decode (a .args .pages .now)) (a .args .rank)
     (omega (arith, p .before .before .before .if1 .taken))) (p .put .ensures)
 
-cast-t13 : tie.Need-cast-t13
-cast-t13 c =
+cast-t14 : tie.Need-cast-t14
+cast-t14 c =
     let h = c .before .before .before in
     let a = h .before .before .before in
     let o : Open (a .args .pages .now) (h .shape-at .result) = record {
-      accepted = a .pre;
+      accepted = a .pre .0;
       shape = h .shape-at .ensures;
     } in
     let b = element-below (a .args .pages .now) (h .shape-at .result) o (a .args .rank) (c .before .if1 .left) in
@@ -38,7 +38,7 @@ returns-2 c =
     let h = e .before .before .before in
     let a = h .before .before .before in
     let l = open-length (a .args .pages .now) (h .shape-at .result) (record {
-      accepted = a .pre;
+      accepted = a .pre .0;
       shape = h .shape-at .ensures;
     }) in
     rw (
@@ -56,7 +56,7 @@ put-ranked-spec =
     (λ c. search needs)
     returns
     (λ c κs. search needs)
-    cast-t13
+    cast-t14
     (λ c. search needs)
     (λ c κs. search needs)
     (λ c. search needs)

@@ -12,13 +12,13 @@ use Rattle.pairs.proofs.fits.Tie as tie
 mul-if1 : tie.Need-mul-if1
 mul-if1 c =
     let b = c .before .before .before .before .before in
-    omega (arith, c .number .ensures, found-few _ _ _ _ _ _ (b .pre .asked) (offsetsIn (b .args .lists .now)) .1)
+    omega (arith, c .number .ensures, found-few _ _ _ _ _ _ (b .pre .0 .asked) (offsetsIn (b .args .lists .now)) .1)
 
 returns : tie.Need-returns
 returns c =
     let b = c .before .before .before .before .before .before in
     let ds = offsetsIn (b .args .lists .now) in
-    let f = found-few _ _ _ _ _ _ (b .pre .asked) ds .0 in
+    let f = found-few _ _ _ _ _ _ (b .pre .0 .asked) ds .0 in
     sym (lt-ltb (length (foundIn (b .args .card .now) (b .args .terms .now) ds)) (b .args .size)
     (omega (arith, c .if1 .taken, c .before .number .ensures, f)))
 

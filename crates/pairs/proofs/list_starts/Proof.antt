@@ -14,13 +14,13 @@ use Rattle.pairs.proofs.list_starts.Statement.{statement}
 use Rattle.pairs.proofs.list_starts.Tie as tie
 
 abbrev Inv-loop : tie.InvT-loop
-Inv-loop card terms lists room₀ q₀ words₀ page₀ b₀ found₀ room q words page b found =
+Inv-loop table card terms lists room₀ q₀ words₀ page₀ b₀ found₀ room q words page b found =
     (a : AskedIn card terms lists)
     × Going card terms (leadIn lists) (pagesIn lists) (countsIn lists) (positionsIn lists) room₀ (a .asked)
     (offsetsIn lists) q words b found room × (length page ≡ 1)
 
 abbrev μ-loop : tie.MeasureT-loop
-μ-loop card terms lists room₀ q₀ words₀ page₀ b₀ found₀ room q words page b found = leftIn b (leadReader card (pagesIn lists) q)
+μ-loop table card terms lists room₀ q₀ words₀ page₀ b₀ found₀ room q words page b found = leftIn b (leadReader card (pagesIn lists) q)
 
 loop-holds : tie.Need-loop-holds Inv-loop μ-loop
 loop-holds c =
@@ -62,9 +62,12 @@ page-starts-requires c κs =
     let left = c .before .if1 .left in
     let apt = l .inv .1 .partway .running .apt in
     let least = turned-least _ _ _ (l .q) (l .b) apt (n .batch .result) (turned n) left in (
-      l .inv .0,
-      turned-on _ _ _ (l .q) (l .b) apt (n .batch .result) (turned n) left,
-      ahead-more _ _ _ _ _ (l .b) _ least (l .inv .1 .ahead),
+      (
+        l .inv .0,
+        turned-on _ _ _ (l .q) (l .b) apt (n .batch .result) (turned n) left,
+        ahead-more _ _ _ _ _ (l .b) _ least (l .inv .1 .ahead),
+      ),
+      c .before .before .before .before .before .before .before .before .before .before .before .before .before .pre .2,
     )
 
 sub-put-pair : tie.Need-sub-put-pair Inv-loop μ-loop
@@ -119,7 +122,7 @@ list-starts-spec =
     (λ c. search needs)
     (λ c. omega (arith, c .before .before .before .before .before .before .pre .0 .row))
     (λ c. sym (c .before .before .loop .inv .2))
-    (λ c κs. (c .before .before .loop .inv .1 .partway .running, omega (arith, c .before .before .loop .inv .2)))
+    (λ c κs. (c .before .before .loop .inv .1 .partway .running, omega (arith, c .before .before .loop .inv .2), c .before .before .before .before .before .before .before .before .pre .2))
     same-length
     returns
     (λ c. sym (c .before .before .before .before .before .before .before .loop .inv .1 .ahead .room))

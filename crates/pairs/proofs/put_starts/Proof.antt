@@ -51,7 +51,9 @@ put-starts-spec =
     (tie.spec
     (λ c κs. search needs)
     returns
-    (λ c κs. let e = c .before in (start (e .before) .pre, omega (arith, fitting e)))
+    (λ c κs. let e = c .before in
+    let p = start (e .before) .pre in
+    (p .0, omega (arith, fitting e), p .1))
     (λ c. search needs)
     slice-write-room
     (λ c. search needs)

@@ -43,8 +43,8 @@ left-is c =
     ∙ ap (λ (x : ℕ). x / 2 ^ (a .from .bit % 64 + a .from .own) * 2 ^ (a .from .bit % 64 + a .from .own))
     (c .before .before .look .ensures .0)
 
-add-t15 : tie.Need-add-t15
-add-t15 c =
+add-t16 : tie.Need-add-t16
+add-t16 c =
     let start = c .before .before .before .before .before .before .before .before .before in
     let a = start .args in
     let p = start .pre in
@@ -78,6 +78,7 @@ skip-requires c κs =
       skipping-start (a .s .now) (a .g) (p .0) (a .b) (a .from) (p .2) (p .3) _ (left-is (c .before .before .before .before .before)) refl refl _
           (omega arith),
       omega (arith, e .1),
+      p .5,
     )
 
 returns-2 : tie.Need-returns-2
@@ -99,7 +100,7 @@ pass-spec =
     behind-requires
     (λ c. search needs)
     (λ c. search needs)
-    add-t15
+    add-t16
     add-if1
     returns
     skip-requires

@@ -17,11 +17,11 @@ abbrev placed : ℕ → ℕ → ℕ → ℕ → Ones
 placed h left k wanted = record { left = left; k = k; rank = wanted + 64 * k - h }
 
 abbrev Inv-loop : tie.InvT-loop
-Inv-loop s g h looks₀ left₀ k₀ wanted₀ looks left k wanted =
+Inv-loop table s g h looks₀ left₀ k₀ wanted₀ looks left k wanted =
     Skipping s g h (placed h left k wanted) × (h ≤ wanted + 64 * k) × Paid k₀ looks₀ k looks
 
 abbrev μ-loop : tie.MeasureT-loop
-μ-loop s g h looks₀ left₀ k₀ wanted₀ looks left k wanted = wordsFor (g .bits) - k
+μ-loop table s g h looks₀ left₀ k₀ wanted₀ looks left k wanted = wordsFor (g .bits) - k
 
 -- bounds of the numbers at the start
 record Bounds (h k rank : ℕ) : Type 0 where
@@ -116,9 +116,11 @@ loop-again c =
 to-zero-requires : tie.Need-to-zero-requires Inv-loop μ-loop
 to-zero-requires c κs =
     let l = c .before .before in
-    let start = by-loop l in
-    skipping-in (start .args .s .now) (start .args .g) (start .pre .0) (start .args .h) (at-loop l) (l .loop .inv .0)
-    (omega (arith, l .loop .inv .1, c .before .with-ones .ensures, c .if1 .left))
+    let start = by-loop l in (
+      skipping-in (start .args .s .now) (start .args .g) (start .pre .0) (start .args .h) (at-loop l) (l .loop .inv .0)
+          (omega (arith, l .loop .inv .1, c .before .with-ones .ensures, c .if1 .left)),
+      start .pre .4,
+    )
 
 returns : tie.Need-returns Inv-loop μ-loop
 returns c =

@@ -26,8 +26,11 @@ zero-at x j p l e h = rw e (zero-bit 64 x l j (rw e at h), zero-ones 64 x l j (r
 select-by-requires : tie.Need-select-by-requires
 select-by-requires c κs =
     let start = c .before .before .before .before in
-    let z = start .pre in
-    (c .running-counts .ensures, omega (arith, z .behind, z .reached, all-bits (start .args .at .left) (omega arith)))
+    let z = start .pre .0 in (
+      c .running-counts .ensures,
+      omega (arith, z .behind, z .reached, all-bits (start .args .at .left) (omega arith)),
+      start .pre .1,
+    )
 
 -- the zero that is selected
 selected : (c : tie.After-select-by) →
@@ -40,14 +43,14 @@ selected c =
     zero-at (a .at .left) (a .h + a .at .rank - 64 * a .at .k - 1) (c .select-by .result) (omega arith)
     (c .select-by .ensures .0) (c .select-by .ensures .1)
 
-sub-t7 : tie.Need-sub-t7
-sub-t7 c = omega (arith, selected (c .before .before) .1)
+sub-t8 : tie.Need-sub-t8
+sub-t8 c = omega (arith, selected (c .before .before) .1)
 
 returns : tie.Need-returns
 returns c =
     let there = c .before .before in
     let start = there .before .before .before .before .before in
-    let z = start .pre in
+    let z = start .pre .0 in
     let f = selected there in
     record {
       place = there .select-by .result;
@@ -73,5 +76,5 @@ to-zero-spec =
     (λ c. search needs)
     (λ c κs. search needs)
     (λ c. search needs)
-    sub-t7
+    sub-t8
     returns)

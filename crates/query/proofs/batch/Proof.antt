@@ -17,10 +17,10 @@ use Rattle.query.proofs.batch.Statement.{statement}
 use Rattle.query.proofs.batch.Tie as tie
 
 abbrev Inv-loop : tie.InvT-loop
-Inv-loop card shapes k b0 room₀ q₀ b₀ i₀ found₀ room q b i found = Amid card shapes k q₀ b₀ room₀ q b i found room
+Inv-loop table card shapes k b0 room₀ q₀ b₀ i₀ found₀ room q b i found = Amid card shapes k q₀ b₀ room₀ q b i found room
 
 abbrev μ-loop : tie.MeasureT-loop
-μ-loop card shapes k b0 room₀ q₀ b₀ i₀ found₀ room q b i found = 2 ^ 28 - seeksOf q
+μ-loop table card shapes k b0 room₀ q₀ b₀ i₀ found₀ room q b i found = 2 ^ 28 - seeksOf q
 
 loop-holds : tie.Need-loop-holds Inv-loop μ-loop
 loop-holds c =
@@ -37,8 +37,10 @@ seek-in-requires : tie.Need-seek-in-requires Inv-loop μ-loop
 unfolding unused
 seek-in-requires c κs =
     let l = c .before .loop in
-    let a = l .inv in
-    midst-seekable _ _ _ (a .from) (a .bound) (l .q) (l .b) (l .i) (a .midst) (a .within)
+    let a = l .inv in (
+      midst-seekable _ _ _ (a .from) (a .bound) (l .q) (l .b) (l .i) (a .midst) (a .within),
+      c .before .before .before .before .before .pre .2,
+    )
 
 same-length : tie.Need-same-length Inv-loop μ-loop
 same-length c = c .before .before .before .before .before .before .loop .inv .behind .long

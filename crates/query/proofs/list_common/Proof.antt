@@ -18,17 +18,18 @@ use Rattle.query.proofs.list_common.Tie as tie
 
 -- whatever the first batch listed is listed still
 abbrev Inv-loop : tie.InvT-loop
-Inv-loop card shapes k room s₀ found₀ rest₀ s found rest = (length rest ≡ 64)
+Inv-loop table card shapes k room s₀ found₀ rest₀ s found rest = (length rest ≡ 64)
     × ((room₀ : List ℕ) → Listing card shapes k room₀ (s₀ .q) (s₀ .mark) found₀ room
     → Listing card shapes k room₀ (s .q) (s .mark) found room)
 
 abbrev μ-loop : tie.MeasureT-loop
-μ-loop card shapes k room s₀ found₀ rest₀ s found rest = spentMark - s .mark
+μ-loop table card shapes k room s₀ found₀ rest₀ s found rest = spentMark - s .mark
 
 batch-requires : tie.Need-batch-requires Inv-loop μ-loop
 batch-requires c κs = (
-  rw (c .before .before .new .ensures) (new-running _ _ _ (c .before .before .before .before .before .before .pre) 0),
+  rw (c .before .before .new .ensures) (new-running _ _ _ (c .before .before .before .before .before .before .pre .0) 0),
   omega (arith, c .before .if1 .taken),
+  c .before .before .before .before .before .before .pre .1,
 )
 
 -- what the first batch listed; with no room there is none
@@ -39,11 +40,11 @@ first : (c : tie.Joined1 Inv-loop μ-loop) → Listing (now (c .before .before .
 first c = elim (c .if1 .came) [
   | inl e ↦
       rw (e .5, e .6)
-      (listing-first _ _ _ _ (c .before .before .before .before .before .pre) (e .2 .result) _
+      (listing-first _ _ _ _ (c .before .before .before .before .before .pre .0) (e .2 .result) _
       (rw (c .before .new .ensures) at (e .2 .ensures)))
   | inr e ↦
       rw (e .1, e .2, c .before .new .ensures)
-      (listing-none _ _ _ _ (c .before .before .before .before .before .pre) (omega (arith, e .0 .left)))
+      (listing-none _ _ _ _ (c .before .before .before .before .before .pre .0) (omega (arith, e .0 .left)))
 ]
 
 loop-holds : tie.Need-loop-holds Inv-loop μ-loop
@@ -58,6 +59,7 @@ batch-requires-2 c κs =
     let g = l .inv .1 _ (first (c .before .before .before .before .before)) in (
       listing-on _ _ _ _ (l .s .q) (l .s .mark) (l .found) _ g (c .before .before .if2 .taken) .1 .running,
       omega (arith, l .inv .0),
+      c .before .before .before .before .before .before .before .before .before .before .pre .1,
     )
 
 add-found : tie.Need-add-found Inv-loop μ-loop

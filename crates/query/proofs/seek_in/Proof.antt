@@ -8,16 +8,17 @@ use Rattle.query.proofs.seek_in.Tie as tie
 seek-requires : tie.Need-seek-requires
 unfolding partAt pagesAt
 seek-requires c κs =
-    let p = c .before .before .before .before .before .before .pre in
+    let pre = c .before .before .before .before .before .before .pre in
+    let p = pre .0 in
     let from = c .before .before .before .number .ensures in
     let to = c .before .before .number2 .ensures in
-    rw (from, to, c .shape-in .ensures) (p .list .opened, rw (p .list .bound) (p .held), p .seeks, p .looks)
+    rw (from, to, c .shape-in .ensures) (p .list .opened, rw (p .list .bound) (p .held), p .seeks, p .looks, pre .1)
 
 returns : tie.Need-returns
 unfolding partAt pagesAt
 returns c =
     let k = c .before in
-    let p = k .before .before .before .before .before .before .before .pre in
+    let p = k .before .before .before .before .before .before .before .pre .0 in
     let from = k .before .before .before .before .number .ensures in
     let to = k .before .before .before .number2 .ensures in (
       refl,

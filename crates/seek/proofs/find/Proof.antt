@@ -106,6 +106,7 @@ pass-requires c κs =
       there .start .ensures .0,
       inside (c .before),
       b .pre .2,
+      b .pre .3,
     )
 
 land-requires : tie.Need-land-requires

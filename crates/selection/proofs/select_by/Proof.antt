@@ -45,7 +45,7 @@ sub-one-of-byte : tie.Need-sub-one-of-byte
 sub-one-of-byte c = omega (arith, in-byte c .below)
 
 one-of-byte-requires : tie.Need-one-of-byte-requires
-one-of-byte-requires c κs = in-byte c .few
+one-of-byte-requires c κs = (in-byte c .few, c .before .pre .2)
 
 -- the place is in the word
 inside : (c : tie.After-above) → placeOfOne 64 (c .before .args .x) (c .before .args .j) < 64

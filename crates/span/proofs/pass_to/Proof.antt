@@ -12,7 +12,7 @@ place-near-requires : tie.Need-place-near-requires
 place-near-requires c κs =
     let p = c .before .before .before .pre in
     let more = c .if1 .left in
-    (p .0 .opened, omega (arith, p .2, p .1, more), p .0 .counted, omega (arith, p .1, more))
+    (p .0 .opened, omega (arith, p .2, p .1, more), p .0 .counted, omega (arith, p .1, more), p .3)
 
 pub pass-to-spec : {M : Type 1} → statement M
 pass-to-spec =

@@ -17,10 +17,10 @@ use Rattle.starts.proofs.count_starts.Statement.{statement}
 use Rattle.starts.proofs.count_starts.Tie as tie
 
 abbrev Inv-loop : tie.InvT-loop
-Inv-loop card terms lists turn words₀ at₀ words at = TryingIn card terms lists (turn .mark - 1) at words
+Inv-loop table card terms lists turn words₀ at₀ words at = TryingIn card terms lists (turn .mark - 1) at words
 
 abbrev μ-loop : tie.MeasureT-loop
-μ-loop card terms lists turn words₀ at₀ words at = left at
+μ-loop table card terms lists turn words₀ at₀ words at = left at
 
 -- where the next word was turned, where it was named, and where the call began
 abbrev turned : tie.After-source-of Inv-loop μ-loop → tie.After-turn-next Inv-loop μ-loop
@@ -35,19 +35,19 @@ start c = c .before .before .before .before .before .before .before
 loop-holds : tie.Need-loop-holds Inv-loop μ-loop
 loop-holds c =
     let b = c .before .before .before .before in
-    let p = b .pre in
+    let p = b .pre .0 in
     trying-begins _ _ _ _ _ _ _ _ (p .0 .asked .pages .lists .some)
     (omega (arith, length-drop 193 (b .args .lists .now), p .0 .row, p .0 .asked .pages .lists .few)) (p .2)
 
 turn-next-requires : tie.Need-turn-next-requires Inv-loop μ-loop
 turn-next-requires c κs =
     let p = c .before .before .before .before .before .before .pre in
-    (p .0, p .1, c .before .loop .inv)
+    (p .0 .0, p .0 .1, c .before .loop .inv, p .1)
 
 -- the word to be tried is one of the eight
 few : (c : tie.After-source-of Inv-loop μ-loop) → c .source-of .result < 8
 few c =
-    let a = start (turned c) .pre .0 .asked in
+    let a = start (turned c) .pre .0 .0 .asked in
     let y = turned c .turn-next .ensures in
     omega (arith, c .source-of .ensures, next-within _ _ _ _ _ _ a _ _ _ _ (y .0), a .pages .lists .few)
 
@@ -76,14 +76,14 @@ position-from-requires c κs =
     let small = k .shared-slice-known5 .given (193 + s .source-of .result) in
     let ls = b .args .lists .now in
     ready-so ls (turned s .turn-next .result .start) e
-    (seek-ready _ _ _ _ _ _ (b .pre .0 .asked) _ _ _ _ (y .0) (y .1) (omega (arith, offset-at ls e, small)))
+    (seek-ready _ _ _ _ _ _ (b .pre .0 .0 .asked) _ _ _ _ (y .0) (y .1) (omega (arith, offset-at ls e, small)))
 
 -- the position that was sought
 sought : (c : tie.After-position-from Inv-loop μ-loop)
     → let t = turned (source c) in
     let a = start t .args in
     let i : ℕ = sourceOf (leadIn (a .lists .now)) (t .turn-next .result .standing) in
-    Sought (a .card .now) (positionsIn (a .lists .now)) (t .turn-next .last .1 .1 .1 .1 .1 .0) i
+    Sought (a .card .now) (positionsIn (a .lists .now)) (t .turn-next .last .1 .1 .1 .1 .1 .1 .0) i
     (t .turn-next .result .start + getD (offsetsIn (a .lists .now)) i 0) (c .position-from .result)
     (c .position-from .last .1 .1 .1 .1 .0)
 sought c =
@@ -95,7 +95,7 @@ returns : tie.Need-returns Inv-loop μ-loop
 returns c =
     let s = c .before .before .before in
     let t = turned (source s) in
-    let p = start t .pre in
+    let p = start t .pre .0 in
     let y = t .turn-next .ensures in
     trying-ends _ _ _ _ _ _ (p .0 .asked) _ _ _ _ (y .0) (y .1) _ _ (sought s) _ (p .1) (p .0 .first) (c .if1 .taken)
 
@@ -121,7 +121,7 @@ sub-tried c = omega (arith, same-offset c, sought (seek c) .found (c .if1 .left)
 tried-requires : tie.Need-tried-requires Inv-loop μ-loop
 tried-requires c κs =
     let t = trial c in
-    let a = start t .pre .0 .asked in
+    let a = start t .pre .0 .0 .asked in
     let y = t .turn-next .ensures .0 in
     let n = counted-few _ _ _ _ _ _ a _ _ _ _ y in
     (omega (arith, y .some, a .pages .lists .few), omega (arith, y .small), omega (arith, n, y .small))
@@ -130,7 +130,7 @@ loop-less : tie.Need-loop-less Inv-loop μ-loop
 loop-less c =
     let e = c .before in
     let t = trial e in
-    let a = start t .pre .0 .asked in
+    let a = start t .pre .0 .0 .asked in
     let y = t .turn-next .ensures in
     let few = a .pages .lists .few in
     let l = trying-less _ _ _ _ _ _ a _ _ _ _ (y .0) (y .1) _ _ (sought (seek e)) (e .if1 .left) few in
@@ -140,7 +140,7 @@ loop-again : tie.Need-loop-again Inv-loop μ-loop
 loop-again c =
     let e = c .before in
     let t = trial e in
-    let a = start t .pre .0 .asked in
+    let a = start t .pre .0 .0 .asked in
     let y = t .turn-next .ensures in
     rw (c .tried .ensures, same-offset e)
     (trying-goes _ _ _ _ _ _ a _ _ _ _ (y .0) (y .1) _ _ (sought (seek e)) (e .if1 .left))
@@ -154,11 +154,11 @@ count-starts-spec =
     loop-holds
     turn-next-requires
     (λ c. search needs)
-    (λ c. omega (arith, lead-few _ _ _ _ _ _ (c .before .before .before .before .before .before .before .before .before .before .pre .0 .asked)))
+    (λ c. omega (arith, lead-few _ _ _ _ _ _ (c .before .before .before .before .before .before .before .before .before .before .pre .0 .0 .asked)))
     (λ c κs. search needs)
     (λ c. omega (arith, few c))
     (λ c. omega (arith, few c))
-    (λ c. omega (arith, few (c .before), start (turned (c .before)) .pre .0 .row))
+    (λ c. omega (arith, few (c .before), start (turned (c .before)) .pre .0 .0 .row))
     (λ c. omega (arith, c .shared-slice-known5 .given (193 + c .before .source-of .result)))
     (λ c. search needs)
     (λ c. search needs)
@@ -168,7 +168,7 @@ count-starts-spec =
     omega (arith, turned (k .before) .turn-next .ensures .0 .small, small))
     position-from-requires
     (λ c. let s = c .before .before .before in
-    s .position-from .ensures .ready .room ∙ sym (start (turned (source s)) .pre .2 .room))
+    s .position-from .ensures .ready .room ∙ sym (start (turned (source s)) .pre .0 .2 .room))
     returns
     sub-tried
     tried-requires

@@ -19,17 +19,17 @@ start c = c .before .before .before .before .before
 -- a word alone leads
 leads : (c : tie.Then1) → slotOf (leadIn (start c .args .lists .now)) 0 ≡ 0
 leads c =
-    let a = start c .pre .0 .asked in
+    let a = start c .pre .0 .0 .asked in
     omega (arith, slot-within _ _ _ _ _ _ a 0 (a .pages .lists .some), c .if1 .taken)
 
 rank-in-requires : tie.Need-rank-in-requires
 rank-in-requires c κs =
     let b = start (c .before) in
-    let a = b .pre .0 .asked in
+    let a = b .pre .0 .0 .asked in
     let h = a .pages .lists .some in
-    let r = asked-rank _ _ _ _ _ _ a 0 h _ _ (b .pre .1) in
+    let r = asked-rank _ _ _ _ _ _ a 0 h _ _ (b .pre .0 .1) in
     let l = asked-list _ _ _ _ _ _ a 0 h in
-    (omega (arith, l .room), omega arith, b .pre .1 .eight, rw (leads (c .before)) at (r .on-element))
+    (omega (arith, l .room), omega arith, b .pre .0 .1 .eight, rw (leads (c .before)) at (r .on-element))
 
 -- the rank that was read
 ranked : (c : tie.After-rank-in)
@@ -41,10 +41,12 @@ ranked c =
 
 ranks-at-requires : tie.Need-ranks-at-requires
 ranks-at-requires c κs =
-    let p = start (c .before .before .before .before) .pre in
+    let pre = start (c .before .before .before .before) .pre in
+    let p = pre .0 in
     let a = p .0 .asked in
     let h = a .pages .lists .some in
-    rw (ranked (c .before .before)) (rank-ready _ _ _ _ _ _ a _ _ (p .1) 0 h _ (p .2 .room) (p .2 .each 0 h))
+    let r = rank-ready _ _ _ _ _ _ a _ _ (p .1) 0 h _ (p .2 .room) (p .2 .each 0 h) in
+    rw (ranked (c .before .before)) (r .0, r .1, r .2, pre .1)
 
 -- what the page's ranks count
 counted : (c : tie.After-ranks-at)
@@ -52,11 +54,11 @@ counted : (c : tie.After-ranks-at)
     let x = c .ranks-at .result in
     (x .from ≤ x .to)
     × CountedOn (b .args .card .now) (b .args .terms .now) (b .args .lists .now) (b .args .turn .mark - 1)
-    (x .to - x .from) (c .ranks-at .last .1 .1 .1 .1 .0)
+    (x .to - x .from) (c .ranks-at .last .1 .1 .1 .1 .1 .0)
 counted c =
     let t = c .before .before .before .before .before in
     let b = start t in
-    let p = b .pre in
+    let p = b .pre .0 in
     let ds : List ℕ = offsetsIn (b .args .lists .now) in
     let some : 0 < length ds = omega (arith, length-drop 193 (b .args .lists .now), p .0 .row) in
     let e = rw (ranked (c .before .before .before)) at (c .ranks-at .ensures) in

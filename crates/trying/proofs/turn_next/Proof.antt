@@ -68,9 +68,10 @@ ranks-at-requires c κs =
     let b = start (c .before .before .before .before) in
     let n = next (c .before .before .before .before) in
     let y = b .pre .2 in
-    rw (ranked (c .before .before))
-    (rank-ready _ _ _ _ _ _ (b .pre .0 .asked) _ _ (b .pre .1) _ (n .0) _ (y .room)
-    (y .others _ (n .0) (omega (arith, n .1, n .2))))
+    let r =
+    rank-ready _ _ _ _ _ _ (b .pre .0 .asked) _ _ (b .pre .1) _ (n .0) _ (y .room)
+    (y .others _ (n .0) (omega (arith, n .1, n .2))) in
+    rw (ranked (c .before .before)) (r .0, r .1, r .2, b .pre .3)
 
 turn-to-requires : tie.Need-turn-to-requires
 turn-to-requires c κs =
@@ -78,8 +79,10 @@ turn-to-requires c κs =
     let b = start (source t) in
     let n = next (source t) in
     let e = rw (ranked (rank t)) at (t .ranks-at .ensures) in
+    let r =
     turn-ready _ _ _ _ _ _ (b .pre .0 .asked) _ _ (b .pre .1) _ (n .0) (t .ranks-at .result) (e .0) _ _ (e .1)
-    (b .pre .2 .others _ (n .0) (omega (arith, n .1, n .2)))
+    (b .pre .2 .others _ (n .0) (omega (arith, n .1, n .2))) in
+    (r .0, r .1, r .2, b .pre .3)
 
 same-length : tie.Need-same-length
 same-length c =
