@@ -23,6 +23,8 @@ class Program:
         self.functions = {f.path: f for source in self.crates.values() for f in source.functions.values()}
         self.structs = {f"{crate}::{name}": fields for crate, source in self.crates.items()
                         for name, fields in source.structs.items()}
+        self.aliases = {f"{crate}::{name}": kind for crate, source in self.crates.items()
+                        for name, kind in source.aliases.items()}
         for function in self.functions.values():
             self.calls(function)
 

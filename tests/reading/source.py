@@ -44,9 +44,11 @@ class Function:
 
 @dataclass
 class Source:
-    """The items of one file: functions and structs by name, other types and constants, and what `use` brings in."""
+    """The items of one file: functions, structs and other names of types by name, other types and constants, and what
+    `use` brings in."""
     functions: dict = field(default_factory=dict)
     structs: dict = field(default_factory=dict)
+    aliases: dict = field(default_factory=dict)
     others: set = field(default_factory=set)
     uses: dict = field(default_factory=dict)
 
@@ -310,7 +312,7 @@ class Items(Statements):
     def item(self, found, within):
         public = bool(self.accept("pub"))
         exported = self.accept("extern") and self.take("text")
-        word = self.expect("fn") if exported else self.expect("fn", "struct", "enum", "const", "use", "impl")
+        word = self.expect("fn") if exported else self.expect("fn", "struct", "enum", "const", "type", "use", "impl")
         if word == "fn":
             function = self.function(public, within)
             self.once(found.functions, function.name, function)
@@ -318,6 +320,9 @@ class Items(Statements):
             name = self.take("name")
             self.lifetimes()
             self.once(found.structs, name, self.fields())
+        elif word == "type":
+            name = self.take("name")
+            self.once(found.aliases, name, self.alias())
         elif word == "use":
             path = self.path()
             self.expect(";")
@@ -352,6 +357,12 @@ class Items(Statements):
     def enum(self):
         self.expect("{")
         self.listed("}", lambda: self.take("name"))
+
+    def alias(self):
+        self.expect("=")
+        kind = self.type()
+        self.expect(";")
+        return kind
 
     def constant(self):
         self.expect(":")

@@ -4,7 +4,7 @@ from typing import NamedTuple
 
 TOKEN = re.compile(
     r"""(?P<blank>\s+|//[^\n]*)
-      | (?P<text>b?"(?:[^"\\]|\\.)*"|b'(?:[^'\\]|\\.)')
+      | (?P<text>b?"(?:[^"\\]|\\(?:.|\n))*"|b'(?:[^'\\]|\\.)')
       | (?P<lifetime>'[a-z]\w*)
       | (?P<number>\d\w*)
       | (?P<name>[^\W\d]\w*)

@@ -97,7 +97,8 @@ def cursor_kept(program):
     if len(seeks) != 1:
         yield f"{f.path}: {len(seeks)} seeks"
         return
-    back, given = str(f.body.value), str(seeks[0].arguments[2])
+    cursor = [p.type for p in program.function(SEEK).parameters].index("Cursor")
+    back, given = str(f.body.value), str(seeks[0].arguments[cursor])
     told = [(change.sign, str(change.target), flow.origin(program, f, change.value)) for change in changes]
     if told != [("=", f"{back}.{place}", f"{SEEK}().{field}") for place, field in PUT.items()]:
         yield f"{f.path}: what the seek gave back is put by {', '.join(f'`{change}`' for change in changes)}"

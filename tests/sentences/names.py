@@ -18,6 +18,11 @@ POINTER = "reading::pointer_at"
 READING = ["numbers", "runs"]
 RUN_WORD = "runs::run_word"
 
+# the name of the table's type, what gives the table, and what each function asks of the one that it is lent
+TABLE = "Table"
+PLACES = "bytetable::places"
+IS_TABLE = "PlacesOfOnes (now {})"
+
 # one seek by the cursor in hand, and the one loop that makes seeks
 SEEK_IN = "query::seek_in"
 LOOP = "query::batch"

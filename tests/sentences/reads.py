@@ -3,7 +3,7 @@ from typing import NamedTuple
 
 from reading import flow, tree
 from reading.compare import compared
-from sentences.names import ANSWERS, KIND_3, KINDS, LOOK, LOW_PART, READING, RUN_WORD
+from sentences.names import ANSWERS, IS_TABLE, KIND_3, KINDS, LOOK, LOW_PART, PLACES, READING, RUN_WORD, TABLE
 from sentences.written import WRITTEN
 
 
@@ -93,6 +93,22 @@ def reads_settled(program):
                 yield f"{f.path}: `{node}` is in a loop, or its place can change"
 
 
+def table_told(program):
+    """The table's is the one type with a name of another type. `places` alone gives a table, no struct holds one, and
+    each function that is lent one asks that it is the table of places, whose numbers are the same for every card."""
+    if program.aliases != {f"bytetable::{TABLE}": "[u8; 2048]"}:
+        yield f"types by another name: {', '.join(f'{name} = {kind}' for name, kind in program.aliases.items())}"
+    for name, fields in program.structs.items():
+        yield from (f"{name}: the field {field} has the type {kind}" for field, kind in fields.items() if TABLE in kind)
+    for f in program.functions.values():
+        if TABLE in f.returns and f.path != PLACES:
+            yield f"{f.path}: it gives back a {f.returns}"
+        for p in f.parameters:
+            told = p.type == f"&{TABLE}" and any(IS_TABLE.format(p.name) in fact for fact in f.requires)
+            if TABLE in p.type and not told:
+                yield f"{f.path}: nothing is asked of {p}"
+
+
 def tell(program):
     """Prints every read that was found, with what the table says of it."""
     print(f"counts: kind 3 reaches {len(program.reached(KIND_3))} functions, and bytes are read in these alone:")
@@ -101,4 +117,4 @@ def tell(program):
         print(f"counts:   {path}: {', '.join(texts)}: {what}")
 
 
-SENTENCES = [card_goes_to_kinds, bytes_are_followed, reads_where_named, reads_settled]
+SENTENCES = [card_goes_to_kinds, bytes_are_followed, reads_where_named, reads_settled, table_told]

@@ -25,16 +25,16 @@ pub fn totals(q: Query, found: usize) -> Listed {
 """
 # the batches of pages that they are summed up of
 PAGES = """
-pub fn list_common(card: &[u8], shapes: &[u32], k: usize, room: &mut [u32]) -> Listed {
+pub fn list_common(table: &Table, card: &[u8], shapes: &[u32], k: usize, room: &mut [u32]) -> Listed {
     let q = Query::new();
     let mut s = Turn { q, mark: 0, rank: 0, found: 0 };
     if 0 < room.len() {
-        s = batch(card, shapes, q, k, 0, room);
+        s = batch(table, card, shapes, q, k, 0, room);
     }
     let mut found = s.found;
     let mut rest = [0u32; 64];
     while s.mark != SPENT {
-        s = batch(card, shapes, s.q, k, s.mark as usize, &mut rest);
+        s = batch(table, card, shapes, s.q, k, s.mark as usize, &mut rest);
         found += s.found;
     }
     rows::totals(s.q, found)
@@ -42,26 +42,26 @@ pub fn list_common(card: &[u8], shapes: &[u32], k: usize, room: &mut [u32]) -> L
 """
 # how kind 3 tells them; pages are counted first where the room may be too small for them
 TOLD = """
-fn put_common(card: &[u8], shapes: &[u32], k: usize, room: &mut [u32]) -> usize {
-    let listed = query::list_common(card, shapes, k, &mut room[3..]);
+fn put_common(table: &Table, card: &[u8], shapes: &[u32], k: usize, room: &mut [u32]) -> usize {
+    let listed = query::list_common(table, card, shapes, k, &mut room[3..]);
     room[0] = (listed.found + 2) as u32;
     room[1] = listed.seeks;
     room[2] = listed.looks;
     listed.found + 3
 }
-pub fn by_common(card: &[u8], terms: &[u32], room: &mut [u32]) -> usize {
+pub fn by_common(table: &Table, card: &[u8], terms: &[u32], room: &mut [u32]) -> usize {
     let k = terms.len();
     let mut shapes = [0u32; 64];
     wordlists::open_pages(card, terms, &mut shapes);
     if rows::number(&shapes, 0, LENGTH) + 3 <= room.len() {
-        return put_common(card, &shapes, k, room);
+        return put_common(table, card, &shapes, k, room);
     }
     let mut none = [0u32; 0];
-    let counted = query::list_common(card, &shapes, k, &mut none);
+    let counted = query::list_common(table, card, &shapes, k, &mut none);
     if room.len() < counted.found + 3 {
         return 0;
     }
-    put_common(card, &shapes, k, room)
+    put_common(table, card, &shapes, k, room)
 }
 """
 # the one loop besides the seek's in which kind 3 reads bytes: from block to block, by their lengths

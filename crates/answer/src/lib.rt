@@ -6,9 +6,9 @@ ghost use lib.ListN.{length, getD};
 ghost use Rattle.rules.specs.declared.Refusal.the-variants.{Accepted};
 ghost use Rattle.rules.specs.Index.{indexT, indexRefusal};
 ghost use Rattle.rules.specs.Questions.{byPhrase, phraseIn, answer, wordsGood, phraseGood, goodQuestion};
+ghost use Rattle.bytetable.specs.Places.{PlacesOfOnes};
 ghost use Rattle.questions.specs.Wrote.{Wrote};
 ghost use Rattle.triallaws.specs.Asked.{offsetsIn, AskedIn, PhraseOpened};
-ghost use Rattle.bytetable.specs.Places.{PlacesOfOnes};
 use bytetable::Table;
 use triallaws::COUNTS;
 use triallaws::LEAD;
@@ -46,7 +46,8 @@ fn open_phrase(card: &[u8], pairs: &[u32], terms: &mut [u32], lists: &mut [u32])
 
 // Kind 4: the pages with a start of the phrase, each with the number of its starts.
 fn by_phrase(table: &Table, card: &[u8], pairs: &[u32], room: &mut [u32]) -> usize
-    requires { ⌜ (indexRefusal (now card) ≡ Accepted) × (phraseGood (indexT (now card)) (now pairs) ≡ true) × PlacesOfOnes (now table) ⌝ }
+    requires { ⌜ (indexRefusal (now card) ≡ Accepted) × (phraseGood (indexT (now card)) (now pairs) ≡ true)
+        × PlacesOfOnes (now table) ⌝ }
     ensures { λ r. ⌜ Wrote (byPhrase (phraseIn (now (card .entry)) (now (pairs .entry)))) (now (room .entry)) r
         (now (room .exit)) ⌝ }
 {
@@ -58,7 +59,8 @@ fn by_phrase(table: &Table, card: &[u8], pairs: &[u32], room: &mut [u32]) -> usi
 
 // The answer of a question that may be asked, whole at the front of the room; 0 where it does not fit.
 pub fn answer_one(table: &Table, card: &[u8], kind: u32, args: &[u32], room: &mut [u32]) -> usize
-    requires { ⌜ (indexRefusal (now card) ≡ Accepted) × (goodQuestion (indexT (now card)) kind (now args) ≡ true) × PlacesOfOnes (now table) ⌝ }
+    requires { ⌜ (indexRefusal (now card) ≡ Accepted) × (goodQuestion (indexT (now card)) kind (now args) ≡ true)
+        × PlacesOfOnes (now table) ⌝ }
     ensures { λ r. ⌜ Wrote (answer (now (card .entry)) kind (now (args .entry))) (now (room .entry)) r
         (now (room .exit)) ⌝ }
 {

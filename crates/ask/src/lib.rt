@@ -7,8 +7,8 @@ ghost use Rattle.rules.specs.declared.Refusal.the-variants.{Accepted};
 ghost use Rattle.rules.specs.Index.{indexT, indexRefusal};
 ghost use Rattle.rules.specs.Ask.{asked, put, fitted};
 ghost use Rattle.rules.specs.Promises.{Answered};
-ghost use Rattle.questions.specs.Formed.{formed, answersTo};
 ghost use Rattle.bytetable.specs.Places.{PlacesOfOnes};
+ghost use Rattle.questions.specs.Formed.{formed, answersTo};
 use bytetable::Table;
 use rules::INDEX_T_AT;
 use rules::Outcome;
@@ -16,7 +16,8 @@ use rules::Refusal;
 
 // Answers well-formed questions in turn, each behind the answers before it.
 fn answer_all(table: &Table, card: &[u8], questions: &[u32], room: &mut [u32]) -> Outcome
-    requires { ⌜ (indexRefusal (now card) ≡ Accepted) × (formed (indexT (now card)) (now questions) ≡ true) × PlacesOfOnes (now table) ⌝ }
+    requires { ⌜ (indexRefusal (now card) ≡ Accepted) × (formed (indexT (now card)) (now questions) ≡ true)
+        × PlacesOfOnes (now table) ⌝ }
     ensures { λ r. ⌜ asked r (now (room .exit))
         ≡ put (fitted (length (now (room .entry))) (answersTo (now (card .entry)) (now (questions .entry))))
         (now (room .entry)) ⌝ }

@@ -7,11 +7,11 @@ ghost use lib.ListN.{length};
 ghost use Rattle.rules.specs.declared.Refusal.the-variants.{Accepted};
 ghost use Rattle.rules.specs.Index.{indexN, indexT, indexRefusal};
 ghost use Rattle.rules.specs.Questions.{listsIn, byCommon, wordsGood};
+ghost use Rattle.bytetable.specs.Places.{PlacesOfOnes};
 ghost use Rattle.questions.specs.Wrote.{Wrote};
 ghost use Rattle.querylaws.specs.Lists.{Lists};
 ghost use Rattle.querylaws.specs.Listings.{wholeIn};
 ghost use Rattle.bycommon.specs.Tallies.{tallied};
-ghost use Rattle.bytetable.specs.Places.{PlacesOfOnes};
 use bytetable::Table;
 use querylaws::LENGTH;
 
@@ -31,7 +31,8 @@ fn put_common(table: &Table, card: &[u8], shapes: &[u32], k: usize, room: &mut [
 
 // The pages of the words; they are counted first only where the room may be too small for them.
 pub fn by_common(table: &Table, card: &[u8], terms: &[u32], room: &mut [u32]) -> usize
-    requires { ⌜ (indexRefusal (now card) ≡ Accepted) × (wordsGood (indexT (now card)) (now terms) ≡ true) × PlacesOfOnes (now table) ⌝ }
+    requires { ⌜ (indexRefusal (now card) ≡ Accepted) × (wordsGood (indexT (now card)) (now terms) ≡ true)
+        × PlacesOfOnes (now table) ⌝ }
     ensures { λ r. ⌜ Wrote
         (byCommon (indexN (now (card .entry))) (listsIn (now (card .entry)) (now (terms .entry))))
         (now (room .entry)) r (now (room .exit)) ⌝ }

@@ -5,9 +5,9 @@ ghost use Prim.Native.Nat.{_+_, _-_, _*_, _/_, _≤_, _<_};
 ghost use lib.ListN.{length, getD};
 ghost use Rattle.rules.specs.Counts.{onesBelow};
 ghost use Rattle.rules.specs.ReadList.{decode};
+ghost use Rattle.bytetable.specs.Places.{PlacesOfOnes};
 ghost use Rattle.readlaws.specs.Open.{Open, shapeIn};
 ghost use Rattle.readlaws.specs.Open.{Sought, OneAt, OneAhead};
-ghost use Rattle.bytetable.specs.Places.{PlacesOfOnes};
 use bytetable::Table;
 use shape::Shape;
 

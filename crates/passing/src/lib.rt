@@ -3,9 +3,9 @@
 ghost use mathlib.Core.Path.{_≡_};
 ghost use Prim.Native.Nat.{_+_, _-_, _*_, _/_, _^_, _≤_, _<_};
 ghost use lib.Count.{ones};
+ghost use Rattle.bytetable.specs.Places.{PlacesOfOnes};
 ghost use Rattle.readlaws.specs.Open.{Open};
 ghost use Rattle.walklaws.specs.Walks.{Started, Paid, Skipping, ZeroIn, AtZero, Skipped, Passed};
-ghost use Rattle.bytetable.specs.Places.{PlacesOfOnes};
 use bytetable::Table;
 use shape::Shape;
 use walklaws::Ones;
@@ -50,7 +50,8 @@ fn to_zero(table: &Table, at: Ones, h: usize) -> Ones
 // Passes words by their counts of ones to the one with zero number h, and stands there. Among the zeros of what is left
 // of a word, with all bits before that, this zero has the number `wanted`.
 fn skip(table: &Table, s: &[u8], g: Shape, h: usize, from: Ones, looks: &mut u32) -> Ones
-    requires { ⌜ Open (now s) g × (h + g .n ≤ g .bits) × Skipping (now s) g h from × (now looks ≤ 2 ^ 31 + from .k) × PlacesOfOnes (now table) ⌝ }
+    requires { ⌜ Open (now s) g × (h + g .n ≤ g .bits) × Skipping (now s) g h from × (now looks ≤ 2 ^ 31 + from .k)
+        × PlacesOfOnes (now table) ⌝ }
     ensures { λ r. ⌜ Skipped (now (s .entry)) g h r × Paid (from .k) (now (looks .entry)) (r .k) (now (looks .exit)) ⌝ }
 {
     let mut left = from.left;

@@ -4,11 +4,11 @@
 ghost use mathlib.Core.Path.{_≡_};
 ghost use Prim.Native.Nat.{_<_};
 ghost use lib.ListN.{length};
+ghost use Rattle.bytetable.specs.Places.{PlacesOfOnes};
 ghost use Rattle.querylaws.specs.Lists.{Lists};
 ghost use Rattle.querylaws.specs.Queries.{movedIn, toldIn, Seekable, Running};
 ghost use Rattle.querylaws.specs.Batches.{Batched};
 ghost use Rattle.querylaws.specs.Listings.{wholeIn, laidWithin, Tells};
-ghost use Rattle.bytetable.specs.Places.{PlacesOfOnes};
 use bytetable::Table;
 use querylaws::FROM;
 use querylaws::Listed;

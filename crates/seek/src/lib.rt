@@ -3,10 +3,10 @@
 ghost use mathlib.Core.Path.{_≡_};
 ghost use Prim.Native.Nat.{_+_, _^_, _<_};
 ghost use Rattle.rules.specs.ReadList.{listU, decode};
+ghost use Rattle.bytetable.specs.Places.{PlacesOfOnes};
 ghost use Rattle.readlaws.specs.Open.{Open};
 ghost use Rattle.walklaws.specs.Cursors.{Held, landing, looksFor};
 ghost use Rattle.walklaws.specs.Cursors.{movedBy};
-ghost use Rattle.bytetable.specs.Places.{PlacesOfOnes};
 use bytetable::Table;
 use shape::Shape;
 use walklaws::Cursor;
@@ -16,7 +16,8 @@ use walklaws::SPENT;
 
 // Where a seek for b ends: it stays, is spent with no look, or passes and lands.
 fn find(table: &Table, s: &[u8], g: Shape, c: Cursor, b: usize, looks: &mut u32) -> Landing
-    requires { ⌜ Open (now s) g × Held (listU (now s)) (decode (now s)) c × (now looks < 2 ^ 31) × PlacesOfOnes (now table) ⌝ }
+    requires { ⌜ Open (now s) g × Held (listU (now s)) (decode (now s)) c × (now looks < 2 ^ 31)
+        × PlacesOfOnes (now table) ⌝ }
     ensures { λ r. ⌜ (r ≡ landing (listU (now (s .entry))) (decode (now (s .entry))) c b)
         × (now (looks .exit)
         ≡ now (looks .entry) + looksFor (listU (now (s .entry))) (decode (now (s .entry))) c b) ⌝ }

@@ -4,8 +4,8 @@ ghost use mathlib.Core.Path.{_≡_};
 ghost use Prim.Native.Nat.{_+_, _*_, _/_, _%_, _^_, _<_};
 ghost use lib.Count.{ones};
 ghost use Rattle.fields.specs.Words.{placeOfOne};
-ghost use Rattle.bytetable.specs.Places.{PlacesOfOnes};
 ghost use Rattle.selectlaws.specs.ByteCounts.{each, byteOnes, runningOnes, highestByte, marked};
+ghost use Rattle.bytetable.specs.Places.{PlacesOfOnes};
 use bytetable::Table;
 use std::num::wrapping_add_u64;
 

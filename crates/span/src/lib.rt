@@ -1,9 +1,9 @@
 // A list gone through by rank: from where reading stands, elements are passed up to a number.
 
 ghost use Prim.Native.Nat.{_+_, _≤_, _<_};
+ghost use Rattle.bytetable.specs.Places.{PlacesOfOnes};
 ghost use Rattle.readlaws.specs.Open.{Open, OneAt};
 ghost use Rattle.span.specs.Walks.{WalkOn, PassedTo};
-ghost use Rattle.bytetable.specs.Places.{PlacesOfOnes};
 use bytetable::Table;
 use shape::Shape;
 

@@ -1,8 +1,8 @@
 // The starts of a phrase on one page.
 
 ghost use Prim.Native.Nat.{_-_};
-ghost use Rattle.triallaws.specs.Asked.{Turnable, CountedOn};
 ghost use Rattle.bytetable.specs.Places.{PlacesOfOnes};
+ghost use Rattle.triallaws.specs.Asked.{Turnable, CountedOn};
 use bytetable::Table;
 use querylaws::Turn;
 use trial::Trial;

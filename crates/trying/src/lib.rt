@@ -2,8 +2,8 @@
 
 ghost use mathlib.Core.Path.{_≡_};
 ghost use Prim.Native.Nat.{_-_, _<_};
-ghost use Rattle.triallaws.specs.Asked.{pagesIn, AskedIn, OnAll, TryingIn};
 ghost use Rattle.bytetable.specs.Places.{PlacesOfOnes};
+ghost use Rattle.triallaws.specs.Asked.{pagesIn, AskedIn, OnAll, TryingIn};
 use bytetable::Table;
 use querylaws::Turn;
 use trial::Trial;

@@ -4,10 +4,10 @@
 ghost use mathlib.Core.Path.{_≡_};
 ghost use Prim.Native.Nat.{_+_, _*_, _≤_, _<_};
 ghost use lib.ListN.{length};
+ghost use Rattle.bytetable.specs.Places.{PlacesOfOnes};
 ghost use Rattle.querylaws.specs.Lists.{numberOf, partAt};
 ghost use Rattle.turning.specs.Words.{elementsAt, walkAt, withWalk, positionWalk, ranksOf};
 ghost use Rattle.turning.specs.Words.{BlockAt, Readable, Walked, TurnedOn};
-ghost use Rattle.bytetable.specs.Places.{PlacesOfOnes};
 use bytetable::Table;
 use span::Walk;
 
@@ -90,7 +90,8 @@ pub fn ranks_at(
 // Turns word i to the page of those positions: puts its span, and stands before them.
 pub fn turn_to(table: &Table, card: &[u8], shapes: &[u32], i: usize, x: Ranks, words: &mut [usize])
     requires { ⌜ Readable (now card) (now shapes) (now words) i (8 * i + 3)
-        × (positionWalk (now words) i .next ≤ x .from) × (x .from ≤ numberOf (now shapes) i 7) × PlacesOfOnes (now table) ⌝ }
+        × (positionWalk (now words) i .next ≤ x .from) × (x .from ≤ numberOf (now shapes) i 7)
+        × PlacesOfOnes (now table) ⌝ }
     ensures { λ _. ⌜ TurnedOn (now (card .entry)) (now (shapes .entry)) (now (words .entry)) i x
         (now (words .exit)) ⌝ }
 {

@@ -106,9 +106,8 @@ select-by-requires c κs =
 add-result : tie.Need-add-result Inv-loop μ-loop
 add-result c =
     let start = c .before .before .before .before .before .before .before .before in
-    record {
-      fits = omega (arith, c .before .before .before .loop .inv .1 .inside, start .pre .0 .short, c .select-by .ensures .1);
-    }
+    let within = c .before .before .before .loop .inv .1 .inside in
+    record { fits = omega (arith, within, start .pre .0 .short, c .select-by .ensures .1) }
 
 returns : tie.Need-returns Inv-loop μ-loop
 returns c =

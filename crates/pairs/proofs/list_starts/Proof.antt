@@ -20,7 +20,8 @@ Inv-loop table card terms lists room₀ q₀ words₀ page₀ b₀ found₀ room
     (offsetsIn lists) q words b found room × (length page ≡ 1)
 
 abbrev μ-loop : tie.MeasureT-loop
-μ-loop table card terms lists room₀ q₀ words₀ page₀ b₀ found₀ room q words page b found = leftIn b (leadReader card (pagesIn lists) q)
+μ-loop table card terms lists room₀ q₀ words₀ page₀ b₀ found₀ room q words page b found =
+    leftIn b (leadReader card (pagesIn lists) q)
 
 loop-holds : tie.Need-loop-holds Inv-loop μ-loop
 loop-holds c =
@@ -30,6 +31,12 @@ loop-holds c =
 
 same-length : tie.Need-same-length Inv-loop μ-loop
 same-length c = c .before .before .before .before .before .before .loop .inv .1 .same ∙ length-set (c .before .before .before .before .before .before .before .before .before .before .before .before .args .room .now) 0 0
+
+batch-requires : tie.Need-batch-requires Inv-loop μ-loop
+batch-requires c κs =
+    let l = c .before .before in
+    let start = l .before .before .before .before .before .before in
+    (l .loop .inv .1 .partway .running, omega (arith, l .loop .inv .2), start .pre .2)
 
 -- the query behind the next common page
 turned : (c : tie.After-batch Inv-loop μ-loop)
@@ -122,7 +129,7 @@ list-starts-spec =
     (λ c. search needs)
     (λ c. omega (arith, c .before .before .before .before .before .before .pre .0 .row))
     (λ c. sym (c .before .before .loop .inv .2))
-    (λ c κs. (c .before .before .loop .inv .1 .partway .running, omega (arith, c .before .before .loop .inv .2), c .before .before .before .before .before .before .before .before .pre .2))
+    batch-requires
     same-length
     returns
     (λ c. sym (c .before .before .before .before .before .before .before .loop .inv .1 .ahead .room))

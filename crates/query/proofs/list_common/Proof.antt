@@ -26,11 +26,12 @@ abbrev μ-loop : tie.MeasureT-loop
 μ-loop table card shapes k room s₀ found₀ rest₀ s found rest = spentMark - s .mark
 
 batch-requires : tie.Need-batch-requires Inv-loop μ-loop
-batch-requires c κs = (
-  rw (c .before .before .new .ensures) (new-running _ _ _ (c .before .before .before .before .before .before .pre .0) 0),
-  omega (arith, c .before .if1 .taken),
-  c .before .before .before .before .before .before .pre .1,
-)
+batch-requires c κs =
+    let p = c .before .before .before .before .before .before .pre in (
+      rw (c .before .before .new .ensures) (new-running _ _ _ (p .0) 0),
+      omega (arith, c .before .if1 .taken),
+      p .1,
+    )
 
 -- what the first batch listed; with no room there is none
 first : (c : tie.Joined1 Inv-loop μ-loop) → Listing (now (c .before .before .before .before .before .args .card))

@@ -154,7 +154,7 @@ count-starts-spec =
     loop-holds
     turn-next-requires
     (λ c. search needs)
-    (λ c. omega (arith, lead-few _ _ _ _ _ _ (c .before .before .before .before .before .before .before .before .before .before .pre .0 .0 .asked)))
+    (λ c. omega (arith, lead-few _ _ _ _ _ _ (start (c .before .before .before) .pre .0 .0 .asked)))
     (λ c κs. search needs)
     (λ c. omega (arith, few c))
     (λ c. omega (arith, few c))

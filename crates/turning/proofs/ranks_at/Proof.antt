@@ -10,7 +10,8 @@ pass-to-requires : tie.Need-pass-to-requires
 unfolding shapeIn
 pass-to-requires c κs =
     let p = c .before .before .before .before .before .before .before .pre in
-    rw (c .before .before .before .part-at .ensures, c .before .before .shape-in .ensures, c .walk-at .ensures) (p .0 .on, p .1, omega (arith, p .2), p .3)
+    rw (c .before .before .before .part-at .ensures, c .before .before .shape-in .ensures, c .walk-at .ensures)
+    (p .0 .on, p .1, omega (arith, p .2), p .3)
 
 pass-one-requires : tie.Need-pass-one-requires
 unfolding shapeIn

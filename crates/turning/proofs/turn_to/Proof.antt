@@ -15,7 +15,8 @@ pass-to-requires : tie.Need-pass-to-requires
 unfolding shapeIn
 pass-to-requires c κs =
     let p = c .before .before .before .before .before .before .before .pre in
-    rw (c .before .part-at .ensures, c .shape-in .ensures, c .before .before .walk-at .ensures) (p .0 .on, p .1, p .2, p .3)
+    rw (c .before .part-at .ensures, c .shape-in .ensures, c .before .before .walk-at .ensures)
+    (p .0 .on, p .1, p .2, p .3)
 
 slice-write-words : tie.Need-slice-write-words
 slice-write-words c =
