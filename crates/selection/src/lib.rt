@@ -1,4 +1,4 @@
-// The place of a word's one by its number, from the counts of its bytes.
+// The place of a word's one by its number, from the counts of its bytes and the table of a byte's ones.
 
 ghost use mathlib.Core.Path.{_≡_};
 ghost use Prim.Native.Nat.{_+_, _*_, _/_, _%_, _^_, _<_};
