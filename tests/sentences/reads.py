@@ -94,8 +94,8 @@ def reads_settled(program):
 
 
 def table_told(program):
-    """The table's is the one type with a name of another type. `places` alone gives a table, no struct holds one, and
-    each function that is lent one asks that it is the table of places, whose numbers are the same for every card."""
+    """No type but the table's has a second name. `places` alone gives a table, no struct holds one, and each function
+    that is lent one asks that it is the table of places, whose numbers are the same for every card."""
     if program.aliases != {f"bytetable::{TABLE}": "[u8; 2048]"}:
         yield f"types by another name: {', '.join(f'{name} = {kind}' for name, kind in program.aliases.items())}"
     for name, fields in program.structs.items():

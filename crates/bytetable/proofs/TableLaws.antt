@@ -15,7 +15,7 @@ abbrev place : ℕ → ℕ
 place k = placeOfOne 8 (k / 8) (k % 8)
 
 -- each number is the rule's, counted from k
-abbrev pub tested : ℕ → List ℕ → Bool
+abbrev tested : ℕ → List ℕ → Bool
 tested k [] = true
 tested k (x ∷ xs) = eqb x (place k) && tested (suc k) xs
 

@@ -29,6 +29,15 @@ pub record Sides (g : Shape) (z : ℕ) : Type 0 where
   pub many : g .n ≤ 16777216
 
 module _ (g : Shape) (s : List ℕ) (f : Fitting g s) where
+  -- a room of the same length fits too
+  pub fitting-kept : (t : List ℕ) → length t ≡ length s → Fitting g t
+  fitting-kept t e = record {
+    shape = f .shape;
+    below = f .below;
+    within = f .within;
+    room = omega (arith, f .room);
+  }
+
   pub width-of : 0 < g .n → g .w ≡ width (g .u) (g .n)
   width-of some = ap (λ h. h .w) (f .shape ∙ shape-some (g .u) (g .n) some)
 

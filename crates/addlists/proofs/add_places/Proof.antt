@@ -10,6 +10,7 @@ use Rattle.rules.specs.List.{size}
 use Rattle.rules.specs.Term.{placed}
 use Rattle.rules.specs.InPlace.{added}
 use Rattle.termlaws.proofs.PlaceLaws.{length-placed}
+use Rattle.filllaws.proofs.SideLaws.{fitting-kept}
 use Rattle.filllaws.proofs.WriteLaws.{end-of}
 use Rattle.wordlaws.specs.Stretch.{Placing, SpotAt}
 use Rattle.addlaws.proofs.MoreLaws.{added-none, stretch-rises, stretch-added, placed-rise}
@@ -90,12 +91,7 @@ add-all-requires c κs =
     let n = c .before .before .before .before .before .before .before in
     let l = turn n in
     let s = entry l in (
-      record {
-        shape = s .pre .0 .shape;
-        below = s .pre .0 .below;
-        within = s .pre .0 .within;
-        room = omega (arith, s .pre .0 .room, l .loop .inv .0);
-      },
+      fitting-kept (s .args .g) (s .args .block .now) (s .pre .0) (l .loop .block) (l .loop .inv .0),
       rw length-take (omega (arith, s .pre .1, n .next-places .ensures .done)),
       stretch-rises (s .args .g .u) (l .loop .at .done) (count n) (els s) (laid n) (placing s .rises) (laid-is n),
     )

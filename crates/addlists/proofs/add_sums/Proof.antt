@@ -11,6 +11,7 @@ use Rattle.rules.specs.List.{rising, size}
 use Rattle.rules.specs.Term.{sums}
 use Rattle.rules.specs.InPlace.{added}
 use Rattle.termlaws.proofs.SumLaws.{length-sums}
+use Rattle.filllaws.proofs.SideLaws.{fitting-kept}
 use Rattle.filllaws.proofs.WriteLaws.{end-of}
 use Rattle.wordlaws.proofs.LayLaws.{sums-all, TallyAt}
 use Rattle.wordlaws.proofs.LayLaws.{tally-first, tally-left, tally-next, tally-part, tally-behind}
@@ -78,12 +79,7 @@ add-all-requires c κs =
     let l = k .before .before .before .before in
     let i = l .loop .at .done in
     let s = entry l in (
-      record {
-        shape = s .pre .0 .shape;
-        below = s .pre .0 .below;
-        within = s .pre .0 .within;
-        room = omega (arith, s .pre .0 .room, l .loop .inv .0);
-      },
+      fitting-kept (s .args .g) (s .args .block .now) (s .pre .0) (l .loop .block) (l .loop .inv .0),
       rw length-take (omega (arith, s .pre .1, k .next-sums .ensures .done)),
       stretch-rises (s .args .g .u) i 256 (els s) (take (k .next-sums .result .done - i - 0) (k .next-sums .last .0))
           (els-rise s) (part-is k),
