@@ -64,7 +64,7 @@ pub fn land(s: &[u8], g: Shape, b: usize, from: Ones, looks: &mut u32) -> Landin
         × Paid (from .k) (now (looks .entry)) (landingWord (now (s .entry)) b) (now (looks .exit)) ⌝ }
 {
     let mut at = from;
-    while at.rank < g.n {
+    while at.left != 0 || at.rank < g.n {
         let one = looks::to_one(s, g, at, looks);
         let bit = 64 * one.k + u64::trailing_zeros(one.left) as usize;
         let page = page_at(s, g, bit, one.rank);

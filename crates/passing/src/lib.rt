@@ -3,6 +3,7 @@
 ghost use mathlib.Core.Path.{_≡_};
 ghost use Prim.Native.Nat.{_+_, _-_, _*_, _/_, _^_, _≤_, _<_};
 ghost use lib.Count.{ones};
+ghost use Rattle.selectlaws.specs.ByteCounts.{runningOnes};
 ghost use Rattle.bytetable.specs.Places.{PlacesOfOnes};
 ghost use Rattle.readlaws.specs.Open.{Open};
 ghost use Rattle.walklaws.specs.Walks.{Started, Paid, Skipping, ZeroIn, AtZero, Skipped, Passed};
@@ -27,19 +28,13 @@ fn with_ones(x: usize, left: u64) -> usize
     x + u64::count_ones(left) as usize
 }
 
-// Goes on to zero number h of the run, counted from 1, which is in what is left of the word.
-fn to_zero(table: &Table, at: Ones, h: usize) -> Ones
-    requires { ⌜ ZeroIn h at × PlacesOfOnes (now table) ⌝ }
+// Goes on to zero number h of the run, counted from 1, which is in what is left of the word, whose counts are given.
+fn to_zero(table: &Table, at: Ones, counts: u64, h: usize) -> Ones
+    requires { ⌜ ZeroIn h at × (counts ≡ runningOnes 8 0 (at .left)) × PlacesOfOnes (now table) ⌝ }
     ensures { λ r. ⌜ AtZero h at r ⌝ }
 {
     let j = h + at.rank - 64 * at.k - 1;
-    let zeros = !at.left;
-    let place = selection::select_by(
-        table,
-        zeros,
-        selection::running_counts(zeros),
-        j as u32,
-    ) as usize;
+    let place = selection::select_zero(table, at.left, counts, j as u32) as usize;
     Ones {
         left: fields::from_bit(at.left, place),
         k: at.k,
@@ -48,18 +43,21 @@ fn to_zero(table: &Table, at: Ones, h: usize) -> Ones
 }
 
 // Passes words by their counts of ones to the one with zero number h, and stands there. Among the zeros of what is left
-// of a word, with all bits before that, this zero has the number `wanted`.
+// of a word, with all bits before that, this zero has the number `wanted`. The counts of a word's bytes are taken where
+// its ones are counted, since both then are one sum.
 fn skip(table: &Table, s: &[u8], g: Shape, h: usize, from: Ones, looks: &mut u32) -> Ones
     requires { ⌜ Open (now s) g × (h + g .n ≤ g .bits) × Skipping (now s) g h from × (now looks ≤ 2 ^ 31 + from .k)
         × PlacesOfOnes (now table) ⌝ }
     ensures { λ r. ⌜ Skipped (now (s .entry)) g h r × Paid (from .k) (now (looks .entry)) (r .k) (now (looks .exit)) ⌝ }
 {
     let mut left = from.left;
+    let mut counts = selection::running_counts(left);
     let mut k = from.k;
     let mut wanted = h + from.rank - 64 * from.k;
     while 64 < with_ones(wanted, left) {
         let at = looks::next_word(s, g, k, with_ones(wanted, left) - 64, looks);
         left = at.left;
+        counts = selection::running_counts(left);
         k = at.k;
         wanted = at.rank;
     }
@@ -68,7 +66,7 @@ fn skip(table: &Table, s: &[u8], g: Shape, h: usize, from: Ones, looks: &mut u32
         k,
         rank: wanted + 64 * k - h,
     };
-    to_zero(table, at, h)
+    to_zero(table, at, counts, h)
 }
 
 // Looks at the word of the start, and passes the cursor's own element, which is below the bound; then passes on to the

@@ -3,7 +3,7 @@
 ghost use mathlib.Core.Path.{_≡_};
 ghost use Prim.Native.Nat.{_+_, _*_, _/_, _%_, _^_, _<_};
 ghost use lib.Count.{ones};
-ghost use Rattle.fields.specs.Words.{placeOfOne};
+ghost use Rattle.fields.specs.Words.{placeOfOne, placeOfZero};
 ghost use Rattle.selectlaws.specs.ByteCounts.{each, byteOnes, runningOnes, highestByte, marked};
 ghost use Rattle.bytetable.specs.Places.{PlacesOfOnes};
 use bytetable::Table;
@@ -65,4 +65,13 @@ pub fn select_by(table: &Table, x: u64, counts: u64, j: u32) -> u32
     let p = u64::trailing_zeros(above(counts, j)) - 7;
     let before = (((counts << 8) >> p) & 255) as u32;
     p + one_of_byte(table, ((x >> p) & 255) as u8, j - before)
+}
+
+// The place of the zero number j, counted from 0, of a word that has more zeros, by the running counts of its ones: what
+// these leave of eight bits for each byte are those of its zeros.
+pub fn select_zero(table: &Table, x: u64, counts: u64, j: u32) -> u32
+    requires { ⌜ (counts ≡ runningOnes 8 0 x) × (j + ones x < 64) × PlacesOfOnes (now table) ⌝ }
+    ensures { λ r. ⌜ (r ≡ placeOfZero 64 x j) × (r < 64) ⌝ }
+{
+    select_by(table, !x, 0x4038302820181008 - counts, j)
 }

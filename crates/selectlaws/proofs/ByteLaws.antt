@@ -15,6 +15,7 @@ use lib.Arith.{digits-lt, mod-mul}
 use lib.Pow.{split, pow-pos, pow-add, pow-mono, shr-lt, shr-shr, shl-shr, field, mod-mod-pow}
 use Rattle.laws.proofs.BitLaws.{drop-low, shl-keeps}
 use Rattle.laws.proofs.CountLaws.{ones-parts}
+use Rattle.fields.proofs.WordLaws.{complement-ones}
 use Rattle.selectlaws.specs.ByteCounts.{each, byteOnes, runningOnes, highestByte}
 
 -- ---- the counts of the bytes
@@ -205,6 +206,40 @@ running-total x s e h =
     subst (λ (n : ℕ). n < 2 ^ 64) (running-is 8 0 x (lit< tt)) (mod-lt ((byteOnes 8 x + 0) * each 8 1) (pow-pos 64)) in
     let a : s / 2 ^ 56 % 256 ≡ 0 + ones (x % 2 ^ 64) = rw e (running-at 8 0 x 7 (lit< tt) (lit< tt)) in
     omega (arith, rw (mod-eq-of-lt h) at a)
+
+-- a number, what it leaves of all ones, and both by bytes
+both-bytes : (P x y z : ℕ) → x + y ≡ z → z + 1 ≡ P * 256
+    → (x % 256 + y % 256 ≡ 255) × (x / 256 + y / 256 ≡ z / 256) × (z % 256 ≡ 255) × (z / 256 + 1 ≡ P)
+both-bytes P x y z s e = (omega arith, omega arith, omega arith, omega arith)
+
+byte-both : (k l : ℕ) → k + l ≡ 255 → ones k + ones l ≡ 8
+byte-both k l e =
+    let small : l < 256 = omega arith in
+    let other : 255 - l < 256 = omega arith in
+    let k' : 255 - l ≡ k = omega arith in
+    rw k' at (rw (mod-eq-of-lt other, mod-eq-of-lt small) at (complement-ones 8 l 8 small (omega arith)))
+
+-- the ones and the zeros of each byte are eight together
+running-both : (m a b x y z : ℕ) → x + y ≡ z → z + 1 ≡ 256 ^ m
+    → runningOnes m a x + runningOnes m b y ≡ runningOnes m (a + b) z
+unfolding runningOnes ones
+running-both zero a b x y z s e = refl
+running-both (suc m) a b x y z s e =
+    let p = both-bytes (256 ^ m) x y z s (e ∙ pow-suc 256 m) in
+    let o : ones (x % 256) + ones (y % 256) ≡ 8 = byte-both (x % 256) (y % 256) (p .0) in
+    let n : a + ones (x % 256) + (b + ones (y % 256)) ≡ a + b + 8 = omega arith in
+    let i = running-both m (a + ones (x % 256)) (b + ones (y % 256)) (x / 256) (y / 256) (z / 256) (p .1) (p .3) in
+    rw (p .2) (omega (arith, rw n at i, o))
+
+all-counts : runningOnes 8 0 (2 ^ 64 - 1) ≡ 4627501566018457608
+unfolding runningOnes ones
+all-counts = refl
+
+-- the counts of a word's zeros, by those of its ones
+pub zero-counts : (x s : ℕ) → s ≡ runningOnes 8 0 x → x < 2 ^ 64
+    → s + runningOnes 8 0 (2 ^ 64 - 1 - x) ≡ 4627501566018457608
+zero-counts x s e h =
+    ap (λ (n : ℕ). n + runningOnes 8 0 (2 ^ 64 - 1 - x)) e ∙ running-both 8 0 0 x (2 ^ 64 - 1 - x) (2 ^ 64 - 1) (omega arith) refl ∙ all-counts
 
 -- a byte below the a low bits
 byte-kept : (n a b k : ℕ) → a + 8 + k ≡ b → n % 2 ^ b / 2 ^ k % 2 ^ 8 ≡ n / 2 ^ k % 2 ^ 8

@@ -14,7 +14,7 @@ use Rattle.readlaws.proofs.PartLaws.{flat-inside, word-inside}
 use Rattle.walklaws.specs.declared.Ones.{Ones}
 use Rattle.walklaws.specs.Walks.{Walking}
 use Rattle.walklaws.proofs.OpenLaws.{words-few}
-use Rattle.walklaws.proofs.WalkLaws.{walking-from, walking-next, walking-more, walking-drop, one-lt, one-bit, one-rank}
+use Rattle.walklaws.proofs.WalkLaws.{walking-from, walking-next, walking-more, walking-drop, one-lt, one-there}
 use Rattle.span.specs.declared.Walk.{Walk}
 use Rattle.span.specs.Walks.{WalkOn, PassedTo}
 use Rattle.upto.specs.Bounds.{Passing, OnesLeft}
@@ -66,7 +66,7 @@ module _ (s : List ℕ) (g : Shape) (o : Open s g) (n : ℕ) (more : n < g .n) (
 
     pub ones-place : OneAt s (g .upper) (x .rank) place × (place < 2 ^ 32)
     ones-place = (
-      record { set = one-bit s g o _ here some; below = one-rank s g o _ here some },
+      one-there s g o _ here some,
       omega (arith, words-few s g o (x .k) (here .within), one-lt s g o _ here some),
     )
 

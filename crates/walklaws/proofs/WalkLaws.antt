@@ -17,8 +17,8 @@ use Rattle.fields.specs.Words.{placeOfOne}
 use Rattle.fields.proofs.WordLaws.{run-one}
 use Rattle.shape.specs.declared.Shape.{Shape}
 use Rattle.listlaws.proofs.AfterLaws.{run-after-from}
-use Rattle.readlaws.specs.Open.{Open}
-use Rattle.readlaws.proofs.ReadLaws.{open-reads}
+use Rattle.readlaws.specs.Open.{Open, OneAt}
+use Rattle.readlaws.proofs.ReadLaws.{open-reads, one-ranks}
 use Rattle.walklaws.specs.declared.Ones.{Ones}
 use Rattle.walklaws.specs.Walks.{Walking, Skipping, ZeroIn, AtZero, Skipped}
 use Rattle.walklaws.proofs.RestLaws.{rest-none, rest-first, rest-drop, rest-all, rest-from}
@@ -189,6 +189,12 @@ module _ (s : List ℕ) (g : Shape) (o : Open s g) where
 
       pub one-rank : below bit ≡ x .rank
       one-rank = one-at .1 ∙ sym (a .counted)
+
+      pub one-there : OneAt s (g .upper) (x .rank) bit
+      one-there = record { set = one-bit; below = one-rank }
+
+      pub one-ahead : x .rank < g .n
+      one-ahead = one-ranks s g o bit (x .rank) one-there .number
 
       pub walking-drop : (y : Ones) → y .k ≡ x .k → y .left ≡ bitAnd (x .left) (x .left - 1) → y .rank ≡ x .rank + 1
           → Walking s g y

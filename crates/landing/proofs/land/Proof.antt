@@ -1,20 +1,22 @@
 -- `land` passes elements below b one by one, and ends at the first that is not or behind the last.
 use mathlib.Core.Path.{refl, ap}
 use mathlib.Core.List.{List}
+use mathlib.Core.Logic.{inl, inr}
 use Prim.Native.Nat.{ℕ, _+_, _-_, _*_, _^_, _<_}
 use native.Mathlib.Omega.{arith}
 use borrow.Author.Count.{below-more}
+use borrow.Author.Tests.{ltb-true, ltb-false}
 use lib.Count.{trailingZeros}
 use lib.ListN.{getD}
 use Rattle.rules.specs.ReadList.{decode}
 use Rattle.shape.specs.declared.Shape.{Shape}
 use Rattle.readlaws.specs.Open.{OneAt}
-use Rattle.readlaws.proofs.ReadLaws.{open-reads, one-ranks}
+use Rattle.readlaws.proofs.ReadLaws.{open-reads}
 use Rattle.seeklaws.proofs.FirstLaws.{rising-below}
 use Rattle.walklaws.specs.declared.Ones.{Ones}
 use Rattle.walklaws.specs.Walks.{Before, Paid, Walking}
 use Rattle.walklaws.proofs.OpenLaws.{open-U, open-length, open-few, open-rising, words-few}
-use Rattle.walklaws.proofs.WalkLaws.{one-lt, one-bit, one-rank, walking-drop}
+use Rattle.walklaws.proofs.WalkLaws.{one-lt, one-there, one-ahead, walking-drop}
 use Rattle.walklaws.proofs.LandLaws.{landed-on, landed-none}
 use Rattle.landing.proofs.land.Statement.{statement}
 use Rattle.landing.proofs.land.Tie as tie
@@ -28,11 +30,21 @@ abbrev μ-loop : tie.MeasureT-loop
 loop-holds : tie.Need-loop-holds Inv-loop μ-loop
 loop-holds c = (c .before .pre .1, c .before .pre .2, refl)
 
+-- a one lies ahead: in what is left of the word, or by the number of those that were passed
+ahead : (c : tie.Joined1 Inv-loop μ-loop) → c .before .before .loop .at .rank < c .before .before .before .before .args .g .n
+ahead c =
+    let at = c .before .before .loop in
+    let start = c .before .before .before .before in
+    elim (c .if1 .came) [
+      | inl t ↦ one-ahead (start .args .s .now) (start .args .g) (start .pre .0) (at .at) (at .inv .0) (omega (arith, t .taken))
+      | inr e ↦ ltb-true (at .at .rank) (start .args .g .n) (e .3 .taken)
+    ]
+
 to-one-requires : tie.Need-to-one-requires Inv-loop μ-loop
 to-one-requires c κs =
-    let start = c .before .before .before .before .before .before in
-    let at = c .before .before .before .before .loop in
-    (start .pre .0, at .inv .0, c .before .if1 .taken, omega (arith, at .inv .2, start .pre .3))
+    let start = c .before .before .before .before .before in
+    let at = c .before .before .before .loop in
+    (start .pre .0, at .inv .0, ahead (c .before), omega (arith, at .inv .2, start .pre .3))
 
 -- the element at the one that a turn finds
 pub record Turn (s : List ℕ) (g : Shape) (x : Ones) : Type 0 where
@@ -43,10 +55,10 @@ pub record Turn (s : List ℕ) (g : Shape) (x : Ones) : Type 0 where
   pub low : getD (decode s) (x .rank) 0 < 2 ^ 32 - 1
 
 turn : (c : tie.After-to-one Inv-loop μ-loop) →
-    let start = c .before .before .before .before .before .before .before in
+    let start = c .before .before .before .before .before .before in
     Turn (start .args .s .now) (start .args .g) (c .to-one .result)
 turn c =
-    let start = c .before .before .before .before .before .before .before in
+    let start = c .before .before .before .before .before .before in
     let s : List ℕ = start .args .s .now in
     let g : Shape = start .args .g in
     let o = start .pre .0 in
@@ -54,12 +66,10 @@ turn c =
     let w = c .to-one .ensures .0 .at in
     let some = c .to-one .ensures .0 .some in
     let r = open-reads s g o in
-    let one : OneAt s (g .upper) (x .rank) (64 * x .k + trailingZeros 64 (x .left)) =
-    record { set = one-bit s g o x w some; below = one-rank s g o x w some } in
-    let number = one-ranks s g o _ (x .rank) one .number in
+    let number = one-ahead s g o x w some in
     record {
       inside = omega (arith, words-few s g o (x .k) (w .within), one-lt s g o x w some);
-      one = one;
+      one = one-there s g o x w some;
       number = number;
       few = omega arith;
       low = omega (
@@ -81,39 +91,39 @@ add-bit c = record { fits = omega (arith, turn (c .before .before) .inside) }
 page-at-requires : tie.Need-page-at-requires Inv-loop μ-loop
 page-at-requires c κs =
     let one = c .before .before in
-    (one .before .before .before .before .before .before .before .pre .0, turn one .one)
+    (one .before .before .before .before .before .before .pre .0, turn one .one)
 
-add-t16 : tie.Need-add-t16 Inv-loop μ-loop
-add-t16 c = record { fits = omega (arith, turn (c .before .before .before .before) .low, c .before .page-at .ensures) }
-
-cast-t17 : tie.Need-cast-t17 Inv-loop μ-loop
-cast-t17 c = record { fits = omega (arith, turn (c .before .before .before .before) .low, c .before .page-at .ensures) }
-
-cast-t18 : tie.Need-cast-t18 Inv-loop μ-loop
-cast-t18 c = record { fits = omega (arith, turn (c .before .before .before .before) .inside) }
+add-t18 : tie.Need-add-t18 Inv-loop μ-loop
+add-t18 c = record { fits = omega (arith, turn (c .before .before .before .before) .low, c .before .page-at .ensures) }
 
 cast-t19 : tie.Need-cast-t19 Inv-loop μ-loop
-cast-t19 c =
+cast-t19 c = record { fits = omega (arith, turn (c .before .before .before .before) .low, c .before .page-at .ensures) }
+
+cast-t20 : tie.Need-cast-t20 Inv-loop μ-loop
+cast-t20 c = record { fits = omega (arith, turn (c .before .before .before .before) .inside) }
+
+cast-t21 : tie.Need-cast-t21 Inv-loop μ-loop
+cast-t21 c =
     let t = turn (c .before .before .before .before .before) in
     record { fits = omega (arith, t .number, t .few) }
 
 returns : tie.Need-returns Inv-loop μ-loop
 returns c =
     let one = c .before .before .before .before .before in
-    let at = one .before .before .before .before .before .loop in
-    let start = one .before .before .before .before .before .before .before in
+    let at = one .before .before .before .before .loop in
+    let start = one .before .before .before .before .before .before in
     let t = one .to-one .ensures in
     let v = c .before .before .page-at .ensures in
     let l = landed-on (start .args .s .now) (start .args .g) (start .pre .0) (start .args .b) (one .to-one .result)
     (t .0 .at) (λ j h. at .inv .1 j (omega (arith, t .0 .rank-kept))) _ (t .0 .some)
-    (omega (arith, v, c .before .if2 .taken)) (ap (λ (x : ℕ). x + 1) v) refl refl in
+    (omega (arith, v, c .before .if3 .taken)) (ap (λ (x : ℕ). x + 1) v) refl refl in
     (l .0, omega (arith, l .1, at .inv .2, t .1))
 
-sub-t20 : tie.Need-sub-t20 Inv-loop μ-loop
-sub-t20 c = omega (arith, c .before .before .before .before .before .to-one .ensures .0 .some)
+sub-t22 : tie.Need-sub-t22 Inv-loop μ-loop
+sub-t22 c = omega (arith, c .before .before .before .before .before .to-one .ensures .0 .some)
 
-add-t15 : tie.Need-add-t15 Inv-loop μ-loop
-add-t15 c =
+add-t14 : tie.Need-add-t14 Inv-loop μ-loop
+add-t14 c =
     let t = turn (c .before .before .before .before .before .before .before) in
     record { fits = omega (arith, t .number, t .few) }
 
@@ -125,35 +135,35 @@ loop-less c =
 loop-again : tie.Need-loop-again Inv-loop μ-loop
 loop-again c =
     let one = c .before .before .before .before .before .before .before in
-    let at = one .before .before .before .before .before .loop in
-    let start = one .before .before .before .before .before .before .before in
+    let at = one .before .before .before .before .loop in
+    let start = one .before .before .before .before .before .before in
     let t = one .to-one .ensures in
     let v = c .before .before .before .before .page-at .ensures in (
       walking-drop (start .args .s .now) (start .args .g) (start .pre .0) (one .to-one .result) (t .0 .at) (t .0 .some) _
           refl refl refl,
       below-more _ _ (λ j h. at .inv .1 j (omega (arith, t .0 .rank-kept)))
-          (omega (arith, v, c .before .before .before .if2 .left)),
+          (omega (arith, v, c .before .before .before .if3 .left)),
       omega (arith, at .inv .2, t .1),
     )
 
 to-end-requires : tie.Need-to-end-requires Inv-loop μ-loop
 to-end-requires c κs =
-    let start = c .before .before .before .before .before .before in
-    let at = c .before .before .before .before .loop in
+    let start = c .before .before .before .before .before .before .before .before in
+    let at = c .before .before .before .before .before .before .loop in
     (start .pre .0, at .inv .0 .within, omega (arith, at .inv .2, start .pre .3))
 
 none-requires : tie.Need-none-requires Inv-loop μ-loop
 none-requires c κs =
-    let start = c .before .before .before .before .before .before .before in
+    let start = c .before .before .before .before .before .before .before .before .before in
     open-few (start .args .s .now) (start .args .g) (start .pre .0)
 
 returns-2 : tie.Need-returns-2 Inv-loop μ-loop
 returns-2 c =
-    let at = c .before .before .before .before .before .before .loop in
-    let start = c .before .before .before .before .before .before .before .before in
+    let at = c .before .before .before .before .before .before .before .before .loop in
+    let start = c .before .before .before .before .before .before .before .before .before .before in
     let n = c .none .ensures in
     let l = landed-none (start .args .s .now) (start .args .g) (start .pre .0) (start .args .b) (at .at) (at .inv .0)
-    (at .inv .1) _ (omega (arith, c .before .before .before .if1 .left)) (n .0) (n .1) (n .2) in
+    (at .inv .1) _ (ltb-false (at .at .rank) (start .args .g .n) (c .before .before .before .if2 .left)) (n .0) (n .1) (n .2) in
     (l .0, omega (arith, l .1, at .inv .2, c .before .to-end .ensures))
 
 pub land-spec : {M : Type 1} → statement M
@@ -168,13 +178,13 @@ land-spec =
     cast-bit
     add-bit
     page-at-requires
-    add-t16
-    cast-t17
-    cast-t18
+    add-t18
     cast-t19
+    cast-t20
+    cast-t21
     returns
-    sub-t20
-    add-t15
+    sub-t22
+    add-t14
     loop-less
     loop-again
     to-end-requires

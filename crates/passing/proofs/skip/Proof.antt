@@ -2,8 +2,10 @@
 use mathlib.Core.Path.{_≡_, refl, sym, subst}
 use Prim.Native.Nat.{ℕ, _+_, _-_, _*_, _^_, _<_, _≤_}
 use native.Mathlib.Omega.{arith}
+use borrow.Author.Needs.{needs}
 use lib.Count.{ones}
 use Rattle.rules.specs.Runs.{wordsFor}
+use Rattle.selectlaws.specs.ByteCounts.{runningOnes}
 use Rattle.readlaws.proofs.ReadLaws.{open-reads}
 use Rattle.walklaws.specs.declared.Ones.{Ones}
 use Rattle.walklaws.specs.Walks.{Skipping, Paid}
@@ -17,11 +19,12 @@ abbrev placed : ℕ → ℕ → ℕ → ℕ → Ones
 placed h left k wanted = record { left = left; k = k; rank = wanted + 64 * k - h }
 
 abbrev Inv-loop : tie.InvT-loop
-Inv-loop table s g h looks₀ left₀ k₀ wanted₀ looks left k wanted =
+Inv-loop table s g h looks₀ left₀ counts₀ k₀ wanted₀ looks left counts k wanted =
     Skipping s g h (placed h left k wanted) × (h ≤ wanted + 64 * k) × Paid k₀ looks₀ k looks
+    × (counts ≡ runningOnes 8 0 left)
 
 abbrev μ-loop : tie.MeasureT-loop
-μ-loop table s g h looks₀ left₀ k₀ wanted₀ looks left k wanted = wordsFor (g .bits) - k
+μ-loop table s g h looks₀ left₀ counts₀ k₀ wanted₀ looks left counts k wanted = wordsFor (g .bits) - k
 
 -- bounds of the numbers at the start
 record Bounds (h k rank : ℕ) : Type 0 where
@@ -44,7 +47,7 @@ bounds c =
 
 loop-holds : tie.Need-loop-holds Inv-loop μ-loop
 loop-holds c =
-    let start = c .before .before .before in
+    let start = c .before .before .before .before in
     let a = start .args in
     let b = bounds start in
     let e : a .from .rank ≡ a .h + a .from .rank - 64 * a .from .k + 64 * a .from .k - a .h = omega (arith, b .short) in (
@@ -52,11 +55,12 @@ loop-holds c =
           (start .pre .2),
       omega (arith, b .short),
       refl,
+      c .before .before .running-counts .ensures,
     )
 
 -- and in the loop
 abbrev by-loop : tie.At-loop Inv-loop μ-loop → tie.Start Inv-loop μ-loop
-by-loop c = c .before .before .before .before
+by-loop c = c .before .before .before .before .before
 
 abbrev at-loop : tie.At-loop Inv-loop μ-loop → Ones
 at-loop c = placed (by-loop c .args .h) (c .loop .left) (c .loop .k) (c .loop .wanted)
@@ -93,24 +97,28 @@ next-word-requires c κs =
 
 loop-less : tie.Need-loop-less Inv-loop μ-loop
 loop-less c =
-    let l = c .before .before .before .before .before in
-    omega (arith, l .loop .inv .0 .within, c .next-word .ensures .1)
+    let n = c .before in
+    let l = n .before .before .before .before .before in
+    omega (arith, l .loop .inv .0 .within, n .next-word .ensures .1)
 
 loop-again : tie.Need-loop-again Inv-loop μ-loop
 loop-again c =
-    let p = c .before .before in
+    let w = c .before in
+    let p = w .before .before in
     let t = p .before in
     let l = t .before .before in
     let start = by-loop l in
-    let n = c .next-word .ensures in
+    let x : Ones = w .next-word .result in
+    let n = w .next-word .ensures in
     let g = through t in
     let h = l .loop .inv .1 in
     let e = p .with-ones2 .ensures in (
       skipping-next (start .args .s .now) (start .args .g) (start .pre .0) (start .args .h) (at-loop l) (l .loop .inv .0)
-          (start .pre .1) g (placed (start .args .h) (c .next-word .result .left) (c .next-word .result .k)
-          (c .next-word .result .rank)) (n .1) (n .0) (omega (arith, n .1, n .2, e, g, h)),
+          (start .pre .1) g (placed (start .args .h) (x .left) (x .k) (x .rank)) (n .1) (n .0)
+          (omega (arith, n .1, n .2, e, g, h)),
       omega (arith, n .1, n .2, e, g, h),
       omega (arith, l .loop .inv .2, n .1, n .3),
+      c .running-counts2 .ensures,
     )
 
 to-zero-requires : tie.Need-to-zero-requires Inv-loop μ-loop
@@ -119,6 +127,7 @@ to-zero-requires c κs =
     let start = by-loop l in (
       skipping-in (start .args .s .now) (start .args .g) (start .pre .0) (start .args .h) (at-loop l) (l .loop .inv .0)
           (omega (arith, l .loop .inv .1, c .before .with-ones .ensures, c .if1 .left)),
+      l .loop .inv .3,
       start .pre .4,
     )
 
@@ -137,14 +146,16 @@ skip-spec =
     (tie.spec
     Inv-loop
     μ-loop
-    (λ c. let b = bounds (c .before .before) in omega (arith, b .high, b .small))
-    (λ c. omega (arith, bounds (c .before .before .before) .few))
-    (λ c. omega (arith, bounds (c .before .before .before) .short))
+    (λ c κs. search needs)
+    (λ c. let b = bounds (c .before .before .before) in omega (arith, b .high, b .small))
+    (λ c. omega (arith, bounds (c .before .before .before .before) .few))
+    (λ c. omega (arith, bounds (c .before .before .before .before) .short))
     loop-holds
     (λ c κs. omega (arith, low c))
     (λ c κs. omega (arith, low (c .before .before)))
     (λ c. omega (arith, c .with-ones2 .ensures, c .before .before .with-ones .ensures, c .before .if1 .taken))
     next-word-requires
+    (λ c κs. search needs)
     loop-less
     loop-again
     (λ c. omega (arith, few (c .before .before)))
