@@ -42,10 +42,10 @@ fn low_part(s: &[u8], g: Shape, rank: usize) -> usize
     let k = o / 64;
     let place = o % 64;
     let word = runs::run_word(run, 0, k);
-    if place + g.w <= 64 {
-        return fields::field_of(word, 0, place, g.w) as usize;
+    if 64 < place + g.w {
+        return fields::field_of(word, runs::run_word(run, 0, k + 1), place, g.w) as usize;
     }
-    fields::field_of(word, runs::run_word(run, 0, k + 1), place, g.w) as usize
+    fields::field_of(word, 0, place, g.w) as usize
 }
 
 // The element whose one stands at that bit with `rank` ones below it.

@@ -51,15 +51,15 @@ fn skip(table: &Table, s: &[u8], g: Shape, h: usize, from: Ones, looks: &mut u32
     ensures { λ r. ⌜ Skipped (now (s .entry)) g h r × Paid (from .k) (now (looks .entry)) (r .k) (now (looks .exit)) ⌝ }
 {
     let mut left = from.left;
-    let mut counts = selection::running_counts(left);
     let mut k = from.k;
     let mut wanted = h + from.rank - 64 * from.k;
+    let mut counts = selection::running_counts(left);
     while 64 < with_ones(wanted, left) {
         let at = looks::next_word(s, g, k, with_ones(wanted, left) - 64, looks);
         left = at.left;
-        counts = selection::running_counts(left);
         k = at.k;
         wanted = at.rank;
+        counts = selection::running_counts(left);
     }
     let at = Ones {
         left,

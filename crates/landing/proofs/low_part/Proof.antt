@@ -66,24 +66,6 @@ add-if2 c =
     let r = reads (c .before .before .before .before .before .before .before) in
     record { fits = omega arith }
 
-field-of-requires : tie.Need-field-of-requires
-field-of-requires c κs =
-    let r = reads (c .before .before .before .before .before .before .before .before) in
-    (omega arith, omega arith)
-
-returns-2 : tie.Need-returns-2
-returns-2 c =
-    let w = c .before .before .before in
-    let start = c .before .before .before .before .before .before .before .before .before in
-    let a = start .args in
-    let r = reads start in
-    let word = w .run-word .ensures
-    ∙ word-part (a .s .now) (a .g .upper - a .g .lower) (a .g .lower) _ (unfold wordsFor in omega (arith, within start)) in
-    let e = c .field-of .ensures
-    ∙ run-field (a .s .now) (a .g .lower) (w .run-word .result) 0 (a .rank * a .g .w) (a .g .w) (omega arith)
-    word (omega arith) (λ v. absurd (omega arith)) in
-    (e, rw e (small start))
-
 add-run-word : tie.Need-add-run-word
 add-run-word c =
     let start = c .before .before .before .before .before .before .before .before in
@@ -97,13 +79,13 @@ run-word-requires-2 c κs =
     let r = reads start in
     omega (arith, within start, run-length start)
 
-field-of-requires-2 : tie.Need-field-of-requires-2
-field-of-requires-2 c κs =
+field-of-requires : tie.Need-field-of-requires
+field-of-requires c κs =
     let r = reads (c .before .before .before .before .before .before .before .before .before) in
     (omega arith, omega arith)
 
-returns-3 : tie.Need-returns-3
-returns-3 c =
+returns-2 : tie.Need-returns-2
+returns-2 c =
     let h = c .before in
     let w = h .before .before .before in
     let start = c .before .before .before .before .before .before .before .before .before .before in
@@ -113,9 +95,27 @@ returns-3 c =
     ∙ word-part (a .s .now) (a .g .upper - a .g .lower) (a .g .lower) _ (unfold wordsFor in omega (arith, within start)) in
     let next = h .run-word2 .ensures
     ∙ word-part (a .s .now) (a .g .upper - a .g .lower) (a .g .lower) _ (unfold wordsFor in omega (arith, within start)) in
-    let e = c .field-of2 .ensures
+    let e = c .field-of .ensures
     ∙ run-field (a .s .now) (a .g .lower) (w .run-word .result) (h .run-word2 .result) (a .rank * a .g .w) (a .g .w)
     (omega arith) word (omega arith) (λ v. next) in
+    (e, rw e (small start))
+
+field-of-requires-2 : tie.Need-field-of-requires-2
+field-of-requires-2 c κs =
+    let r = reads (c .before .before .before .before .before .before .before .before) in
+    (omega arith, omega arith)
+
+returns-3 : tie.Need-returns-3
+returns-3 c =
+    let w = c .before .before .before in
+    let start = c .before .before .before .before .before .before .before .before .before in
+    let a = start .args in
+    let r = reads start in
+    let word = w .run-word .ensures
+    ∙ word-part (a .s .now) (a .g .upper - a .g .lower) (a .g .lower) _ (unfold wordsFor in omega (arith, within start)) in
+    let e = c .field-of2 .ensures
+    ∙ run-field (a .s .now) (a .g .lower) (w .run-word .result) 0 (a .rank * a .g .w) (a .g .w) (omega arith)
+    word (omega arith) (λ v. absurd (omega arith)) in
     (e, rw e (small start))
 
 pub low-part-spec : {M : Type 1} → statement M
@@ -129,9 +129,9 @@ low-part-spec =
     mul-o
     run-word-requires
     add-if2
-    field-of-requires
-    returns-2
     add-run-word
     run-word-requires-2
+    field-of-requires
+    returns-2
     field-of-requires-2
     returns-3)

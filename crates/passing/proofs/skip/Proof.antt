@@ -19,12 +19,12 @@ abbrev placed : ℕ → ℕ → ℕ → ℕ → Ones
 placed h left k wanted = record { left = left; k = k; rank = wanted + 64 * k - h }
 
 abbrev Inv-loop : tie.InvT-loop
-Inv-loop table s g h looks₀ left₀ counts₀ k₀ wanted₀ looks left counts k wanted =
+Inv-loop table s g h looks₀ left₀ k₀ wanted₀ counts₀ looks left k wanted counts =
     Skipping s g h (placed h left k wanted) × (h ≤ wanted + 64 * k) × Paid k₀ looks₀ k looks
     × (counts ≡ runningOnes 8 0 left)
 
 abbrev μ-loop : tie.MeasureT-loop
-μ-loop table s g h looks₀ left₀ counts₀ k₀ wanted₀ looks left counts k wanted = wordsFor (g .bits) - k
+μ-loop table s g h looks₀ left₀ k₀ wanted₀ counts₀ looks left k wanted counts = wordsFor (g .bits) - k
 
 -- bounds of the numbers at the start
 record Bounds (h k rank : ℕ) : Type 0 where
@@ -55,7 +55,7 @@ loop-holds c =
           (start .pre .2),
       omega (arith, b .short),
       refl,
-      c .before .before .running-counts .ensures,
+      c .running-counts .ensures,
     )
 
 -- and in the loop
@@ -146,10 +146,10 @@ skip-spec =
     (tie.spec
     Inv-loop
     μ-loop
+    (λ c. let b = bounds (c .before .before) in omega (arith, b .high, b .small))
+    (λ c. omega (arith, bounds (c .before .before .before) .few))
+    (λ c. omega (arith, bounds (c .before .before .before) .short))
     (λ c κs. search needs)
-    (λ c. let b = bounds (c .before .before .before) in omega (arith, b .high, b .small))
-    (λ c. omega (arith, bounds (c .before .before .before .before) .few))
-    (λ c. omega (arith, bounds (c .before .before .before .before) .short))
     loop-holds
     (λ c κs. omega (arith, low c))
     (λ c κs. omega (arith, low (c .before .before)))
