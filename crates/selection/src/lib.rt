@@ -67,8 +67,8 @@ pub fn select_by(table: &Table, x: u64, counts: u64, j: u32) -> u32
     p + one_of_byte(table, ((x >> p) & 255) as u8, j - before)
 }
 
-// The place of the zero number j, counted from 0, of a word that has more zeros, by the running counts of its ones: what
-// these leave of eight bits for each byte are those of its zeros.
+// The place of the zero number j, counted from 0, of a word that has more zeros, by the running counts of its ones:
+// what these leave of eight bits for each byte are those of its zeros.
 pub fn select_zero(table: &Table, x: u64, counts: u64, j: u32) -> u32
     requires { ⌜ (counts ≡ runningOnes 8 0 x) × (j + ones x < 64) × PlacesOfOnes (now table) ⌝ }
     ensures { λ r. ⌜ (r ≡ placeOfZero 64 x j) × (r < 64) ⌝ }

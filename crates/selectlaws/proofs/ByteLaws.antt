@@ -239,7 +239,8 @@ all-counts = refl
 pub zero-counts : (x s : ℕ) → s ≡ runningOnes 8 0 x → x < 2 ^ 64
     → s + runningOnes 8 0 (2 ^ 64 - 1 - x) ≡ 4627501566018457608
 zero-counts x s e h =
-    ap (λ (n : ℕ). n + runningOnes 8 0 (2 ^ 64 - 1 - x)) e ∙ running-both 8 0 0 x (2 ^ 64 - 1 - x) (2 ^ 64 - 1) (omega arith) refl ∙ all-counts
+    ap (λ (n : ℕ). n + runningOnes 8 0 (2 ^ 64 - 1 - x)) e
+    ∙ running-both 8 0 0 x (2 ^ 64 - 1 - x) (2 ^ 64 - 1) (omega arith) refl ∙ all-counts
 
 -- a byte below the a low bits
 byte-kept : (n a b k : ℕ) → a + 8 + k ≡ b → n % 2 ^ b / 2 ^ k % 2 ^ 8 ≡ n / 2 ^ k % 2 ^ 8

@@ -31,12 +31,14 @@ loop-holds : tie.Need-loop-holds Inv-loop μ-loop
 loop-holds c = (c .before .pre .1, c .before .pre .2, refl)
 
 -- a one lies ahead: in what is left of the word, or by the number of those that were passed
-ahead : (c : tie.Joined1 Inv-loop μ-loop) → c .before .before .loop .at .rank < c .before .before .before .before .args .g .n
+ahead : (c : tie.Joined1 Inv-loop μ-loop)
+    → c .before .before .loop .at .rank < c .before .before .before .before .args .g .n
 ahead c =
     let at = c .before .before .loop in
     let start = c .before .before .before .before in
     elim (c .if1 .came) [
-      | inl t ↦ one-ahead (start .args .s .now) (start .args .g) (start .pre .0) (at .at) (at .inv .0) (omega (arith, t .taken))
+      | inl t ↦ one-ahead (start .args .s .now) (start .args .g) (start .pre .0) (at .at) (at .inv .0)
+          (omega (arith, t .taken))
       | inr e ↦ ltb-true (at .at .rank) (start .args .g .n) (e .3 .taken)
     ]
 
@@ -163,7 +165,8 @@ returns-2 c =
     let start = c .before .before .before .before .before .before .before .before .before .before in
     let n = c .none .ensures in
     let l = landed-none (start .args .s .now) (start .args .g) (start .pre .0) (start .args .b) (at .at) (at .inv .0)
-    (at .inv .1) _ (ltb-false (at .at .rank) (start .args .g .n) (c .before .before .before .if2 .left)) (n .0) (n .1) (n .2) in
+    (at .inv .1) _ (ltb-false (at .at .rank) (start .args .g .n) (c .before .before .before .if2 .left))
+    (n .0) (n .1) (n .2) in
     (l .0, omega (arith, l .1, at .inv .2, c .before .to-end .ensures))
 
 pub land-spec : {M : Type 1} → statement M
