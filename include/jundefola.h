@@ -33,7 +33,7 @@ typedef enum jf_refusal {
     JF_LAYOUT = 5,   /* n above U, a length that U and n do not give, or bytes left after the last part */
     JF_RUNS = 6,     /* runs or pointers are not those of a valid list */
     JF_PARTS = 7,    /* the parts of a term or a card disagree */
-    JF_QUESTION = 8, /* a bad question: an unknown kind, a wrong count, word or offset, or cut short */
+    JF_QUESTION = 8, /* a bad question: an unknown kind, a wrong count, word or offset, or cut short; a bad screen */
     JF_ROOM = 9,     /* the room lent is too small */
     JF_LISTS = 10    /* the lists handed to a writer are not valid or not as announced, or its session is over */
 } jf_refusal;
@@ -51,6 +51,10 @@ typedef enum jf_kind {
 #define JF_MAX_T 4096u     /* T, the words of a card */
 #define JF_MAX_WORDS 8u    /* the words in one question */
 #define JF_MAX_OFFSET 255u /* the offset of a word in a phrase */
+#define JF_MAX_SCREEN 64u  /* the pages of a screen; it has at least 1 */
+
+/* The numbers that jf_screen counts: the seeks and the looks. */
+#define JF_SCREEN_COUNTS ((size_t)2)
 
 /* The bytes of a card before its first term block. */
 #define JF_CARD_HEADER ((size_t)11)
@@ -97,6 +101,17 @@ typedef struct jf_asked {
     size_t answered;
     size_t used;
 } jf_asked;
+
+/*
+ * What a screen reports: a refusal, the pages found, 1 in `full` where there are as many as were asked for, and then in
+ * `next` the bound of the next screen, which is the last page plus 1; else both are 0.
+ */
+typedef struct jf_screened {
+    uint32_t refusal;
+    size_t found;
+    uint32_t full;
+    uint32_t next;
+} jf_screened;
 
 /*
  * Writes the block of a list of strictly rising numbers, each below u, to the start of the room.
@@ -193,6 +208,22 @@ uint32_t jf_check_index(const uint8_t *card, size_t card_len);
  */
 jf_asked jf_ask(const uint8_t *card, size_t card_len, const uint32_t *questions, size_t questions_len, uint32_t *room,
                 size_t room_len);
+
+/*
+ * Checks a card, then shows a screen of it: the first r pages at or above the bound that all of the words hold, or
+ * fewer where no more are left, at the front of `pages`, and the seeks and looks that finding them took in `counts`.
+ * r is 1 to JF_MAX_SCREEN, there are 1 to JF_MAX_WORDS words, numbered from 0, and the bound may be any number.
+ *
+ * For all pages start with bound 0, and while `full` is 1 ask again with the bound `next`: the screens, joined, are the
+ * pages of kind 3, and where the last page just fills a screen an empty one follows. Nothing before the bound is read,
+ * but each call checks the card.
+ *
+ * Refuses as jf_check_index does, with JF_QUESTION (r or the words), or with JF_ROOM, where `pages` has less room than
+ * pages were found or `counts` less than JF_SCREEN_COUNTS; r numbers are always enough. A refusal leaves both rooms as
+ * they were, and the other numbers 0. What is not written of a room stays as it was.
+ */
+jf_screened jf_screen(const uint8_t *card, size_t card_len, uint32_t bound, uint32_t r, const uint32_t *words,
+                      size_t words_len, uint32_t *pages, size_t pages_len, uint32_t *counts, size_t counts_len);
 
 #ifdef __cplusplus
 }

@@ -22,6 +22,9 @@ struct Bench {
 // the archive's own writer of whole lists, where words written in runs are measured
 constexpr const char *whole_lists = "whole lists";
 
+// the archive's own kind 3 for the same words, where screens are measured
+constexpr const char *all_pages = "all pages";
+
 using Times = std::vector<std::pair<std::string, double>>;
 
 // another contender's work on the first `count` questions of a run: it writes what it finds, and returns how much
@@ -47,6 +50,7 @@ std::string parameters(std::initializer_list<std::pair<const char *, size_t>> pa
 void measure_lists(Bench &bench);
 void measure_reading(Bench &bench);
 void measure_common(Bench &bench);
+void measure_screens(Bench &bench);
 void measure_phrases(Bench &bench);
 void measure_lookup(Bench &bench);
 void measure_cards(Bench &bench);
@@ -66,6 +70,9 @@ void one_lookup(Bench &bench, const std::string &family, uint32_t t);
 
 // makes the k lists of one question
 using MakeGroup = std::function<std::vector<List>(Random &, uint32_t u, uint32_t k)>;
+
+// parts of one list of this density, with noise
+MakeGroup correlated(double density);
 
 // common pages of k words
 void one_common(Bench &bench, const std::string &family, uint32_t u, uint32_t k, const MakeGroup &make);

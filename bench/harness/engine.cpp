@@ -52,12 +52,19 @@ jf_asked ask(const uint8_t *card, size_t card_len, const uint32_t *questions, si
     return {asked.refusal, asked.answered, asked.used};
 }
 
+jf_screened screen(const uint8_t *card, size_t card_len, uint32_t bound, uint32_t r, const uint32_t *words,
+                   size_t words_len, uint32_t *pages, size_t pages_len, uint32_t *counts, size_t counts_len) {
+    const peer_screened shown =
+        peer_screen(card, card_len, bound, r, words, words_len, pages, pages_len, counts, counts_len);
+    return {shown.refusal, shown.found, shown.full, shown.next};
+}
+
 } // namespace
 
 const Engine archive = {"archive",   jf_write_list, jf_check_list,  jf_write_term,  jf_begin_term, jf_put_postings,
-                        jf_end_term, jf_check_term, jf_close_index, jf_check_index, jf_ask};
+                        jf_end_term, jf_check_term, jf_close_index, jf_check_index, jf_ask,        jf_screen};
 
 const Engine peer = {"peer",   write_list,      peer_check_list, write_term,       begin_term, put_postings,
-                     end_term, peer_check_term, close_index,     peer_check_index, ask};
+                     end_term, peer_check_term, close_index,     peer_check_index, ask,        screen};
 
 const Engine *const engines[2] = {&archive, &peer};

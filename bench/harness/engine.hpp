@@ -20,6 +20,8 @@ struct Engine {
     jf_written (*close_index)(uint8_t *, size_t, size_t, uint32_t, uint32_t);
     uint32_t (*check_index)(const uint8_t *, size_t);
     jf_asked (*ask)(const uint8_t *, size_t, const uint32_t *, size_t, uint32_t *, size_t);
+    jf_screened (*screen)(const uint8_t *, size_t, uint32_t, uint32_t, const uint32_t *, size_t, uint32_t *, size_t,
+                          uint32_t *, size_t);
 };
 
 extern const Engine archive;

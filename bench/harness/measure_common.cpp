@@ -95,16 +95,6 @@ std::vector<List> skewed(Random &random, uint32_t u, uint32_t k) {
     return lists;
 }
 
-// parts of one list, with noise
-MakeGroup correlated(double density) {
-    return [density](Random &random, uint32_t u, uint32_t k) {
-        const List base = scattered(random, u, density);
-        std::vector<List> lists;
-        for (uint32_t i = 0; i < k; i++) lists.push_back(noisy_part(random, u, base, 0.8, density / 10));
-        return lists;
-    };
-}
-
 MakeGroup independent(double density) {
     return [density](Random &random, uint32_t u, uint32_t k) {
         std::vector<List> lists;
@@ -182,6 +172,15 @@ void one_word(Bench &bench, const Family &family, uint32_t u) {
 }
 
 } // namespace
+
+MakeGroup correlated(double density) {
+    return [density](Random &random, uint32_t u, uint32_t k) {
+        const List base = scattered(random, u, density);
+        std::vector<List> lists;
+        for (uint32_t i = 0; i < k; i++) lists.push_back(noisy_part(random, u, base, 0.8, density / 10));
+        return lists;
+    };
+}
 
 void one_common(Bench &bench, const std::string &family, uint32_t u, uint32_t k, const MakeGroup &make) {
     const TimedQuestion timed = time_common(bench, u, k, make);

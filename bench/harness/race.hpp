@@ -27,12 +27,17 @@ class Race {
     // the smallest time of the entrant, in nanoseconds
     double smallest(const std::string &name) const;
 
+    // the median over all turns of what the entrant took beyond another, in nanoseconds
+    double median_beyond(const std::string &name, const std::string &other) const;
+
   private:
     struct Entrant {
         std::string name;
         std::function<void()> work;
-        double smallest;
+        std::vector<double> times;
     };
+    const Entrant &entrant(const std::string &name) const;
+
     Clock kind_;
     std::vector<Entrant> entrants_;
 };

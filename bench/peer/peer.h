@@ -27,6 +27,14 @@ typedef struct peer_asked {
     size_t used;
 } peer_asked;
 
+/* What a screen reports: a refusal, the pages found, 1 where it is full, and then the bound of the next one. */
+typedef struct peer_screened {
+    uint32_t refusal;
+    size_t found;
+    uint32_t full;
+    uint32_t next;
+} peer_screened;
+
 /* A session that writes a word run by run, and what each of its calls reports. */
 typedef struct peer_stream {
     uint32_t mark, n, pages, positions, u, laid, filled, page, base;
@@ -63,6 +71,9 @@ uint32_t peer_check_index(const uint8_t *card, size_t card_len);
 
 peer_asked peer_ask(const uint8_t *card, size_t card_len, const uint32_t *questions, size_t questions_len,
                     uint32_t *room, size_t room_len);
+
+peer_screened peer_screen(const uint8_t *card, size_t card_len, uint32_t bound, uint32_t r, const uint32_t *words,
+                          size_t words_len, uint32_t *pages, size_t pages_len, uint32_t *counts, size_t counts_len);
 
 #ifdef __cplusplus
 }

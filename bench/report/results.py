@@ -6,7 +6,8 @@ from dataclasses import dataclass, field
 
 ARCHIVE = "archive"
 WHOLE_LISTS = "whole lists"
-CONTENDERS = ["peer", "sdsl", "CRoaring", "galloping", WHOLE_LISTS]
+ALL_PAGES = "all pages"
+CONTENDERS = ["peer", "sdsl", "CRoaring", "galloping", WHOLE_LISTS, ALL_PAGES]
 GROWTH = "growth with "
 
 

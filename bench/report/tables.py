@@ -6,6 +6,7 @@ GROUPS = [
     ("One list", ["write a list", "check a list"]),
     ("Reading one list", ["element by rank", "fresh seek"]),
     ("Intersections", ["common pages", "seek in common pages", "pages of one word"]),
+    ("Screens of 10 pages", ["check before a screen", "screen with the check", "screen alone"]),
     ("Phrases", ["phrase", "phrase with gaps"]),
     ("Word lookup", ["word lookup"]),
     ("Words and cards", ["write words", "check words", "close a card", "check a card"]),
@@ -36,6 +37,12 @@ card) / M, where M is such that the questions take about as long as the check, o
 - Phrases are drawn from the manual's text; those with gaps leave words out between, at the offsets 0, 2 and 0, 2, 3, 5.
 - A word written in runs is announced, handed over in runs of 256 pages or of one page, and closed; `whole lists` is \
 the archive's own writer, handed the same word at once.
+- A screen has 10 common pages of two words, from bound 0 on, from the middle one on, or the last ones. Each call \
+checks its card. `all pages` is the archive's kind 3 for the same words. The check is timed as a screen of no pages, \
+which is refused behind it; before each run checks, kind 3 and the same run go uncounted, so that all find the \
+processor alike. `screen alone` is the median of what a call took beyond the check in the same repetition, for cards \
+whose check is short; in a long one a screen is lost. `seeks` and `looks` are the screen's own, those with `all-` kind \
+3's.
 - CRoaring's seek is by its iterator, which is faster than rank and select, and finds no rank.\
 """
 
@@ -64,6 +71,11 @@ def parameter_text(parameters):
     return ", ".join(f"{name} = {number(value)}" for name, value in (p.split("=") for p in parameters.split()))
 
 
+def ratio_text(ratio):
+    """Two places, or four where these would hardly tell it from 0."""
+    return f"{ratio:.2f}" if ratio >= 0.01 else f"{ratio:.4f}"
+
+
 def row(cells):
     return "| " + " | ".join(cells) + " |"
 
@@ -78,11 +90,11 @@ def operation_table(measurements):
     for m in measurements:
         cells = [m.family, parameter_text(m.parameters), duration(m.ns[ARCHIVE])]
         for c in present:
-            cells += [duration(m.ns[c]), f"{m.ratio(c):.2f}"] if c in m.ns else ["", ""]
+            cells += [duration(m.ns[c]), ratio_text(m.ratio(c))] if c in m.ns else ["", ""]
         if has_bytes:
             cells += [speed(m, ARCHIVE), speed(m, "peer")]
         lines.append(row(cells))
-    means = [f"{geometric_mean(ratios(measurements, c)):.2f}" for c in present]
+    means = [ratio_text(geometric_mean(ratios(measurements, c))) for c in present]
     cells = ["geometric mean", "", ""] + [cell for mean in means for cell in ("", mean)]
     lines.append(row(cells + [""] * (len(head) - len(cells))))
     return lines
@@ -99,7 +111,9 @@ def summary_table(measurements):
 
 
 def summary_cell(values):
-    return f"{geometric_mean(values):.2f} ({min(values):.2f} to {max(values):.2f})" if values else ""
+    if not values:
+        return ""
+    return f"{ratio_text(geometric_mean(values))} ({ratio_text(min(values))} to {ratio_text(max(values))})"
 
 
 def met(aim, over):

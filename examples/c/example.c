@@ -1,4 +1,7 @@
-/* Writes a list, a word in runs and a card of two words, asks it the four kinds of question and prints the answers. */
+/*
+ * Writes a list, a word in runs and a card of two words, asks it the four kinds of question and prints the answers, and
+ * then shows common pages one screen at a time.
+ */
 #include <inttypes.h>
 #include <stdio.h>
 #include <stdlib.h>
@@ -176,6 +179,26 @@ static void ask_phrase(const uint8_t *card, size_t card_len, uint32_t behind)
     free(answer);
 }
 
+/* Prints the pages that have both words, so many at a time. */
+static void show_screens(const uint8_t *card, size_t card_len, uint32_t rows)
+{
+    const uint32_t words[] = {TORQUE, BOLT};
+    uint32_t pages[JF_MAX_SCREEN];
+    uint32_t counts[JF_SCREEN_COUNTS];
+    jf_screened screen = {.full = 1, .next = 0};
+    while (screen.full == 1) {
+        uint32_t bound = screen.next;
+        screen = jf_screen(card, card_len, bound, rows, words, LENGTH(words), pages, LENGTH(pages), counts,
+                           LENGTH(counts));
+        expect_accepted("jf_screen", screen.refusal);
+        printf("screen from page %" PRIu32 ":", bound);
+        for (size_t i = 0; i < screen.found; i++) {
+            printf(" %" PRIu32, pages[i]);
+        }
+        printf(" (found %zu, seeks %" PRIu32 ", looks %" PRIu32 ")\n", screen.found, counts[0], counts[1]);
+    }
+}
+
 int main(void)
 {
     uint8_t buffer[JF_CARD_HEADER + JF_TERM_ROOM(LENGTH(torque_pages), LENGTH(torque_positions)) +
@@ -191,5 +214,6 @@ int main(void)
     ask_common(buffer, card_len);
     ask_phrase(buffer, card_len, 1);
     ask_phrase(buffer, card_len, 2);
+    show_screens(buffer, card_len, 1);
     return EXIT_SUCCESS;
 }

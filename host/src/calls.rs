@@ -27,6 +27,15 @@ struct RawAsked {
     used: usize,
 }
 
+/// The report of a screen, as the archive returns it.
+#[repr(C)]
+struct RawScreened {
+    refusal: u32,
+    found: usize,
+    full: u32,
+    next: u32,
+}
+
 extern "C" {
     fn jf_write_list(
         u: u32,
@@ -84,6 +93,18 @@ extern "C" {
         room: *mut u32,
         room_len: usize,
     ) -> RawAsked;
+    fn jf_screen(
+        card: *const u8,
+        card_len: usize,
+        bound: u32,
+        r: u32,
+        words: *const u32,
+        words_len: usize,
+        pages: *mut u32,
+        pages_len: usize,
+        counts: *mut u32,
+        counts_len: usize,
+    ) -> RawScreened;
 }
 
 /// A session: where the writing of a word in runs stands. [`begin_term`] opens it, and each later call moves it on.
@@ -112,6 +133,15 @@ pub struct Asked {
     pub answered: usize,
     /// How many numbers of the room their answers take.
     pub used: usize,
+}
+
+/// What a screen reports.
+#[derive(Clone, Copy, Debug, PartialEq, Eq)]
+pub struct Screened {
+    /// How many pages were found.
+    pub found: usize,
+    /// The bound of the next screen, which is the last page plus 1; none where this one is not full.
+    pub next: Option<u32>,
 }
 
 /// Writes the block of a list of strictly rising numbers, each below `u`, to the start of the room; gives its length.
@@ -267,6 +297,43 @@ pub fn ask(card: &[u8], questions: &[u32], room: &mut [u32]) -> Asked {
     }
 }
 
+/// Checks a card, then finds the first `r` pages at or above the bound that all of the terms have, or fewer where no
+/// more are left: they go to the front of `pages`, and the seeks and looks that finding them took to `counts`.
+///
+/// [`Refusal::Question`] is a bad `r` or bad terms: `r` is 1 to [`MAX_SCREEN`](crate::MAX_SCREEN), and there are 1 to 8
+/// terms. [`Refusal::Room`] is too little room: `r` numbers are enough for the pages, and
+/// [`SCREEN_COUNTS`](crate::SCREEN_COUNTS) for the counts. A refusal leaves both rooms as they were.
+///
+/// [`Screens`](crate::Screens) has the rooms, and goes from screen to screen.
+pub fn screen(
+    card: &[u8],
+    bound: u32,
+    r: u32,
+    terms: &[u32],
+    pages: &mut [u32],
+    counts: &mut [u32],
+) -> Result<Screened, Refusal> {
+    // SAFETY: the slices are lent for the call, and each room is lent alone.
+    let screened = unsafe {
+        jf_screen(
+            card.as_ptr(),
+            card.len(),
+            bound,
+            r,
+            terms.as_ptr(),
+            terms.len(),
+            pages.as_mut_ptr(),
+            pages.len(),
+            counts.as_mut_ptr(),
+            counts.len(),
+        )
+    };
+    accepted(screened.refusal).map(|()| Screened {
+        found: screened.found,
+        next: (screened.full == 1).then_some(screened.next),
+    })
+}
+
 fn length(written: RawWritten) -> Result<usize, Refusal> {
     accepted(written.refusal).map(|()| written.length)
 }
@@ -316,6 +383,12 @@ mod tests {
         assert_eq!(mem::offset_of!(Stream, base), 32);
         assert_eq!(mem::offset_of!(RawStreamed, length), size_of::<usize>());
         assert_eq!(mem::offset_of!(RawStreamed, stream), 2 * size_of::<usize>());
+        assert_eq!(mem::offset_of!(RawScreened, found), size_of::<usize>());
+        assert_eq!(mem::offset_of!(RawScreened, full), 2 * size_of::<usize>());
+        assert_eq!(
+            mem::offset_of!(RawScreened, next),
+            4 + 2 * size_of::<usize>()
+        );
     }
 
     #[test]

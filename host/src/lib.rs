@@ -8,6 +8,8 @@
 //! A word whose postings are not all at hand at once is written in runs of them: by [`TermWriter`], or by the calls
 //! [`begin_term`], [`put_postings`] and [`end_term`].
 //!
+//! Pages that words share are shown one screen at a time by [`Screens`], an iterator, or by the call [`screen`].
+//!
 //! A card has N pages, numbered from 0, and T words, its terms, numbered from 0:
 //!
 //! ```
@@ -48,6 +50,7 @@ mod calls;
 mod question;
 mod refusal;
 mod room;
+mod screen;
 mod stream;
 
 pub use answer::{Answer, AnswerIter, Answers, PageStarts, Starts};
@@ -55,9 +58,10 @@ pub use ask::ask_all;
 pub use blocks::{list_block, term_block, CardWriter};
 pub use calls::{
     ask, begin_term, check_index, check_list, check_term, close_index, end_term, put_postings,
-    write_list, write_term, Asked, Stream,
+    screen, write_list, write_term, Asked, Screened, Stream,
 };
 pub use question::{question_numbers, PhraseWord, Question};
 pub use refusal::Refusal;
-pub use room::{list_room, term_room, CARD_HEADER};
+pub use room::{list_room, term_room, CARD_HEADER, MAX_SCREEN, SCREEN_COUNTS};
+pub use screen::{Screen, Screens};
 pub use stream::{Announcement, TermWriter};

@@ -20,7 +20,7 @@ pub enum Refusal {
     Runs = 6,
     /// The parts of a term or a card disagree.
     Parts = 7,
-    /// A bad question.
+    /// A bad question, or a bad screen.
     Question = 8,
     /// The room lent is too small.
     Room = 9,

@@ -1,7 +1,13 @@
-//! How many bytes are enough for a block.
+//! How much room is enough: bytes for a block, and numbers for a screen.
 
 /// The bytes of a card before its first term block.
 pub const CARD_HEADER: usize = 11;
+
+/// The most pages of a screen; it has at least 1.
+pub const MAX_SCREEN: u32 = 64;
+
+/// The numbers that a screen counts: the seeks and the looks.
+pub const SCREEN_COUNTS: usize = 2;
 
 /// The bytes of a term block before its first list block.
 const TERM_HEADER: usize = 5;

@@ -349,6 +349,75 @@ fn a_listing_that_does_not_fit_the_card_is_told() {
 }
 
 #[test]
+fn screens_go_straight_into_a_pipe() {
+    let folder = Folder::with_card("screens", TWO_WORDS);
+    let shown = folder.run_on(&["screens", "--rows", "3", "card", "0"], "q\n");
+    let expected = "from 0: pages 3 4 7 (3 seeks, 3 looks)\n\
+                    from 8: pages 13 14 15 (3 seeks, 3 looks)\n\
+                    from 16: pages 21 43 (3 seeks, 2 looks)\n";
+    assert_eq!((shown.printed.as_str(), shown.status), (expected, 0));
+    assert_eq!(shown.errors, "");
+    let usual = folder.run(&["screens", "card", "0", "1"]);
+    assert_eq!(usual.printed, "from 0: pages 4 15 (5 seeks, 5 looks)\n");
+}
+
+#[test]
+fn screens_start_at_a_page_and_take_names() {
+    let folder = Folder::with_card("screens_from", NAMED_WORDS);
+    let just_full = "from 4: page 4 (2 seeks, 2 looks)\n\
+                     from 5: page 15 (2 seeks, 2 looks)\n\
+                     from 16: no page (1 seek, 1 look)\n";
+    for arguments in [
+        "screens --rows 1 --from 4 card 0 1",
+        "screens card --from 4 0 1 --rows 1",
+        "screens --names listing --rows 1 --from 4 card torque common",
+        "screens card torque --names listing 1 --from 4 --rows 1",
+    ] {
+        let arguments: Vec<&str> = arguments.split(' ').collect();
+        assert_eq!(folder.run(&arguments).printed, just_full);
+    }
+    let past = folder.run(&["screens", "--from", "4294967295", "card", "0 1"]);
+    let expected = "from 4294967295: no page (1 seek, 0 looks)\n";
+    assert_eq!((past.printed.as_str(), past.status), (expected, 0));
+    let nowhere = folder.run(&["screens", "--names", "listing", "card", "warranty"]);
+    assert_eq!(nowhere.printed, "from 0: no page (1 seek, 0 looks)\n");
+}
+
+#[test]
+fn refused_screens_are_told() {
+    let folder = Folder::with_card("refused_screens", NAMED_WORDS);
+    let wrong = "refused 8: the question has a wrong form or names a term that is not there";
+    for (arguments, place, more) in [
+        (
+            "--rows 0 card 0",
+            "--rows 0",
+            " (a screen has 1 to 64 rows)",
+        ),
+        (
+            "--rows 65 card 9",
+            "--rows 65",
+            " (a screen has 1 to 64 rows)",
+        ),
+        ("card", "screens", ""),
+        ("card 0 5", "screens 0 5", ""),
+        ("card 0 0 0 0 0 0 0 0 0", "screens 0 0 0 0 0 0 0 0 0", ""),
+        ("--names listing card torque 5", "screens torque 5", ""),
+    ] {
+        let arguments: Vec<&str> = ["screens"]
+            .into_iter()
+            .chain(arguments.split(' '))
+            .collect();
+        let shown = folder.run(&arguments);
+        let expected = format!("jundefola: `{place}`: {wrong}{more}\n");
+        assert_eq!((shown.errors, shown.status), (expected, 1));
+        assert_eq!(shown.printed, "");
+    }
+    let unknown = folder.run(&["screens", "--names", "listing", "card", "nut"]);
+    let expected = "jundefola: no word is named `nut` in listing, which has 3 names\n";
+    assert_eq!((unknown.errors.as_str(), unknown.status), (expected, 1));
+}
+
+#[test]
 fn bad_names_in_a_listing_are_told_with_their_lines() {
     let cases = [
         (
@@ -465,7 +534,12 @@ fn damaged_cards_are_told_with_their_place() {
                 (in term 1, the list of positions)\n";
     let checked = folder.run(&["check", "card"]);
     assert_eq!((checked.printed.as_str(), checked.status), (told, 1));
-    for arguments in [&["show", "card"][..], &["ask", "card", "rank 0 0"]] {
+    for arguments in [
+        &["show", "card"][..],
+        &["ask", "card", "rank 0 0"],
+        &["screens", "card", "0"],
+        &["screens", "--rows", "0", "card"],
+    ] {
         let refused = folder.run(arguments);
         assert_eq!((refused.printed.as_str(), refused.status), ("", 1));
         assert_eq!(refused.errors, format!("jundefola: {told}"));
@@ -475,7 +549,7 @@ fn damaged_cards_are_told_with_their_place() {
 #[test]
 fn files_that_are_not_there_are_told() {
     let folder = Folder::new("not_there");
-    for command in ["check", "show", "ask"] {
+    for command in ["check", "show", "ask", "screens"] {
         let run = folder.run(&[command, "card"]);
         assert!(run.errors.starts_with("jundefola: card: "), "{command}");
         assert_eq!(run.status, 1);
@@ -494,6 +568,13 @@ fn wrong_usage_is_told() {
         &["ask"],
         &["ask", "--names", "listing"],
         &["ask", "card", "--names"],
+        &["screens"],
+        &["screens", "--rows", "3"],
+        &["screens", "card", "0", "--rows"],
+        &["screens", "card", "0", "--rows", "-1"],
+        &["screens", "card", "0", "--rows", "ten"],
+        &["screens", "card", "0", "--from", "4294967296"],
+        &["screens", "--from", "1", "card", "0", "--from", "1"],
     ] {
         let run = folder.run(arguments);
         assert!(run.errors.starts_with("usage: jundefola make LISTING CARD"));

@@ -2,6 +2,7 @@
 
 use crate::host_calls::HostCalls;
 use crate::plain::stream::Stream;
+use crate::screen_case::{ScreenAfter, ScreenCase};
 use crate::stream_case::StreamCase;
 
 /// The calls that are compared, and the program.
@@ -27,13 +28,15 @@ pub enum Kind {
     CheckIndex,
     /// `jf_ask`.
     Ask,
+    /// `jf_screen`.
+    Screen,
     /// A run of the program.
     Program,
 }
 
 impl Kind {
     /// Every kind, the program last.
-    pub const ALL: [Kind; 11] = [
+    pub const ALL: [Kind; 12] = [
         Kind::WriteList,
         Kind::CheckList,
         Kind::WriteTerm,
@@ -44,6 +47,7 @@ impl Kind {
         Kind::CloseIndex,
         Kind::CheckIndex,
         Kind::Ask,
+        Kind::Screen,
         Kind::Program,
     ];
 
@@ -60,6 +64,7 @@ impl Kind {
             Kind::CloseIndex => "close_index",
             Kind::CheckIndex => "check_index",
             Kind::Ask => "ask",
+            Kind::Screen => "screen",
             Kind::Program => "program",
         }
     }
@@ -72,7 +77,7 @@ impl Kind {
             Kind::CheckList => &[0, 1, 2, 3, 4, 5, 6],
             Kind::CheckTerm | Kind::CheckIndex => &[0, 1, 2, 3, 4, 5, 6, 7],
             Kind::CloseIndex => &[0, 1, 2, 3, 4, 5, 6, 7, 9],
-            Kind::Ask | Kind::Program => &[0, 1, 2, 3, 4, 5, 6, 7, 8, 9],
+            Kind::Ask | Kind::Screen | Kind::Program => &[0, 1, 2, 3, 4, 5, 6, 7, 8, 9],
         }
     }
 }
@@ -136,6 +141,8 @@ pub enum Case {
         questions: Vec<u32>,
         room: Vec<u32>,
     },
+    /// A call for a screen.
+    Screen(ScreenCase),
     /// The two files of a run of the program.
     Program {
         card: FileGiven,
@@ -155,6 +162,7 @@ impl Case {
             Case::CloseIndex { .. } => Kind::CloseIndex,
             Case::CheckIndex { .. } => Kind::CheckIndex,
             Case::Ask { .. } => Kind::Ask,
+            Case::Screen(_) => Kind::Screen,
             Case::Program { .. } => Kind::Program,
         }
     }
@@ -167,6 +175,16 @@ pub struct RoomAfter<T> {
     pub room: Vec<T>,
     /// Whether what lies before and behind the room is as it was.
     pub surroundings_kept: bool,
+}
+
+impl<T> RoomAfter<T> {
+    /// A room with nothing changed around it.
+    pub fn kept(room: Vec<T>) -> RoomAfter<T> {
+        RoomAfter {
+            room,
+            surroundings_kept: true,
+        }
+    }
 }
 
 /// Everything a call shows of itself.
@@ -194,6 +212,8 @@ pub enum Outcome {
         used: usize,
         after: RoomAfter<u32>,
     },
+    /// What a screen gives.
+    Screened(ScreenAfter),
     /// What the program prints.
     Printed { text: String },
 }
@@ -206,6 +226,7 @@ impl Outcome {
             | Outcome::Written { refusal, .. }
             | Outcome::Streamed { refusal, .. }
             | Outcome::Asked { refusal, .. } => *refusal,
+            Outcome::Screened(after) => after.screened.refusal,
             Outcome::Printed { text } => printed_refusal(text),
         }
     }
@@ -217,7 +238,7 @@ fn printed_refusal(text: &str) -> u32 {
     number.and_then(|digits| digits.parse().ok()).unwrap_or(0)
 }
 
-/// Runs a host call on one side; a call of a session and a program case give `None`.
+/// Runs a host call on one side; a call of a session, one for a screen and a program case give `None`.
 pub fn run_call(side: &dyn HostCalls, case: &Case) -> Option<Outcome> {
     let outcome = match case {
         Case::WriteList { bound, list, room } => {
@@ -281,7 +302,7 @@ pub fn run_call(side: &dyn HostCalls, case: &Case) -> Option<Outcome> {
                 after,
             }
         }
-        Case::Stream(_) | Case::Program { .. } => return None,
+        Case::Stream(_) | Case::Screen(_) | Case::Program { .. } => return None,
     };
     Some(outcome)
 }

@@ -3,6 +3,7 @@
 use crate::case::{run_call, Case, FileGiven, Outcome};
 use crate::host_calls::{HostCalls, Plain};
 use crate::plain::program::printed;
+use crate::screen_calls::ScreenCalls;
 use crate::stream_calls::StreamCalls;
 use crate::text::{case_text, comment_text, outcome_text, Stored};
 use std::fs;
@@ -17,14 +18,17 @@ pub struct Side<'a> {
     pub calls: &'a dyn HostCalls,
     /// The calls of a session.
     pub streams: &'a dyn StreamCalls,
+    /// The calls for a screen.
+    pub screens: &'a dyn ScreenCalls,
 }
 
 impl<'a> Side<'a> {
     /// The side that answers all calls by itself.
-    pub fn of<T: HostCalls + StreamCalls>(library: &'a T) -> Side<'a> {
+    pub fn of<T: HostCalls + StreamCalls + ScreenCalls>(library: &'a T) -> Side<'a> {
         Side {
             calls: library,
             streams: library,
+            screens: library,
         }
     }
 }
@@ -83,6 +87,7 @@ impl Other<'_> {
                 .program
                 .map(|program| run_program(program, &self.scratch, card, questions)),
             Case::Stream(case) => Some(Ok(case.run(self.side.streams))),
+            Case::Screen(case) => Some(Ok(case.run(self.side.screens))),
             _ => run_call(self.side.calls, case).map(Ok),
         }
     }
@@ -102,6 +107,7 @@ pub fn plain_outcome(case: &Case) -> Outcome {
             text: printed(card.readable(), questions.readable()),
         },
         Case::Stream(case) => case.run(&Plain),
+        Case::Screen(case) => case.run(&Plain),
         _ => run_call(&Plain, case).expect("every other case is a call"),
     }
 }
@@ -285,6 +291,7 @@ mod tests {
             side: Side {
                 calls: slip,
                 streams: &Plain,
+                screens: &Plain,
             },
             program: None,
             scratch: PathBuf::new(),

@@ -5,9 +5,10 @@ use crate::case::{Case, Outcome, RoomAfter};
 use crate::compare::Decided;
 use crate::gen::cards::Card;
 use crate::gen::full_size::{self, LONG};
+use crate::gen::panel::Panel;
 use crate::gen::random::Random;
 use crate::gen::raw::{RawCard, RawList};
-use crate::gen::{calls, questions, rooms, streams};
+use crate::gen::{calls, questions, rooms, screens, streams};
 use crate::plain::ask::{reply_over, Reply};
 use crate::plain::index::check_index;
 use crate::plain::list::List;
@@ -60,6 +61,7 @@ impl FullCard {
         let word = &self.card.words[long];
         let (card, pieces) = (&self.card, &self.pieces);
         let case = match call % 24 {
+            3 | 15 => return self.screen(random),
             7 | 19 => calls::write_list_of(random, list.clone()),
             8 | 20 => calls::check_list_of(random, RawList::of(list)),
             9 | 21 => calls::write_term_of(random, card.pages, word.clone()),
@@ -120,19 +122,30 @@ impl FullCard {
         self.asked(questions, whole, rooms::numbers(random, size))
     }
 
+    /// A screen of this card, mostly a good one of its longest words.
+    fn screen(&self, random: &mut Random) -> Decided {
+        let mut panel = Panel::of(&self.bytes, Ok(&self.terms));
+        if random.once_in(4) {
+            let wanted = screens::wanted(random, &self.card);
+            panel.show_anywhere(random, wanted);
+        } else {
+            let longest: Vec<u32> = self.longest().into_iter().take(3).collect();
+            let mut wanted = screens::good(random, &self.card);
+            wanted.words = vec![random.pick(&longest), random.pick(&longest)];
+            panel.show(random, wanted);
+        }
+        panel.into_calls().remove(0)
+    }
+
     /// Asking this card, by the reply that all the room would give.
     fn asked(&self, questions: Vec<u32>, whole: Reply, room: Vec<u32>) -> Decided {
         let mut after = room.clone();
         let (refusal, answered, used) = whole.cut_to(room.len()).put(&mut after);
-        let after = RoomAfter {
-            room: after,
-            surroundings_kept: true,
-        };
         let plain = Outcome::Asked {
             refusal,
             answered,
             used,
-            after,
+            after: RoomAfter::kept(after),
         };
         let card = self.bytes.clone();
         let case = Case::Ask {

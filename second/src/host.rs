@@ -1,7 +1,9 @@
 //! The library's C interface.
 
 use second::host_calls::{Asked, HostCalls, Written};
+use second::plain::screen::{Screened, Wanted};
 use second::plain::stream::{Announced, Run, Stream, Streamed};
+use second::screen_calls::ScreenCalls;
 use second::stream_calls::StreamCalls;
 use std::ptr;
 
@@ -57,6 +59,18 @@ extern "C" {
         room: *mut u32,
         room_len: usize,
     ) -> Asked;
+    fn jf_screen(
+        card: *const u8,
+        card_len: usize,
+        bound: u32,
+        r: u32,
+        words: *const u32,
+        words_len: usize,
+        pages: *mut u32,
+        pages_len: usize,
+        counts: *mut u32,
+        counts_len: usize,
+    ) -> Screened;
 }
 
 /// The library in its archive, as one side of the comparison.
@@ -143,6 +157,33 @@ impl HostCalls for Archive {
                 questions.len(),
                 at,
                 size,
+            )
+        }
+    }
+}
+
+impl ScreenCalls for Archive {
+    fn screen(
+        &self,
+        card: &[u8],
+        wanted: &Wanted,
+        pages: &mut [u32],
+        counts: &mut [u32],
+    ) -> Screened {
+        let (pages_at, pages_size) = (room_address(pages), pages.len());
+        let (counts_at, counts_size) = (room_address(counts), counts.len());
+        unsafe {
+            jf_screen(
+                address(card),
+                card.len(),
+                wanted.bound,
+                wanted.most,
+                address(&wanted.words),
+                wanted.words.len(),
+                pages_at,
+                pages_size,
+                counts_at,
+                counts_size,
             )
         }
     }

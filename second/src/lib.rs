@@ -10,6 +10,13 @@ pub mod host_calls;
 pub mod long_closing;
 pub mod phrase_faults;
 pub mod plain;
+pub mod screen_calls;
+pub mod screen_case;
+pub mod screen_faults;
+pub mod screen_sights;
+#[cfg(test)]
+mod screen_slips;
+pub mod screen_text;
 pub mod sights;
 pub mod stored;
 pub mod stream_calls;

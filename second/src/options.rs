@@ -6,13 +6,14 @@ use std::path::PathBuf;
 
 /// What the command line takes.
 pub const USAGE: &str = "\
-usage: second [--seed S] [--calls C] [--streams W] [--cards F] [--runs R]
-              [--program PATH] [--minutes M] [--threads K] [--out FOLDER]
-              [--replay FILE | --case JOB]
+usage: second [--seed S] [--calls C] [--streams W] [--screens P] [--cards F]
+              [--runs R] [--program PATH] [--minutes M] [--threads K]
+              [--out FOLDER] [--replay FILE | --case JOB]
 
   --seed S        the seed of the cases (default 1)
   --calls C       seeded host calls to compare (default 200000)
   --streams W     seeded sessions that write a word run by run (default 6000)
+  --screens P     seeded cards that screens are asked of (default 1500)
   --cards F       cards of full size to make calls with (default 6)
   --runs R        seeded runs of the program to compare (default 1000)
   --program PATH  the program whose printed text is compared
@@ -20,8 +21,9 @@ usage: second [--seed S] [--calls C] [--streams W] [--cards F] [--runs R]
   --threads K     threads at work (default: as many as there are cores)
   --out FOLDER    where differences are written (default target/differences)
   --replay FILE   compare the cases of a case file only
-  --case JOB      compare one job only, such as call:17, stream:5, full:3 or
-                  run:4, and write its case file before it is tried";
+  --case JOB      compare one job only, such as call:17, stream:5,
+                  screen:6, full:3 or run:4, and write its case file
+                  before it is tried";
 
 /// One piece of work, numbered so that it can be done again.
 #[derive(Clone, Copy, Debug, PartialEq, Eq)]
@@ -36,6 +38,8 @@ pub enum Job {
     Cut(u64),
     /// A seeded session.
     Stream(u64),
+    /// The screens of a seeded card.
+    Screen(u64),
     /// A seeded host call.
     Call(u64),
     /// A seeded run of the program.
@@ -50,6 +54,7 @@ impl fmt::Display for Job {
             Job::Long(number) => write!(f, "long:{number}"),
             Job::Cut(number) => write!(f, "cut:{number}"),
             Job::Stream(number) => write!(f, "stream:{number}"),
+            Job::Screen(number) => write!(f, "screen:{number}"),
             Job::Call(number) => write!(f, "call:{number}"),
             Job::Run(number) => write!(f, "run:{number}"),
         }
@@ -65,6 +70,7 @@ impl Job {
             "long" => number.parse().ok().map(Job::Long),
             "cut" => number.parse().ok().map(Job::Cut),
             "stream" => number.parse().ok().map(Job::Stream),
+            "screen" => number.parse().ok().map(Job::Screen),
             "call" => number.parse().ok().map(Job::Call),
             "run" => number.parse().ok().map(Job::Run),
             _ => None,
@@ -92,6 +98,8 @@ pub struct Options {
     pub calls: u64,
     /// Seeded sessions.
     pub streams: u64,
+    /// Seeded cards that screens are asked of.
+    pub screens: u64,
     /// Cards of full size.
     pub cards: u64,
     /// Seeded runs of the program.
@@ -115,6 +123,7 @@ impl Options {
             seed: 1,
             calls: 200_000,
             streams: 6_000,
+            screens: 1_500,
             cards: SHAPES,
             runs: 1_000,
             program: None,
@@ -136,6 +145,7 @@ impl Options {
             "--seed" => self.seed = number(name, value)?,
             "--calls" => self.calls = number(name, value)?,
             "--streams" => self.streams = number(name, value)?,
+            "--screens" => self.screens = number(name, value)?,
             "--cards" => self.cards = number(name, value)?,
             "--minutes" => self.minutes = Some(number(name, value)?),
             "--runs" => self.runs = number(name, value)?,

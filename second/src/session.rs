@@ -7,7 +7,7 @@ use crate::worker::Worker;
 use second::case::Kind;
 use second::compare::{Compared, Decided, Other, Side};
 use second::full_size::{FullCard, CALLS};
-use second::gen::{calls, cuts, files, streams};
+use second::gen::{calls, cuts, files, screens, streams};
 use second::long_closing;
 use second::stored;
 use second::tally::Tally;
@@ -38,7 +38,7 @@ pub struct Shared<'a> {
     differences: AtomicU64,
 }
 
-/// Compares stored edges, cards of full size, program runs, sessions and seeded calls.
+/// Compares stored edges, cards of full size, program runs, sessions, screens and seeded calls.
 /// Gives whether all was equal and everything that must be seen was seen.
 pub fn compare_all(options: &Options, side: Side) -> Result<bool, String> {
     let shared = Shared::new(options, side)?;
@@ -74,20 +74,23 @@ impl<'a> Shared<'a> {
         self.work(number)
     }
 
-    /// The work of this number: stored edges, cards, runs, sessions, then calls.
+    /// The work of this number: stored edges, cards, runs, sessions, screens, then calls.
     fn work(&self, number: u64) -> Option<Work> {
         let runs = match self.options.program {
             Some(_) => self.options.runs,
             None => 0,
         };
         let stored = |number| Work::One(Job::Stored(number as usize));
-        let sections: [(u64, &dyn Fn(u64) -> Work); 6] = [
+        let sections: [(u64, &dyn Fn(u64) -> Work); 7] = [
             (self.stored.len() as u64, &stored),
             (self.options.cards, &Work::Card),
             (runs, &|number| Work::One(Job::Run(number))),
             (cuts::SESSIONS, &|number| Work::One(Job::Cut(number))),
             (self.options.streams, &|number| {
                 Work::One(Job::Stream(number))
+            }),
+            (self.options.screens, &|number| {
+                Work::One(Job::Screen(number))
             }),
             (self.options.calls, &|number| Work::One(Job::Call(number))),
         ];
@@ -116,6 +119,7 @@ impl<'a> Shared<'a> {
                 return in_range.then(|| cuts::session(seed, number));
             }
             Job::Stream(number) => return Some(streams::session(seed, number)),
+            Job::Screen(number) => return Some(screens::set(seed, number)),
             Job::Call(number) => Stored::seeded(calls::call(seed, number)),
             Job::Run(number) => Stored::seeded(files::run(seed, number)),
         };

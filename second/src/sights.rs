@@ -6,7 +6,7 @@ use crate::phrase_faults::{phrase_fault, Fault};
 use crate::plain::bytes::{next_part, number_at};
 use crate::plain::form::{all_questions, PhraseWord, Question};
 use crate::plain::index::INDEX_HEADER;
-use crate::plain::list::{check_list, Shape, LIST_HEADER};
+use crate::plain::list::{check_list, List, Shape, LIST_HEADER};
 use crate::plain::term::{TERM_HEADER, TERM_OPENING};
 use crate::plain::{refusal, GREATEST_BOUND, GREATEST_OFFSET, GREATEST_TERMS, GREATEST_WORDS};
 
@@ -309,9 +309,14 @@ fn of_asked(lists: &[&ListBlock]) -> Vec<Sight> {
 }
 
 /// The block of a valid list.
-struct ListBlock<'a>(&'a [u8]);
+pub struct ListBlock<'a>(&'a [u8]);
 
 impl ListBlock<'_> {
+    /// The list itself.
+    pub fn list(&self) -> List {
+        check_list(self.0).expect("the list is valid")
+    }
+
     fn bound(&self) -> u32 {
         number_at(self.0, 5)
     }
@@ -340,8 +345,7 @@ impl ListBlock<'_> {
 
     /// Whether every element is below this bound.
     fn lies_below(&self, bound: u32) -> bool {
-        let list = check_list(self.0).expect("the list is valid");
-        list.elements.iter().all(|element| *element < bound)
+        self.list().elements.iter().all(|element| *element < bound)
     }
 
     /// Whether a fresh seek for this bound goes by a pointer to the run's end.
@@ -354,7 +358,7 @@ impl ListBlock<'_> {
 }
 
 /// The pages of each word of an accepted card.
-fn page_lists(card: &[u8]) -> Vec<ListBlock<'_>> {
+pub fn page_lists(card: &[u8]) -> Vec<ListBlock<'_>> {
     let mut lists = Vec::new();
     let mut rest = &card[INDEX_HEADER..];
     while let Ok(term) = next_part(&mut rest, TERM_HEADER) {

@@ -143,6 +143,7 @@ fn differences(slip: Slip, cases: &[Stored]) -> usize {
         side: Side {
             calls: &Plain,
             streams: &slip,
+            screens: &Plain,
         },
         program: None,
         scratch: PathBuf::new(),

@@ -3,6 +3,7 @@
 use crate::case::{Case, Kind, Outcome};
 use crate::gen::lists::GREATEST_WIDTH;
 use crate::plain::list::Shape;
+use crate::screen_sights::{screen_sights, ScreenSight};
 use crate::sights::{sights, Sight};
 use crate::stream_sights::{stream_sights, StreamSight};
 use std::fmt::Write;
@@ -17,6 +18,7 @@ pub struct Tally {
     widths: [u64; GREATEST_WIDTH as usize + 1],
     sights: [u64; Sight::ALL.len()],
     stream_sights: [u64; StreamSight::ALL.len()],
+    screen_sights: [u64; ScreenSight::ALL.len()],
 }
 
 impl Default for Tally {
@@ -33,6 +35,7 @@ impl Tally {
             widths: [times; GREATEST_WIDTH as usize + 1],
             sights: [times; Sight::ALL.len()],
             stream_sights: [times; StreamSight::ALL.len()],
+            screen_sights: [times; ScreenSight::ALL.len()],
         }
     }
 
@@ -51,6 +54,9 @@ impl Tally {
         for sight in stream_sights(case, plain) {
             self.stream_sights[sight.place()] += 1;
         }
+        for sight in screen_sights(case, plain) {
+            self.screen_sights[sight.place()] += 1;
+        }
     }
 
     /// Counts a comparison by its kind alone.
@@ -66,14 +72,18 @@ impl Tally {
         add_each(&mut self.widths, &other.widths);
         add_each(&mut self.sights, &other.sights);
         add_each(&mut self.stream_sights, &other.stream_sights);
+        add_each(&mut self.screen_sights, &other.screen_sights);
     }
 
     /// How often each sight was seen, by its name.
     fn sights_by_name(&self) -> Vec<(String, u64)> {
         let names = Sight::ALL.into_iter().map(Sight::name);
         let stream_names = StreamSight::ALL.into_iter().map(StreamSight::name);
-        let times = self.sights.iter().chain(&self.stream_sights).copied();
-        names.chain(stream_names).zip(times).collect()
+        let screen_names = ScreenSight::ALL.into_iter().map(ScreenSight::name);
+        let names = names.chain(stream_names).chain(screen_names);
+        let times = self.sights.iter().chain(&self.stream_sights);
+        let times = times.chain(&self.screen_sights).copied();
+        names.zip(times).collect()
     }
 
     /// The cases of a kind.
@@ -184,6 +194,15 @@ mod tests {
         for sight in StreamSight::ALL {
             let mut tally = Tally::of_each(1);
             tally.stream_sights[sight.place()] = 0;
+            assert_eq!(tally.unseen(true), [sight.name()]);
+        }
+    }
+
+    #[test]
+    fn a_tally_without_one_sight_of_screens_lacks_it() {
+        for sight in ScreenSight::ALL {
+            let mut tally = Tally::of_each(1);
+            tally.screen_sights[sight.place()] = 0;
             assert_eq!(tally.unseen(true), [sight.name()]);
         }
     }

@@ -8,6 +8,7 @@
 
 use crate::case::{Case, FileGiven, Kind, Outcome, RoomAfter};
 use crate::plain::stream::Stream;
+use crate::screen_text::{put_screen_case, put_screened, read_screen_case, read_screened};
 use crate::stream_text::{put_stream, put_stream_case, read_stream_case, read_streamed};
 use std::fmt::Write;
 
@@ -113,8 +114,17 @@ impl Fields<'_> {
     /// The room that a call leaves: what is told of it, else what it was.
     pub fn room_after(&self, before: &[u8]) -> Result<RoomAfter<u8>, String> {
         let told = !self.all("after").is_empty();
-        Ok(kept(match told {
+        Ok(RoomAfter::kept(match told {
             true => self.bytes("after")?,
+            false => before.to_vec(),
+        }))
+    }
+
+    /// The same of a room of numbers, by the name that it has.
+    pub fn numbers_after(&self, name: &str, before: &[u32]) -> Result<RoomAfter<u32>, String> {
+        let told = !self.all(name).is_empty();
+        Ok(RoomAfter::kept(match told {
+            true => self.numbers(name)?,
             false => before.to_vec(),
         }))
     }
@@ -189,6 +199,7 @@ fn read_inputs(kind: Kind, fields: &Fields) -> Result<Case, String> {
             questions: fields.numbers("questions")?,
             room: fields.numbers("room")?,
         },
+        Kind::Screen => Case::Screen(read_screen_case(fields)?),
         Kind::Program => Case::Program {
             card: fields.file("card")?,
             questions: fields.file("questions")?,
@@ -216,11 +227,9 @@ fn read_outcome(case: &Case, fields: &Fields) -> Result<Outcome, String> {
             refusal: fields.number("refusal")?,
             answered: fields.number("answered")?,
             used: fields.number("used")?,
-            after: kept(match fields.all("after").is_empty() {
-                false => fields.numbers("after")?,
-                true => room.clone(),
-            }),
+            after: fields.numbers_after("after", room)?,
         },
+        Case::Screen(case) => read_screened(case, fields)?,
         Case::Program { .. } => Outcome::Printed {
             text: fields
                 .all("line")
@@ -228,13 +237,6 @@ fn read_outcome(case: &Case, fields: &Fields) -> Result<Outcome, String> {
                 .fold(String::new(), |text, line| text + line.trim_start() + "\n"),
         },
     })
-}
-
-fn kept<T>(room: Vec<T>) -> RoomAfter<T> {
-    RoomAfter {
-        room,
-        surroundings_kept: true,
-    }
 }
 
 /// Writes a case so that it can be read again.
@@ -284,6 +286,7 @@ pub fn case_text(case: &Case) -> String {
             put_numbers(&mut text, "questions", questions);
             put_numbers(&mut text, "room", room);
         }
+        Case::Screen(case) => put_screen_case(&mut text, case),
         Case::Program { card, questions } => {
             put_file(&mut text, "card", card);
             put_file(&mut text, "questions", questions);
@@ -320,6 +323,7 @@ pub fn outcome_text(outcome: &Outcome) -> String {
             put_numbers(&mut text, "after", &after.room);
             put_surroundings(&mut text, after.surroundings_kept);
         }
+        Outcome::Screened(after) => put_screened(&mut text, after),
         Outcome::Printed { text: printed } => {
             for line in printed.split_terminator('\n') {
                 put_number(&mut text, "line", line);
@@ -350,7 +354,8 @@ pub fn comment_text(text: &str) -> String {
     text.lines().map(|line| format!("# {line}\n")).collect()
 }
 
-fn put_surroundings(text: &mut String, kept: bool) {
+/// Tells where something around a room has changed.
+pub fn put_surroundings(text: &mut String, kept: bool) {
     if !kept {
         text.push_str("# written to outside the room\n");
     }
@@ -394,17 +399,16 @@ fn put_wrapped(text: &mut String, name: &str, lines: impl Iterator<Item = String
 mod tests {
     use super::*;
     use crate::compare::plain_outcome;
-    use crate::gen::{calls, files, streams};
+    use crate::gen::{calls, files, screens, streams};
 
     #[test]
     fn a_case_file_reads_as_it_was_written() {
         let calls = (0..150).map(|number| calls::call(5, number));
         let runs = (0..50).map(|number| files::run(5, number));
         let sessions = (0..20).flat_map(|number| streams::session(5, number));
-        for case in calls
-            .chain(runs)
-            .chain(sessions.map(|call| call.stored.case))
-        {
+        let shown = (0..12).flat_map(|number| screens::set(5, number));
+        let decided = sessions.chain(shown).map(|call| call.stored.case);
+        for case in calls.chain(runs).chain(decided) {
             let outcome = plain_outcome(&case);
             let text = case_text(&case) + "gives\n" + &outcome_text(&outcome);
             let gives = Some(outcome);

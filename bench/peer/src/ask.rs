@@ -2,9 +2,9 @@
 
 use crate::card::{check_index, find_terms};
 use crate::check::TERM_OPENING;
-use crate::common::{common_pages, lead_of, Effort};
 use crate::cursor::{Cursor, NONE};
 use crate::phrase::{starts, Places};
+use crate::words::Words;
 use crate::{refusal, Asked};
 
 const RANK: u32 = 1;
@@ -125,48 +125,6 @@ fn put(room: &mut [u32], answer: &Short) -> Option<usize> {
     let length = answer[0] as usize + 1;
     room.get_mut(..length)?.copy_from_slice(&answer[..length]);
     Some(length)
-}
-
-/// The words of a question: where they lie, and a cursor on the pages of each, the lead's first.
-struct Words {
-    terms: [*const u8; 8],
-    cursors: [Cursor; 8],
-    /// The place in the question of the word at each place here.
-    order: [usize; 8],
-    count: usize,
-}
-
-impl Words {
-    #[inline(always)]
-    unsafe fn open(card: *const u8, numbers: &[u32]) -> Words {
-        let mut words = Words {
-            terms: [card; 8],
-            cursors: [Cursor::NOWHERE; 8],
-            order: [0, 1, 2, 3, 4, 5, 6, 7],
-            count: numbers.len(),
-        };
-        find_terms(card, numbers, &mut words.terms);
-        for i in 0..words.count {
-            words.cursors[i] = Cursor::on(words.terms[i].add(TERM_OPENING));
-        }
-        let lead = lead_of(&words.cursors[..words.count]);
-        words.cursors[..=lead].rotate_right(1);
-        words.terms[..=lead].rotate_right(1);
-        words.order[..=lead].rotate_right(1);
-        words
-    }
-
-    /// The most pages that can be common.
-    fn most(&self) -> usize {
-        self.cursors[0].n as usize
-    }
-
-    /// Goes over the common pages with fresh cursors.
-    #[inline(always)]
-    unsafe fn go_over(&self, each: impl FnMut(u32, &Cursor, &[Cursor])) -> Effort {
-        let mut others = self.cursors;
-        common_pages(self.cursors[0], &mut others[1..self.count], each)
-    }
 }
 
 /// Answers a question for common pages.

@@ -1,6 +1,7 @@
 //! The pages that all words of a question share.
 
 use crate::cursor::{Cursor, NONE};
+use std::ops::ControlFlow;
 
 /// The seeks and looks that were made.
 #[derive(Clone, Copy, Default)]
@@ -21,15 +22,20 @@ pub fn lead_of(cursors: &[Cursor]) -> usize {
     lead
 }
 
-/// Goes over the common pages in rising order; each is told with the lead's and the others' cursors on it.
+/// Goes over the common pages at or above the bound in rising order, with fresh cursors, until it is told to stop; each
+/// page is told with the lead's and the others' cursors on it.
 #[inline(always)]
 pub unsafe fn common_pages(
     mut lead: Cursor,
     others: &mut [Cursor],
-    mut each: impl FnMut(u32, &Cursor, &[Cursor]),
+    bound: u32,
+    mut each: impl FnMut(u32, &Cursor, &[Cursor]) -> ControlFlow<()>,
 ) -> Effort {
     let mut effort = Effort { seeks: 1, looks: 0 };
-    let mut page = lead.next(&mut effort.looks);
+    let mut page = match bound {
+        0 => lead.next(&mut effort.looks),
+        _ => lead.seek(bound, &mut effort.looks),
+    };
     'pages: while page != NONE {
         for i in 0..others.len() {
             effort.seeks += 1;
@@ -43,7 +49,9 @@ pub unsafe fn common_pages(
                 continue 'pages;
             }
         }
-        each(page, &lead, others);
+        if each(page, &lead, others).is_break() {
+            break;
+        }
         effort.seeks += 1;
         page = lead.next(&mut effort.looks);
     }

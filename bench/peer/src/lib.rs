@@ -10,9 +10,11 @@ mod check;
 mod common;
 mod cursor;
 mod phrase;
+mod screen;
 mod shape;
 mod stream;
 mod term;
+mod words;
 mod write;
 
 use std::slice;
@@ -51,6 +53,20 @@ pub struct Asked {
     pub answered: usize,
     /// The numbers of the room that they use.
     pub used: usize,
+}
+
+/// What a screen reports.
+#[repr(C)]
+#[derive(Clone, Copy, Debug, PartialEq, Eq)]
+pub struct Screened {
+    /// The refusal, 0 if none.
+    pub refusal: u32,
+    /// The pages found.
+    pub found: usize,
+    /// 1 where as many were found as were asked for.
+    pub full: u32,
+    /// The bound of the next screen where this one is full, else 0.
+    pub next: u32,
 }
 
 /// A session that writes a term run by run, as the host carries it.
@@ -243,4 +259,31 @@ pub unsafe extern "C" fn peer_ask(
 ) -> Asked {
     let questions = lent(questions, questions_len);
     ask::ask(lent(card, card_len), questions, lent_room(room, room_len))
+}
+
+/// # Safety
+/// Each address comes with its number of elements, and a room overlaps nothing.
+#[no_mangle]
+pub unsafe extern "C" fn peer_screen(
+    card: *const u8,
+    card_len: usize,
+    bound: u32,
+    r: u32,
+    words: *const u32,
+    words_len: usize,
+    pages: *mut u32,
+    pages_len: usize,
+    counts: *mut u32,
+    counts_len: usize,
+) -> Screened {
+    let wanted = screen::Wanted {
+        bound,
+        count: r,
+        words: lent(words, words_len),
+    };
+    let rooms = screen::Rooms {
+        pages: lent_room(pages, pages_len),
+        counts: lent_room(counts, counts_len),
+    };
+    screen::screen(lent(card, card_len), &wanted, rooms)
 }

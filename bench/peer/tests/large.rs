@@ -1,11 +1,12 @@
-//! The peer on lists that are longer than the second program's generator makes: long runs of neighbours, far jumps
-//! and phrases over many positions, against the second program's reading of the same card.
+//! The peer on lists that are longer than the second program's generator makes: long runs of neighbours, far jumps,
+//! phrases over many positions, and screens, against the second program's reading of the same card.
 
-use jundefola_peer::{peer_ask, peer_check_index, peer_close_index, peer_write_term};
+use jundefola_peer::{peer_ask, peer_check_index, peer_close_index, peer_screen, peer_write_term};
 use second::gen::phrases::{apart, in_a_row, of_pairs};
 use second::gen::random::Random;
 use second::plain::ask::reply;
 use second::plain::index::check_index;
+use second::plain::screen::Wanted;
 use second::plain::term::Term;
 
 const CARD_HEADER: usize = 11;
@@ -128,6 +129,46 @@ fn compare(card: &[u8], questions: &[u32]) {
     }
 }
 
+fn compare_screen(card: &[u8], terms: &[Term], wanted: &Wanted) {
+    let (mut pages, mut counts) = (vec![0; 64], vec![0; 2]);
+    let plain = wanted.put(wanted.of_terms(terms), &mut pages, &mut counts);
+    let (mut pages_given, mut counts_given) = (vec![0; 64], vec![0; 2]);
+    let given = unsafe {
+        peer_screen(
+            card.as_ptr(),
+            card.len(),
+            wanted.bound,
+            wanted.most,
+            wanted.words.as_ptr(),
+            wanted.words.len(),
+            pages_given.as_mut_ptr(),
+            pages_given.len(),
+            counts_given.as_mut_ptr(),
+            counts_given.len(),
+        )
+    };
+    assert_eq!((given.refusal, given.found), (0, plain.found));
+    assert_eq!((given.full, given.next), (plain.full, plain.next));
+    assert_eq!((pages_given, counts_given), (pages, counts));
+}
+
+/// Screens of some words from the start on, at bounds at random, and from behind the last page on.
+fn compare_screens(random: &mut Random, card: &[u8], card_pages: u32) {
+    let terms = check_index(card).expect("the card is good");
+    for number in 0..12 {
+        let bound = match number {
+            0 => 0,
+            1 => card_pages,
+            _ => random.from_to(0, card_pages),
+        };
+        let most = random.pick(&[1, 10, 64]);
+        let words = (0..random.from_to(1, 4))
+            .map(|_| random.place(terms.len()) as u32)
+            .collect();
+        compare_screen(card, &terms, &Wanted { bound, most, words });
+    }
+}
+
 /// Cards of four words each; runs and gaps decide how the upper runs look.
 fn compare_cards(card_pages: u32, run: u32, gap: u32, most: usize, positions: u32) {
     for seed in 0..4 {
@@ -142,6 +183,7 @@ fn compare_cards(card_pages: u32, run: u32, gap: u32, most: usize, positions: u3
         let card = card_of(card_pages, &words);
         assert_eq!(unsafe { peer_check_index(card.as_ptr(), card.len()) }, 0);
         compare(&card, &questions(&mut random, card_pages, &words));
+        compare_screens(&mut random, &card, card_pages);
     }
 }
 

@@ -5,10 +5,12 @@ use second::case::{Case, Kind};
 use second::compare::{Compared, Decided, Other, Side};
 use second::full_size::FullCard;
 use second::gen::full_size::SHAPES;
-use second::gen::{calls, cuts, files, streams};
+use second::gen::{calls, cuts, files, screens, streams};
 use second::host_calls::{Asked, HostCalls, Written};
 use second::long_closing;
+use second::plain::screen::{Screened, Wanted};
 use second::plain::stream::{Announced, Run, Stream, Streamed};
+use second::screen_calls::ScreenCalls;
 use second::stored;
 use second::stream_calls::StreamCalls;
 use second::tally::Tally;
@@ -95,6 +97,39 @@ impl HostCalls for Peer {
             refusal: asked.refusal,
             answered: asked.answered,
             used: asked.used,
+        }
+    }
+}
+
+impl ScreenCalls for Peer {
+    fn screen(
+        &self,
+        card: &[u8],
+        wanted: &Wanted,
+        pages: &mut [u32],
+        counts: &mut [u32],
+    ) -> Screened {
+        let (pages_at, pages_size) = (room_address(pages), pages.len());
+        let (counts_at, counts_size) = (room_address(counts), counts.len());
+        let screened = unsafe {
+            peer::peer_screen(
+                address(card),
+                card.len(),
+                wanted.bound,
+                wanted.most,
+                address(&wanted.words),
+                wanted.words.len(),
+                pages_at,
+                pages_size,
+                counts_at,
+                counts_size,
+            )
+        };
+        Screened {
+            refusal: screened.refusal,
+            found: screened.found,
+            full: screened.full,
+            next: screened.next,
         }
     }
 }
@@ -232,17 +267,21 @@ fn compare_sessions(tally: &mut Tally, seed: u64) {
     compare_decided(tally, &peer_side("sessions"), cuts.chain(at_random));
 }
 
-fn seeded(case: Case) -> Stored {
-    Stored { case, gives: None }
+/// Screens at every bound, joined, at the ends of a card and at random.
+fn compare_screens(tally: &mut Tally, seed: u64) {
+    let number = asked_for("PEER_SCREENS", 1_000);
+    let sets = (0..number).flat_map(|number| screens::set(seed, number));
+    compare_decided(tally, &peer_side("screens"), sets);
 }
 
 #[test]
 fn samples_and_edges_give_what_is_stored() {
     let edges = stored::edges().expect("the edges can be read");
     let changes = stored::small_changes(&edges);
-    assert!(edges.len() > 90 && changes.len() > 4_000);
+    assert!(edges.len() > 300 && changes.len() > 4_000);
     let edges = edges.into_iter().map(|(_, stored)| stored);
-    let tally = compare_all("edges", edges.chain(changes.into_iter().map(seeded)));
+    let changes = changes.into_iter().map(Stored::seeded);
+    let tally = compare_all("edges", edges.chain(changes));
     println!("{} calls on edges", tally.calls());
 }
 
@@ -251,9 +290,10 @@ fn seeded_calls_and_runs_are_answered_alike() {
     let seed = asked_for("PEER_SEED", 1);
     let calls = (0..asked_for("PEER_CALLS", 60_000)).map(|i| calls::call(seed, i));
     let runs = (0..asked_for("PEER_RUNS", 500)).map(|i| files::run(seed, i));
-    let mut tally = compare_all("seeded", calls.chain(runs).map(seeded));
+    let mut tally = compare_all("seeded", calls.chain(runs).map(Stored::seeded));
     compare_full_size(&mut tally, seed);
     compare_sessions(&mut tally, seed);
+    compare_screens(&mut tally, seed);
     if let Some(differences) = long_closing::compare(&Peer, &mut tally) {
         assert_eq!(differences, Vec::<String>::new());
     }
@@ -269,6 +309,7 @@ fn seeded_calls_and_runs_are_answered_alike() {
         "PEER_RUNS",
         "PEER_FULL_CALLS",
         "PEER_STREAMS",
+        "PEER_SCREENS",
     ];
     let is_usual = usual.iter().all(|name| std::env::var_os(name).is_none());
     if is_usual {

@@ -13,7 +13,7 @@ use Rattle.commonlaws.proofs.CommonLaws.{common-listed}
 use Rattle.querylaws.specs.Listings.{wholeIn, laidWithin}
 use Rattle.querylaws.proofs.ListingLaws.{laid-within-all}
 use Rattle.wordlists.specs.Opened.{OpenedPages}
-use Rattle.wordlists.proofs.OpenLaws.{opened-some}
+use Rattle.wordlists.proofs.OpenLaws.{opened-some, opened-whole}
 use Rattle.questions.specs.Wrote.{Wrote}
 use Rattle.questions.proofs.WroteLaws.{wrote-whole, tail-part, tail-back}
 use Rattle.bycommon.specs.Tallies.{tallied}
@@ -48,7 +48,7 @@ put-tally t room ys n a b h e f g k =
 module _ (s ts r : List ℕ) (o : OpenedPages s ts r) where
   pub opened-answer : tallied (wholeIn s r (length ts)) ≡ byCommon (indexN s) (listsIn s ts)
   unfolding tallied byCommon
-  opened-answer = rw (o .rule, common-listed (indexN s) (listsIn s ts) (opened-some s ts r o) (o .rise))
+  opened-answer = rw (opened-whole s ts r o, common-listed (indexN s) (listsIn s ts) (opened-some s ts r o) (o .rise))
 
 pub length-tallied : (t : Tally) → length (tallied t) ≡ length (t .listed) + 3
 unfolding tallied numbered

@@ -8,19 +8,20 @@ use native.Mathlib.Nat.{mul-le-mul-left, le-trans}
 use native.Mathlib.Decide.{ℕ-discrete}
 use native.Mathlib.Omega.{arith}
 use borrow.Author.Tests.{le-leb, lt-ltb}
-use lib.ListN.{length, getD}
+use lib.ListN.{length, getD, take}
+use lib.Seq.{take-all}
 use Rattle.rules.specs.List.{rising}
 use Rattle.rules.specs.Seek.{fresh}
-use Rattle.rules.specs.Common.{readersOf, common}
-use Rattle.rules.specs.Plain.{member, inAll, sharedBy, commonPages}
+use Rattle.rules.specs.Common.{readersOf, leadPages, otherPages, commonFrom, common}
+use Rattle.rules.specs.Plain.{atLeast, member, inAll, sharedBy, commonPages}
 use Rattle.listlaws.proofs.RisingLaws.{rising-parts}
 use Rattle.seeklaws.proofs.SeekLaws.{behind-fresh}
 use Rattle.commonlaws.specs.Readers.{pagesOf, Rise, Ready, AllReady, reachedBy, wordsOf}
-use Rattle.commonlaws.specs.Readers.{from, sharedFrom, leftIn, leadPages, otherPages}
-use Rattle.commonlaws.specs.Next.{allRounds, freshLead, freshOthers, commonFrom}
+use Rattle.commonlaws.specs.Readers.{sharedFrom, leftIn}
+use Rattle.commonlaws.specs.Next.{roundsTo, freshLead, freshOthers}
 use Rattle.commonlaws.specs.Outcomes.{Tallied}
 use Rattle.commonlaws.proofs.SharedLaws.{member-here, member-past, from-zero, from-le}
-use Rattle.commonlaws.proofs.SharedLaws.{shared-yes, shared-no, shared-from}
+use Rattle.commonlaws.proofs.SharedLaws.{shared-yes, shared-no, shared-le, shared-from}
 use Rattle.commonlaws.proofs.NextLaws.{length-pages}
 use Rattle.commonlaws.proofs.TallyLaws.{rounds-tallied}
 use Rattle.commonlaws.proofs.PickLaws.{Pick, lead-leads, lead-picked, pick-inAll}
@@ -130,11 +131,12 @@ unfolding readersOf pagesOf
 readers-pages [] = refl
 readers-pages (l ∷ ls) = ap (λ (r : List (List ℕ)). l ∷ r) (readers-pages ls)
 
-pub common-from : (U : ℕ) (ls : List (List ℕ)) → common U ls ≡ commonFrom U ls 0
-unfolding common commonFrom allRounds freshLead freshOthers leadPages otherPages
-common-from U ls = refl
+pub common-from : (U : ℕ) (ls : List (List ℕ)) (b r : ℕ)
+    → commonFrom U ls b r ≡ roundsTo U (freshLead ls) (freshOthers ls) b r
+unfolding commonFrom roundsTo freshLead freshOthers
+common-from U ls b r = refl
 
--- ---- the rule on the lists ls, from a bound on
+-- ---- the rule on the lists ls, from a bound on until r pages are listed
 
 module _ (U : ℕ) (ls : List (List ℕ)) (some : 0 < length ls) (r : Rise U ls) where
   picked : Pick ls (leadPages ls) (otherPages ls)
@@ -148,24 +150,30 @@ module _ (U : ℕ) (ls : List (List ℕ)) (some : 0 < length ls) (r : Rise U ls)
   unfolding freshOthers
   others-ready b = readers-ready U b (otherPages ls) (pick-rise U picked r .1)
 
-  module _ (b : ℕ) where
-    tallied : Tallied U b (freshLead ls) (freshOthers ls) (reachedBy U (freshLead ls ∷ freshOthers ls))
-        (commonFrom U ls b)
-    unfolding commonFrom
-    tallied = rounds-tallied U (freshLead ls) (freshOthers ls) b (lead-ready b) (others-ready b)
+  -- the pages rise below U
+  pub common-rises : rising 0 U (commonPages ls) ≡ true
+  common-rises =
+      rw (← pick-common U ls (leadPages ls) (otherPages ls) some picked r)
+      (shared-rising (otherPages ls) 0 U (leadPages ls) (pick-rise U picked r .0))
+
+  module _ (b n : ℕ) where
+    tallied : Tallied U b n (freshLead ls) (freshOthers ls) (reachedBy U (freshLead ls ∷ freshOthers ls))
+        (commonFrom U ls b n)
+    tallied = rw (common-from U ls b n)
+        (rounds-tallied U (freshLead ls) (freshOthers ls) b (lead-ready b) (others-ready b) n)
 
     -- what the lead shares with the others is what all lists share
-    pub lead-shares : sharedFrom b (freshLead ls) (freshOthers ls) ≡ from b (commonPages ls)
+    pub lead-shares : sharedFrom b (freshLead ls) (freshOthers ls) ≡ atLeast b (commonPages ls)
     unfolding freshLead freshOthers
     lead-shares =
         rw (readers-pages (otherPages ls)) (shared-from (otherPages ls) b (leadPages ls))
-        ∙ ap (from b) (pick-common U ls (leadPages ls) (otherPages ls) some picked r)
+        ∙ ap (atLeast b) (pick-common U ls (leadPages ls) (otherPages ls) some picked r)
 
-    pub from-listed : commonFrom U ls b .listed ≡ from b (commonPages ls)
-    from-listed = tallied .listed ∙ lead-shares
+    pub from-listed : commonFrom U ls b n .listed ≡ take n (atLeast b (commonPages ls))
+    from-listed = tallied .listed ∙ ap (take n) lead-shares
 
     -- at most k * m + 1 for every list's length m, so for the shortest
-    pub from-seeks : (j : ℕ) → j < length ls → commonFrom U ls b .seeks ≤ length ls * length (getD ls j []) + 1
+    pub from-seeks : (j : ℕ) → j < length ls → commonFrom U ls b n .seeks ≤ length ls * length (getD ls j []) + 1
     unfolding freshLead freshOthers
     from-seeks j h =
         let k : 1 + length (freshOthers ls) ≡ length ls =
@@ -176,17 +184,28 @@ module _ (U : ℕ) (ls : List (List ℕ)) (some : 0 < length ls) (r : Rise U ls)
         omega (arith, rw k at (tallied .seeks), mul-le-mul-left (length ls) m)
 
     -- a list's words count as often as it is named
-    pub from-looks : commonFrom U ls b .looks ≤ commonFrom U ls b .seeks + wordsOf U ls
+    pub from-looks : commonFrom U ls b n .looks ≤ commonFrom U ls b n .seeks + wordsOf U ls
     unfolding freshLead freshOthers
     from-looks = omega (arith, rw (readers-pages (otherPages ls), pick-words U picked) at (tallied .looks))
 
   -- ---- common pages
 
+  -- no more pages are shared than the lead has
+  pub common-few : length (commonPages ls) ≤ length (leadPages ls)
+  common-few =
+      rw (← pick-common U ls (leadPages ls) (otherPages ls) some picked r) (shared-le (otherPages ls) (leadPages ls))
+
   pub common-listed : common U ls .listed ≡ commonPages ls
-  common-listed = rw (common-from U ls) (from-listed 0 ∙ from-zero (commonPages ls))
+  unfolding common
+  common-listed =
+      from-listed 0 (length (leadPages ls) + 1)
+      ∙ rw (from-zero (commonPages ls))
+      (take-all (length (leadPages ls) + 1) (commonPages ls) (omega (arith, common-few)))
 
   pub common-seeks : (j : ℕ) → j < length ls → common U ls .seeks ≤ length ls * length (getD ls j []) + 1
-  common-seeks = rw (common-from U ls) (from-seeks 0)
+  unfolding common
+  common-seeks = from-seeks 0 (length (leadPages ls) + 1)
 
   pub common-looks : common U ls .looks ≤ common U ls .seeks + wordsOf U ls
-  common-looks = rw (common-from U ls) (from-looks 0)
+  unfolding common
+  common-looks = from-looks 0 (length (leadPages ls) + 1)

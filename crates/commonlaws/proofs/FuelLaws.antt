@@ -12,21 +12,32 @@ use Rattle.rules.specs.Common.{Reader, Tally, Ended, agreed, exhausted, larger}
 use Rattle.rules.specs.Common.{stopped, agree, counted, nothing, rounds}
 use Rattle.commonlaws.specs.Readers.{Ready, AllReady, leftIn}
 use Rattle.commonlaws.specs.Next.{Turn, over, again, hit, Turned, turnOf, behindLead, turned}
-use Rattle.commonlaws.specs.Next.{Next, plus, nextBy, nextIn, nextCommon, allRounds, roundsBy}
+use Rattle.commonlaws.specs.Next.{Next, plus, nextBy, nextIn, nextCommon, roundsTo, roundsBy}
 use Rattle.commonlaws.proofs.SharedLaws.{from-le}
 use Rattle.commonlaws.proofs.TurnLaws.{this, To, turned-none, turned-page, turned-later}
 
 -- ---- the rule by turns
 
-roundsOn : ℕ → ℕ → Turned → Tally
-roundsOn f U t = roundsBy (rounds f U (t .lead) (t .others)) t (t .turn)
+rounds-over : (f U : ℕ) (lead : Reader) (others : List Reader) (b : ℕ) → rounds f 0 U lead others b ≡ nothing
+unfolding rounds
+rounds-over zero U lead others b = refl
+rounds-over (suc f) U lead others b = refl
+
+-- once all pages are listed
+pub rounds-done : (U : ℕ) (lead : Reader) (others : List Reader) (b : ℕ) → roundsTo U lead others b 0 ≡ nothing
+unfolding roundsTo
+rounds-done U lead others b = rounds-over (length (lead .pages) + 1) U lead others b
+
+roundsOn : ℕ → ℕ → Turned → ℕ → Tally
+roundsOn f U t r = roundsBy (λ d n. rounds f n U (t .lead) (t .others) d) t (t .turn) r
 
 module _ (f U : ℕ) (lead : Reader) (others : List Reader) (b : ℕ) where
-  rounds-on : rounds (suc f) U lead others b ≡ roundsOn f U (turned U lead others b)
-  rounds-on = go (this U b lead others .found) refl
+  -- where a page may be listed
+  rounds-some : (r : ℕ) → rounds (suc f) (suc r) U lead others b ≡ roundsOn f U (turned U lead others b) (suc r)
+  rounds-some r = go (this U b lead others .found) refl
     where
       go : (g : Found) → this U b lead others .found ≡ g
-          → rounds (suc f) U lead others b ≡ roundsOn f U (turned U lead others b)
+          → rounds (suc f) (suc r) U lead others b ≡ roundsOn f U (turned U lead others b) (suc r)
       go (none m) e =
           rw (turned-none U b lead others m e)
           (unfold rounds roundsOn roundsBy behindLead stopped in
@@ -34,11 +45,16 @@ module _ (f U : ℕ) (lead : Reader) (others : List Reader) (b : ℕ) where
       go (page c i) e = rw (turned-page U b lead others c i e) (ends (agree U c others .ended) refl)
         where
           ends : (d : Ended) → agree U c others .ended ≡ d
-              → rounds (suc f) U lead others b ≡ roundsOn f U (behindLead (lead .pages) (this U b lead others)
-              (turnOf c i (agree U c others .ended)) (agree U c others))
+              → rounds (suc f) (suc r) U lead others b ≡ roundsOn f U (behindLead (lead .pages) (this U b lead others)
+              (turnOf c i (agree U c others .ended)) (agree U c others)) (suc r)
           ends agreed q = unfold rounds roundsOn roundsBy behindLead turnOf in rw (q, e, rounds, q, rounds)
           ends exhausted q = unfold rounds roundsOn roundsBy behindLead turnOf in rw (q, e, rounds, q, rounds)
           ends (larger d) q = unfold rounds roundsOn roundsBy behindLead turnOf in rw (q, e, rounds, q, rounds)
+
+  rounds-on : (r : ℕ) → rounds (suc f) r U lead others b ≡ roundsOn f U (turned U lead others b) r
+  unfolding rounds roundsOn roundsBy
+  rounds-on zero = refl
+  rounds-on (suc r) = rounds-some r
 
 -- ---- any two amounts of fuel that are enough give the same
 
@@ -86,19 +102,31 @@ module _ (U : ℕ) where
   nextBy-alike p q t (again d) h = ap (plus (t .seeks) (t .looks)) (h d refl)
   nextBy-alike p q t (hit c i) h = refl
 
-  roundsBy-alike : (p q : ℕ → Tally) (t : Turned) (e : Turn) → ((d : ℕ) → To e d → p d ≡ q d)
+  roundsBy-alike : (p q : ℕ → ℕ → Tally) (t : Turned) (e : Turn) → ((d : ℕ) → To e d → p d ≡ q d)
       → roundsBy p t e ≡ roundsBy q t e
-  unfolding roundsBy
-  roundsBy-alike p q t over h = refl
-  roundsBy-alike p q t (again d) h = ap (counted (t .seeks) (t .looks) []) (h d refl)
-  roundsBy-alike p q t (hit c i) h = ap (counted (t .seeks) (t .looks) (c ∷ [])) (h (c + 1) refl)
+  roundsBy-alike p q t e h = λ i r. each e h r i
+    where
+      each : (e : Turn) → ((d : ℕ) → To e d → p d ≡ q d) → (r : ℕ) → roundsBy p t e r ≡ roundsBy q t e r
+      each e h zero = unfold roundsBy in refl
+      each over h (suc r) = unfold roundsBy in refl
+      each (again d) h (suc r) = unfold roundsBy in ap (counted (t .seeks) (t .looks) []) (λ i. h d refl i (suc r))
+      each (hit c i) h (suc r) = unfold roundsBy in
+          ap (counted (t .seeks) (t .looks) (c ∷ [])) (λ j. h (c + 1) refl j r)
+
+  rounds-unrolled : (f : ℕ) (lead : Reader) (others : List Reader) (b : ℕ)
+      → let t = turned U lead others b in
+      (λ (r : ℕ). rounds (suc f) r U lead others b)
+      ≡ roundsBy (λ d r. rounds f r U (t .lead) (t .others) d) t (t .turn)
+  unfolding roundsOn
+  rounds-unrolled f lead others b = λ i r. rounds-on f U lead others b r i
 
   -- the rounds that the rule allows suffice: more of them change nothing
   pub rounds-fuel : (f g : ℕ) (lead : Reader) (others : List Reader) (b : ℕ) → leftIn b lead < f → leftIn b lead < g
-      → Ready U b lead → AllReady U b others → rounds f U lead others b ≡ rounds g U lead others b
-  rounds-fuel =
-      fuel-any U Tally (λ f. rounds f U) roundsBy
-      (λ f lead others b. unfold roundsOn in rounds-on f U lead others b) roundsBy-alike
+      → Ready U b lead → AllReady U b others → (r : ℕ) → rounds f r U lead others b ≡ rounds g r U lead others b
+  rounds-fuel f g lead others b h l k a r =
+      ap (λ (run : ℕ → Tally). run r)
+      (fuel-any U (ℕ → Tally) (λ f lead others b r. rounds f r U lead others b) roundsBy rounds-unrolled roundsBy-alike
+      f g lead others b h l k a)
 
   module _ (lead : Reader) (others : List Reader) (b : ℕ) (k : Ready U b lead) (a : AllReady U b others) where
     abbrev t : Turned
@@ -108,10 +136,13 @@ module _ (U : ℕ) where
     unfolding nextCommon nextIn
     next-turn = unroll-all U Next (λ f. nextIn f U) nextBy (λ f lead others b. refl) nextBy-alike lead others b k a
 
-    pub rounds-turn : allRounds U lead others b ≡ roundsBy (allRounds U (t .lead) (t .others)) t (t .turn)
-    unfolding allRounds
-    rounds-turn = unroll-all U Tally (λ f. rounds f U) roundsBy
-        (λ f lead others b. unfold roundsOn in rounds-on f U lead others b) roundsBy-alike lead others b k a
+    pub rounds-turn : (r : ℕ)
+        → roundsTo U lead others b r ≡ roundsBy (roundsTo U (t .lead) (t .others)) t (t .turn) r
+    unfolding roundsTo
+    rounds-turn r =
+        ap (λ (run : ℕ → Tally). run r)
+        (unroll-all U (ℕ → Tally) (λ f lead others b r. rounds f r U lead others b) roundsBy rounds-unrolled
+        roundsBy-alike lead others b k a)
 
   -- ---- what holds of readers and a bound if it holds where a turn goes on
 

@@ -3,7 +3,7 @@
 use mathlib.Core.Bool.{true}
 use mathlib.Core.Path.{_≡_, refl, sym, ap, _∙_}
 use mathlib.Core.List.{List, [], _∷_}
-use Prim.Native.Nat.{ℕ, suc, _+_}
+use Prim.Native.Nat.{ℕ, zero, suc, _+_}
 use native.Mathlib.Nat.{add-assoc}
 use native.Mathlib.Decide.{decLt}
 use native.Mathlib.Omega.{arith}
@@ -16,7 +16,7 @@ use Rattle.seeklaws.specs.Cursors.{firstAt, foundAt}
 use Rattle.seeklaws.proofs.FirstLaws.{firstAt-self, firstAt-le, first-found, foundAt-none}
 use Rattle.commonlaws.specs.Readers.{pagesOf, Ready, AllReady}
 use Rattle.commonlaws.specs.Next.{Turn, over, again, hit, Turned, turned, Next, ending, plus}
-use Rattle.commonlaws.specs.Next.{nextBy, nextCommon, allRounds, roundsBy, onward, firstShared}
+use Rattle.commonlaws.specs.Next.{nextBy, nextCommon, roundsTo, roundsBy, onward, firstShared}
 use Rattle.commonlaws.specs.Outcomes.{Carried, Over, Again, Hit, Goes, Ends, Came}
 use Rattle.commonlaws.proofs.SharedLaws.{from-first, from-none, shared-alone}
 use Rattle.commonlaws.proofs.TurnLaws.{To, turned-carried, turned-goes}
@@ -151,39 +151,43 @@ module _ (U : ℕ) where
   unfolding counted
   counted-twice s l s′ l′ ps t = rw (← add-assoc s s′ (t .seeks), ← add-assoc l l′ (t .looks))
 
-  onward-after : (t : Turned) (n : Next)
-      → counted (t .seeks) (t .looks) [] (onward U n) ≡ onward U (plus (t .seeks) (t .looks) n)
-  onward-after t n = go (n .found) refl
+  onward-after : (t : Turned) (n : Next) (r : ℕ)
+      → counted (t .seeks) (t .looks) [] (onward U n (suc r)) ≡ onward U (plus (t .seeks) (t .looks) n) (suc r)
+  onward-after t n r = go (n .found) refl
     where
       go : (f : Found) → n .found ≡ f
-          → counted (t .seeks) (t .looks) [] (onward U n) ≡ onward U (plus (t .seeks) (t .looks) n)
+          → counted (t .seeks) (t .looks) [] (onward U n (suc r)) ≡ onward U (plus (t .seeks) (t .looks) n) (suc r)
       go (none m) e = unfold onward plus in
           rw (e, onward) (counted-twice (t .seeks) (t .looks) (n .seeks) (n .looks) [] nothing)
       go (page c i) e =
           unfold onward plus in rw (e, onward) (counted-twice (t .seeks) (t .looks) (n .seeks) (n .looks) (c ∷ [])
-          (allRounds U (n .lead) (n .others) (c + 1)))
+          (roundsTo U (n .lead) (n .others) (c + 1) r))
+
+  -- the rule is the next page and what is behind it
+  abbrev Onward : Reader → List Reader → ℕ → Type 0
+  Onward lead others b = (r : ℕ) → roundsTo U lead others b r ≡ onward U (nextCommon U lead others b) r
 
   rounds-step : (lead : Reader) (others : List Reader) (b : ℕ) → Ready U b lead → AllReady U b others
       → let t = turned U lead others b in
-      ((d : ℕ) → To (t .turn) d
-      → allRounds U (t .lead) (t .others) d ≡ onward U (nextCommon U (t .lead) (t .others) d))
-      → allRounds U lead others b ≡ onward U (nextCommon U lead others b)
-  rounds-step lead others b k a ih =
-      rounds-turn U lead others b k a ∙ go (t .turn) ih ∙ ap (onward U) (sym (next-turn U lead others b k a))
+      ((d : ℕ) → To (t .turn) d → Onward (t .lead) (t .others) d) → Onward lead others b
+  rounds-step lead others b k a ih r =
+      rounds-turn U lead others b k a r
+      ∙ go (t .turn) ih r
+      ∙ ap (λ (n : Next). onward U n r) (sym (next-turn U lead others b k a))
     where
       t : Turned
       t = turned U lead others b
 
-      go : (e : Turn)
-          → ((d : ℕ) → To e d → allRounds U (t .lead) (t .others) d ≡ onward U (nextCommon U (t .lead) (t .others) d))
-          → roundsBy (allRounds U (t .lead) (t .others)) t e
-          ≡ onward U (nextBy (nextCommon U (t .lead) (t .others)) t e)
-      go over ih = unfold roundsBy nextBy ending onward in refl
-      go (hit c i) ih = unfold roundsBy nextBy ending onward in refl
-      go (again d) ih = unfold roundsBy nextBy in
-          ap (counted (t .seeks) (t .looks) []) (ih d refl) ∙ onward-after t (nextCommon U (t .lead) (t .others) d)
+      go : (e : Turn) → ((d : ℕ) → To e d → Onward (t .lead) (t .others) d) → (r : ℕ)
+          → roundsBy (roundsTo U (t .lead) (t .others)) t e r
+          ≡ onward U (nextBy (nextCommon U (t .lead) (t .others)) t e) r
+      go e ih zero = unfold roundsBy onward in refl
+      go over ih (suc r) = unfold roundsBy nextBy ending onward in refl
+      go (hit c i) ih (suc r) = unfold roundsBy nextBy ending onward in refl
+      go (again d) ih (suc r) = unfold roundsBy nextBy in
+          ap (counted (t .seeks) (t .looks) []) (ih d refl (suc r))
+          ∙ onward-after t (nextCommon U (t .lead) (t .others) d) r
 
   pub rounds-next : (lead : Reader) (others : List Reader) (b : ℕ) → Ready U b lead → AllReady U b others
-      → allRounds U lead others b ≡ onward U (nextCommon U lead others b)
-  rounds-next =
-      by-turns U (λ lead others b. allRounds U lead others b ≡ onward U (nextCommon U lead others b)) rounds-step
+      → Onward lead others b
+  rounds-next = by-turns U Onward rounds-step

@@ -11,9 +11,9 @@ use borrow.Author.Tests.{lt-ltb, le-ltb}
 use lib.ListN.{length, getD, take, drop, length-drop}
 use lib.Seq.{getD-drop, drop-drop}
 use Rattle.rules.specs.List.{rising}
-use Rattle.rules.specs.Common.{leadFrom, leadOf}
+use Rattle.rules.specs.Common.{leadFrom, leadOf, leadPages, otherPages}
 use Rattle.rules.specs.Plain.{member, inAll}
-use Rattle.commonlaws.specs.Readers.{Rise, wordsOf, leadPages, otherPages, Leads}
+use Rattle.commonlaws.specs.Readers.{Rise, wordsOf, Leads}
 
 -- ---- the shortest list, the first of equals
 

@@ -9,12 +9,11 @@ use borrow.Author.Tests.{le-leb, lt-leb, eq-eqb, ne-eqb}
 use lib.ListN.{length, getD}
 use Rattle.rules.specs.List.{rising}
 use Rattle.rules.specs.Seek.{none, page}
-use Rattle.rules.specs.Plain.{firstFrom, member, inAll, sharedBy}
+use Rattle.rules.specs.Plain.{firstFrom, atLeast, member, inAll, sharedBy}
 use Rattle.listlaws.proofs.RisingLaws.{rising-parts}
 use Rattle.seeklaws.specs.Cursors.{firstAt}
 use Rattle.seeklaws.proofs.FirstLaws.{rising-lt, firstAt-here, firstAt-past, firstAt-le, firstAt-before}
 use Rattle.seeklaws.proofs.FirstLaws.{firstAt-at, first-found, foundAt-none, foundAt-page}
-use Rattle.commonlaws.specs.Readers.{from}
 
 -- ---- members
 
@@ -86,29 +85,29 @@ member-gap U xs r b x l g =
 
 -- ---- those from b on
 
-from-here : (b x : ℕ) (xs : List ℕ) → b ≤ x → from b (x ∷ xs) ≡ x ∷ from b xs
-unfolding from
-from-here b x xs h = rw (le-leb b x h, from)
+from-here : (b x : ℕ) (xs : List ℕ) → b ≤ x → atLeast b (x ∷ xs) ≡ x ∷ atLeast b xs
+unfolding atLeast
+from-here b x xs h = rw (le-leb b x h, atLeast)
 
-from-past : (b x : ℕ) (xs : List ℕ) → x < b → from b (x ∷ xs) ≡ from b xs
-unfolding from
-from-past b x xs h = rw (lt-leb b x h, from)
+from-past : (b x : ℕ) (xs : List ℕ) → x < b → atLeast b (x ∷ xs) ≡ atLeast b xs
+unfolding atLeast
+from-past b x xs h = rw (lt-leb b x h, atLeast)
 
-pub from-all : (lo U : ℕ) (xs : List ℕ) → rising lo U xs ≡ true → (b : ℕ) → b ≤ lo → from b xs ≡ xs
-unfolding from
+pub from-all : (lo U : ℕ) (xs : List ℕ) → rising lo U xs ≡ true → (b : ℕ) → b ≤ lo → atLeast b xs ≡ xs
+unfolding atLeast
 from-all lo U [] r b h = refl
 from-all lo U (x ∷ xs) r b h =
     let t = rising-parts lo U x xs r in
     from-here b x xs (omega (arith, t .0))
     ∙ ap (λ (l : List ℕ). x ∷ l) (from-all (x + 1) U xs (t .2) b (omega (arith, t .0)))
 
-pub from-zero : (xs : List ℕ) → from 0 xs ≡ xs
-unfolding from
+pub from-zero : (xs : List ℕ) → atLeast 0 xs ≡ xs
+unfolding atLeast
 from-zero [] = refl
 from-zero (x ∷ xs) = from-here 0 x xs (omega arith) ∙ ap (λ (l : List ℕ). x ∷ l) (from-zero xs)
 
 pub from-first : (lo U : ℕ) (xs : List ℕ) → rising lo U xs ≡ true → (b : ℕ) → firstAt b xs < length xs
-    → from b xs ≡ getD xs (firstAt b xs) 0 ∷ from (getD xs (firstAt b xs) 0 + 1) xs
+    → atLeast b xs ≡ getD xs (firstAt b xs) 0 ∷ atLeast (getD xs (firstAt b xs) 0 + 1) xs
 from-first lo U [] r b h = absurd (omega arith)
 from-first lo U (x ∷ xs) r b h =
     let t = rising-parts lo U x xs r in
@@ -125,8 +124,8 @@ from-first lo U (x ∷ xs) r b h =
           (from-first (x + 1) U xs (t .2) b g)
     ]
 
-pub from-none : (b : ℕ) (xs : List ℕ) → firstAt b xs ≡ length xs → from b xs ≡ []
-unfolding from
+pub from-none : (b : ℕ) (xs : List ℕ) → firstAt b xs ≡ length xs → atLeast b xs ≡ []
+unfolding atLeast
 from-none b [] e = refl
 from-none b (x ∷ xs) e =
     elim (decLe b x) [
@@ -134,8 +133,8 @@ from-none b (x ∷ xs) e =
       | no l ↦ from-past b x xs (omega arith) ∙ from-none b xs (omega (arith, firstAt-past b x xs (omega arith)))
     ]
 
-pub from-le : (b : ℕ) (xs : List ℕ) → length (from b xs) ≤ length xs
-unfolding from
+pub from-le : (b : ℕ) (xs : List ℕ) → length (atLeast b xs) ≤ length xs
+unfolding atLeast
 from-le b [] = omega arith
 from-le b (x ∷ xs) =
     elim (decLe b x) [
@@ -143,8 +142,26 @@ from-le b (x ∷ xs) =
       | no l ↦ rw (from-past b x xs (omega arith)) (omega (arith, from-le b xs))
     ]
 
-pub from-mono : (b d : ℕ) (xs : List ℕ) → b ≤ d → length (from d xs) ≤ length (from b xs)
-unfolding from
+pub from-below : (lo U : ℕ) (xs : List ℕ) → rising lo U xs ≡ true → (b i : ℕ) → i < length (atLeast b xs)
+    → getD (atLeast b xs) i 0 < U
+unfolding atLeast
+from-below lo U [] r b i h = absurd (omega arith)
+from-below lo U (x ∷ xs) r b i h =
+    let t = rising-parts lo U x xs r in
+    elim (decLe b x) [
+      | yes l ↦ rw (from-here b x xs l) (front i (rw (from-here b x xs l) at h) (t .1) (from-below (x + 1) U xs (t .2) b))
+      | no l ↦
+          let e = from-past b x xs (omega arith) in
+          rw e (from-below (x + 1) U xs (t .2) b i (rw e at h))
+    ]
+  where
+    front : (i : ℕ) → i < length (x ∷ atLeast b xs) → x < U
+        → ((i : ℕ) → i < length (atLeast b xs) → getD (atLeast b xs) i 0 < U) → getD (x ∷ atLeast b xs) i 0 < U
+    front zero h l ih = l
+    front (suc i) h l ih = ih i (omega (arith, h))
+
+pub from-mono : (b d : ℕ) (xs : List ℕ) → b ≤ d → length (atLeast d xs) ≤ length (atLeast b xs)
+unfolding atLeast
 from-mono b d [] h = omega arith
 from-mono b d (x ∷ xs) h =
     let ih = from-mono b d xs h in
@@ -169,16 +186,16 @@ shared-no ls x xs e = rw e
 
 -- between b and d there is none
 pub shared-skip : (ls : List (List ℕ)) (xs : List ℕ) (b d : ℕ) → b ≤ d → ((x : ℕ) → b ≤ x → x < d → inAll x ls ≡ false)
-    → sharedBy ls (from b xs) ≡ sharedBy ls (from d xs)
-unfolding from
+    → sharedBy ls (atLeast b xs) ≡ sharedBy ls (atLeast d xs)
+unfolding atLeast
 shared-skip ls [] b d h g = refl
 shared-skip ls (x ∷ xs) b d h g =
     let ih = shared-skip ls xs b d h g in
     elim (decLe b x) [
       | yes l ↦ elim (decLe d x) [
-        | yes m ↦ rw (from-here b x xs l, from-here d x xs m) (both x (from b xs) (from d xs) ih)
+        | yes m ↦ rw (from-here b x xs l, from-here d x xs m) (both x (atLeast b xs) (atLeast d xs) ih)
         | no m ↦ rw (from-here b x xs l, from-past d x xs (omega arith))
-            (shared-no ls x (from b xs) (g x l (omega arith)) ∙ ih)
+            (shared-no ls x (atLeast b xs) (g x l (omega arith)) ∙ ih)
       ]
       | no l ↦ rw (from-past b x xs (omega arith), from-past d x xs (omega arith)) ih
     ]
@@ -188,31 +205,42 @@ shared-skip ls (x ∷ xs) b d h g =
 
 -- and from b on there is none
 pub shared-none : (ls : List (List ℕ)) (xs : List ℕ) (b : ℕ) → ((x : ℕ) → b ≤ x → inAll x ls ≡ false)
-    → sharedBy ls (from b xs) ≡ []
-unfolding from sharedBy
+    → sharedBy ls (atLeast b xs) ≡ []
+unfolding atLeast sharedBy
 shared-none ls [] b g = refl
 shared-none ls (x ∷ xs) b g =
     elim (decLe b x) [
-      | yes l ↦ rw (from-here b x xs l) (shared-no ls x (from b xs) (g x l) ∙ shared-none ls xs b g)
+      | yes l ↦ rw (from-here b x xs l) (shared-no ls x (atLeast b xs) (g x l) ∙ shared-none ls xs b g)
       | no l ↦ rw (from-past b x xs (omega arith)) (shared-none ls xs b g)
     ]
 
+-- no more of them are shared than there are
+pub shared-le : (ls : List (List ℕ)) (xs : List ℕ) → length (sharedBy ls xs) ≤ length xs
+unfolding sharedBy
+shared-le ls [] = omega arith
+shared-le ls (x ∷ xs) = go (shared-le ls xs) (inAll x ls) refl
+  where
+    go : length (sharedBy ls xs) ≤ length xs → (b : Bool) → inAll x ls ≡ b
+        → length (sharedBy ls (x ∷ xs)) ≤ length (x ∷ xs)
+    go ih true e = rw (shared-yes ls x xs e) (omega arith)
+    go ih false e = rw (shared-no ls x xs e) (omega arith)
+
 -- sharing from b on
-pub shared-from : (ls : List (List ℕ)) (b : ℕ) (xs : List ℕ) → sharedBy ls (from b xs) ≡ from b (sharedBy ls xs)
-unfolding from sharedBy
+pub shared-from : (ls : List (List ℕ)) (b : ℕ) (xs : List ℕ) → sharedBy ls (atLeast b xs) ≡ atLeast b (sharedBy ls xs)
+unfolding atLeast sharedBy
 shared-from ls b [] = refl
 shared-from ls b (x ∷ xs) = go (shared-from ls b xs) (inAll x ls) refl (decLe b x)
   where
-    go : sharedBy ls (from b xs) ≡ from b (sharedBy ls xs) → (a : Bool) → inAll x ls ≡ a → Dec (b ≤ x)
-        → sharedBy ls (from b (x ∷ xs)) ≡ from b (sharedBy ls (x ∷ xs))
+    go : sharedBy ls (atLeast b xs) ≡ atLeast b (sharedBy ls xs) → (a : Bool) → inAll x ls ≡ a → Dec (b ≤ x)
+        → sharedBy ls (atLeast b (x ∷ xs)) ≡ atLeast b (sharedBy ls (x ∷ xs))
     go ih true e (yes h) = rw (from-here b x xs h, shared-yes ls x xs e, from-here b x (sharedBy ls xs) h)
-        (shared-yes ls x (from b xs) e ∙ ap (λ (l : List ℕ). x ∷ l) ih)
+        (shared-yes ls x (atLeast b xs) e ∙ ap (λ (l : List ℕ). x ∷ l) ih)
     go ih true e (no h) = rw (
       from-past b x xs (omega arith),
       shared-yes ls x xs e,
       from-past b x (sharedBy ls xs) (omega arith),
     ) ih
-    go ih false e (yes h) = rw (from-here b x xs h, shared-no ls x xs e) (shared-no ls x (from b xs) e ∙ ih)
+    go ih false e (yes h) = rw (from-here b x xs h, shared-no ls x xs e) (shared-no ls x (atLeast b xs) e ∙ ih)
     go ih false e (no h) = rw (from-past b x xs (omega arith), shared-no ls x xs e) ih
 
 -- one list alone shares all that it has

@@ -8,12 +8,12 @@ use native.Mathlib.Omega.{arith}
 use lib.ListN.{length}
 use Rattle.rules.specs.Seek.{Found, none, page, Sought, seek}
 use Rattle.rules.specs.Common.{Reader, Ended, agreed, exhausted, larger, Round, stopped, agree}
-use Rattle.rules.specs.Plain.{firstFrom, sharedBy}
+use Rattle.rules.specs.Plain.{firstFrom, atLeast, sharedBy}
 use Rattle.seeklaws.specs.Cursors.{firstAt}
 use Rattle.seeklaws.proofs.FirstLaws.{firstAt-self, first-found, foundAt-page}
 use Rattle.seeklaws.proofs.SeekLaws.{seek-placed}
 use Rattle.seeklaws.proofs.LookLaws.{reached-le, looks-step}
-use Rattle.commonlaws.specs.Readers.{pagesOf, Ready, AllReady, moved, reachedBy, wordsOf, from, leftIn}
+use Rattle.commonlaws.specs.Readers.{pagesOf, Ready, AllReady, moved, reachedBy, wordsOf, leftIn}
 use Rattle.commonlaws.specs.Next.{Turn, over, again, hit, Turned, turnOf, behindLead, turned}
 use Rattle.commonlaws.specs.Outcomes.{Carried, Goes}
 use Rattle.commonlaws.proofs.SharedLaws.{first-none, from-first, from-none, from-mono}
@@ -93,7 +93,7 @@ module _ (U b : ℕ) (lead : Reader) (others : List Reader) where
 
     module _ (c i : ℕ) (e : this .found ≡ page c i) (n : Round) (m : Kept U c others n) where
       -- the lead's pages from b on begin with c
-      begins : from b (lead .pages) ≡ c ∷ from (c + 1) (lead .pages)
+      begins : atLeast b (lead .pages) ≡ c ∷ atLeast (c + 1) (lead .pages)
       begins =
           let f = sought-first U b lead k c i e in
           rw (f .0, f .2) at (from-first 0 U (lead .pages) (k .rises) b (rw (f .0) (f .1)))
@@ -102,12 +102,12 @@ module _ (U b : ℕ) (lead : Reader) (others : List Reader) where
           → Goes U b lead others (behindLead (lead .pages) this (turnOf c i d) n) (turnOf c i d)
       unfolding behindLead turnOf
       page-goes exhausted s = record {
-        shared = rw begins (shared-no (pagesOf others) c (from (c + 1) (lead .pages)) (s c (omega arith))
+        shared = rw begins (shared-no (pagesOf others) c (atLeast (c + 1) (lead .pages)) (s c (omega arith))
             ∙ shared-none (pagesOf others) (lead .pages) (c + 1) (λ x h. s x (omega arith)));
         few = rw begins (omega (arith, m .seeks));
       }
       page-goes (larger d) s = record {
-        shared = rw begins (shared-no (pagesOf others) c (from (c + 1) (lead .pages)) (s .1 c (omega arith) (s .0))
+        shared = rw begins (shared-no (pagesOf others) c (atLeast (c + 1) (lead .pages)) (s .1 c (omega arith) (s .0))
             ∙ shared-skip (pagesOf others) (lead .pages) (c + 1) d (omega (arith, s .0))
             (λ x h l. s .1 x (omega arith) l));
         few = rw begins (omega (
@@ -123,7 +123,7 @@ module _ (U b : ℕ) (lead : Reader) (others : List Reader) where
       page-goes agreed s = record {
         first = own;
         shared = rw begins
-            (shared-yes (pagesOf others) c (from (c + 1) (lead .pages)) (rw (m .pages) at (all-hold c (n .readers) s)));
+            (shared-yes (pagesOf others) c (atLeast (c + 1) (lead .pages)) (rw (m .pages) at (all-hold c (n .readers) s)));
         few = rw begins (omega (arith, m .seeks));
         fewer = rw begins (omega arith);
         later = sought-least U b lead k c i e;

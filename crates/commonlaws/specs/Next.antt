@@ -13,10 +13,12 @@
 --                         and are on it, and the rest are yet to be sought
 --   plus s l n            n with s seeks and l looks more
 --   stop f lead others    nothing sought any more
---   allRounds U lead others b   the step rule from the bound b, with as many seeks of the lead as it takes
+--   roundsTo U lead others b r  the step rule from the bound b until r pages are listed, with as many seeks of the lead
+--                         as it takes
 --   freshLead ls, freshOthers ls  the readers with which the rule begins on the lists ls
---   commonFrom U ls b     the rule on the lists ls from the bound b on
---   onward U n            a next page, listed, and the rule from the page behind it
+--   roundsBy go t e r     what the rule tallies by a turn, until r pages are listed, where go is what it tallies from a
+--                         bound on
+--   onward U n r          a next page, listed as one of r, and the rule from the page behind it
 --   firstShared b ls xs   by plain reading:
 --                         the first of xs at least b that is in every list of ls, with its number; or none with the
 --                         number of xs
@@ -25,9 +27,8 @@ use Prim.Native.Nat.{ℕ, zero, suc, _+_}
 use lib.ListN.{length}
 use Rattle.rules.specs.Seek.{fresh, Found, none, page, Sought, seek}
 use Rattle.rules.specs.Common.{Reader, Tally, Ended, agreed, exhausted, larger, Round}
-use Rattle.rules.specs.Common.{stopped, agree, readersOf, counted, nothing, rounds}
-use Rattle.rules.specs.Plain.{firstFrom, sharedBy}
-use Rattle.commonlaws.specs.Readers.{from, leadPages, otherPages}
+use Rattle.rules.specs.Common.{stopped, agree, readersOf, counted, nothing, rounds, leadPages, otherPages}
+use Rattle.rules.specs.Plain.{firstFrom, atLeast, sharedBy}
 
 pub data Turn : Type 0 where
   over : Turn
@@ -117,8 +118,8 @@ midway U lead c i done rest =
     let t : Turned = midTurn lead c i done (agree U c rest) in
     nextBy (nextCommon U (t .lead) (t .others)) t (t .turn)
 
-unfoldable pub allRounds : ℕ → Reader → List Reader → ℕ → Tally
-allRounds U lead others b = rounds (length (lead .pages) + 1) U lead others b
+unfoldable pub roundsTo : ℕ → Reader → List Reader → ℕ → ℕ → Tally
+roundsTo U lead others b r = rounds (length (lead .pages) + 1) r U lead others b
 
 unfoldable pub freshLead : List (List ℕ) → Reader
 freshLead ls = record { pages = leadPages ls; cursor = fresh }
@@ -126,21 +127,19 @@ freshLead ls = record { pages = leadPages ls; cursor = fresh }
 unfoldable pub freshOthers : List (List ℕ) → List Reader
 freshOthers ls = readersOf (otherPages ls)
 
-unfoldable pub commonFrom : ℕ → List (List ℕ) → ℕ → Tally
-commonFrom U ls b = allRounds U (freshLead ls) (freshOthers ls) b
+unfoldable pub roundsBy : (ℕ → ℕ → Tally) → Turned → Turn → ℕ → Tally
+roundsBy go t e zero = nothing
+roundsBy go t over (suc r) = counted (t .seeks) (t .looks) [] nothing
+roundsBy go t (again d) (suc r) = counted (t .seeks) (t .looks) [] (go d (suc r))
+roundsBy go t (hit c i) (suc r) = counted (t .seeks) (t .looks) (c ∷ []) (go (c + 1) r)
 
--- what the rule tallies after a turn, where go is what it tallies from a bound on
-unfoldable pub roundsBy : (ℕ → Tally) → Turned → Turn → Tally
-roundsBy go t over = counted (t .seeks) (t .looks) [] nothing
-roundsBy go t (again d) = counted (t .seeks) (t .looks) [] (go d)
-roundsBy go t (hit c i) = counted (t .seeks) (t .looks) (c ∷ []) (go (c + 1))
-
-unfoldable pub onward : ℕ → Next → Tally
-onward U n =
+unfoldable pub onward : ℕ → Next → ℕ → Tally
+onward U n zero = nothing
+onward U n (suc r) =
     elim (n .found) [
       | none _ ↦ counted (n .seeks) (n .looks) [] nothing
-      | page c _ ↦ counted (n .seeks) (n .looks) (c ∷ []) (allRounds U (n .lead) (n .others) (c + 1))
+      | page c _ ↦ counted (n .seeks) (n .looks) (c ∷ []) (roundsTo U (n .lead) (n .others) (c + 1) r)
     ]
 
 unfoldable pub firstShared : ℕ → List (List ℕ) → List ℕ → Found
-firstShared b ls xs = elim (sharedBy ls (from b xs)) [ [] ↦ none (length xs) | c ∷ _ ↦ firstFrom c 0 xs ]
+firstShared b ls xs = elim (sharedBy ls (atLeast b xs)) [ [] ↦ none (length xs) | c ∷ _ ↦ firstFrom c 0 xs ]

@@ -6,11 +6,12 @@
 --   Again     there is none from b up to d, and the lead is to be sought for d
 --   Hit       c is the first at least b, of rank i in the lead, and all cursors are on it
 --   Goes, Ends, Came  these by how a turn or a next page ended
---   Tallied   the pages, seeks and looks of the rule from b on, whose cursors had reached so many words before
+--   Tallied   the pages, seeks and looks of the rule from b on until r pages are listed, whose cursors had reached so
+--             many words before
 use mathlib.Core.Path.{_≡_}
 use mathlib.Core.List.{List, [], _∷_}
 use Prim.Native.Nat.{ℕ, _+_, _*_, _≤_, _<_}
-use lib.ListN.{length}
+use lib.ListN.{length, take}
 use Rattle.rules.specs.Seek.{Found, none, page}
 use Rattle.rules.specs.Common.{Reader, Tally}
 use Rattle.rules.specs.Plain.{firstFrom}
@@ -61,7 +62,7 @@ pub record Came (U b : ℕ) (lead : Reader) (others : List Reader) (n : Next) : 
   pub carried : Carried U lead others (n .lead) (n .others) (n .seeks) (n .looks)
   pub ends : Ends U b lead others n (n .found)
 
-pub record Tallied (U b : ℕ) (lead : Reader) (others : List Reader) (reach : ℕ) (t : Tally) : Type 0 where
-  pub listed : t .listed ≡ sharedFrom b lead others
+pub record Tallied (U b r : ℕ) (lead : Reader) (others : List Reader) (reach : ℕ) (t : Tally) : Type 0 where
+  pub listed : t .listed ≡ take r (sharedFrom b lead others)
   pub seeks : t .seeks ≤ (1 + length others) * leftIn b lead + 1
   pub looks : t .looks + reach ≤ t .seeks + wordsOf U (lead .pages ∷ pagesOf others)

@@ -10,22 +10,18 @@
 --   AllOnPage c rs    each of them is
 --   reachedBy U rs    the words that the readers' cursors have reached, in all
 --   wordsOf U ls      the words of the lists' upper runs, a list counted as often as it is named
---   from b xs         those of xs that are at least b
 --   sharedFrom b lead others  the pages at least b that the lead shares with all others
 --   leftIn b r        how many pages at least b the reader's list has
 --   Leads ls l        list number l is the shortest, and the first of equals
---   leadPages ls      the list that leads
---   otherPages ls     the others, in their order
-use mathlib.Core.Bool.{true, false}
+use mathlib.Core.Bool.{true}
 use mathlib.Core.Path.{_≡_}
-use mathlib.Core.List.{List, [], _∷_, _++_}
+use mathlib.Core.List.{List, [], _∷_}
 use Prim.Native.Nat.{ℕ, _+_, _≤_, _<_}
-use lib.Dec.{leb}
-use lib.ListN.{length, getD, take, drop}
+use lib.ListN.{length, getD}
 use Rattle.rules.specs.List.{rising}
 use Rattle.rules.specs.Seek.{on, upperWords, seek}
-use Rattle.rules.specs.Common.{Reader, leadOf}
-use Rattle.rules.specs.Plain.{sharedBy}
+use Rattle.rules.specs.Common.{Reader}
+use Rattle.rules.specs.Plain.{atLeast, sharedBy}
 use Rattle.seeklaws.specs.Cursors.{Placed, Behind, reached}
 
 unfoldable pub pagesOf : List Reader → List (List ℕ)
@@ -66,23 +62,13 @@ unfoldable pub wordsOf : ℕ → List (List ℕ) → ℕ
 wordsOf U [] = 0
 wordsOf U (l ∷ ls) = upperWords U l + wordsOf U ls
 
-unfoldable pub from : ℕ → List ℕ → List ℕ
-from b [] = []
-from b (x ∷ xs) = elim (leb b x) [ true ↦ x ∷ from b xs | false ↦ from b xs ]
-
 abbrev pub sharedFrom : ℕ → Reader → List Reader → List ℕ
-sharedFrom b lead others = sharedBy (pagesOf others) (from b (lead .pages))
+sharedFrom b lead others = sharedBy (pagesOf others) (atLeast b (lead .pages))
 
 abbrev pub leftIn : ℕ → Reader → ℕ
-leftIn b r = length (from b (r .pages))
+leftIn b r = length (atLeast b (r .pages))
 
 pub record Leads (ls : List (List ℕ)) (l : ℕ) : Type 0 where
   pub within : l < length ls
   pub least : (j : ℕ) → j < length ls → length (getD ls l []) ≤ length (getD ls j [])
   pub first : (j : ℕ) → j < l → length (getD ls l []) < length (getD ls j [])
-
-unfoldable pub leadPages : List (List ℕ) → List ℕ
-leadPages ls = getD ls (leadOf ls) []
-
-unfoldable pub otherPages : List (List ℕ) → List (List ℕ)
-otherPages ls = take (leadOf ls) ls ++ drop (leadOf ls + 1) ls

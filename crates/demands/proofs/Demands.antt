@@ -20,7 +20,7 @@ use Rattle.rules.specs.Term.{Word, termBlock, writeTerm}
 use Rattle.rules.specs.ReadTerm.{termRefusal}
 use Rattle.rules.specs.Index.{validCard, card, indexN, indexT, indexRefusal, closeIndex}
 use Rattle.rules.specs.Seek.{upperWords}
-use Rattle.rules.specs.Common.{rounds, common}
+use Rattle.rules.specs.Common.{rounds, commonFrom, common}
 use Rattle.rules.specs.Plain.{below, commonPages, phraseOf}
 use Rattle.rules.specs.Questions.{byBound, byCommon, byPhrase, allBelow, pairGood, goodQuestion, wellFormed, replies}
 use Rattle.rules.specs.Table.{stepped}
@@ -418,11 +418,12 @@ pub named-twice : (N : ℕ) (ts : List Word) (t : ℕ) (a b c : List ℕ)
     → let terms = a ++ (t ∷ (b ++ (t ∷ c))) in
     let ls = pagesNamed ts terms in
     let others = pagesNamed ts (a ++ (b ++ c)) in
-    (common N ls ≡ rounds (length (leadOn ls .pages) + 1) N (leadOn ls) (othersOn ls) 0)
+    let m = length (leadOn ls .pages) in
+    (common N ls ≡ rounds (m + 1) (m + 1) N (leadOn ls) (othersOn ls) 0)
     × (length (leadOn ls ∷ othersOn ls) ≡ length terms)
     × (readingIt (pagesAt ts t) (leadOn ls ∷ othersOn ls) ≡ 2 + times (pagesAt ts t) others)
     × (upperRuns N ls ≡ 2 * upperWords N (pagesAt ts t) + upperRuns N others)
-unfolding common
+unfolding common commonFrom
 named-twice N ts t a b c =
     let terms : List ℕ = a ++ (t ∷ (b ++ (t ∷ c))) in
     let ls : List (List ℕ) = pagesNamed ts terms in

@@ -2,21 +2,22 @@
 use mathlib.Core.Bool.{cond}
 use mathlib.Core.Path.{_≡_, refl, sym, ap, _∙_}
 use mathlib.Core.List.{List, [], _∷_, _++_, append-assoc}
-use Prim.Native.Nat.{ℕ, suc, _+_, _*_, _<_}
+use Prim.Native.Nat.{ℕ, suc, _+_, _-_, _*_, _≤_, _<_}
 use native.Mathlib.Omega.{arith}
 use lib.ListN.{length, getD, drop, replicate}
 use Rattle.rules.specs.Bytes.{same}
 use Rattle.rules.specs.Term.{Word}
 use Rattle.rules.specs.Seek.{Found, none, page, seek, upperWords}
-use Rattle.rules.specs.Common.{Reader, readersOf, agreed, before, stopped, agree, counted, nothing, common}
-use Rattle.rules.specs.Plain.{firstFrom}
+use Rattle.rules.specs.Common.{Reader, readersOf, agreed, before, stopped, agree, counted, nothing}
+use Rattle.rules.specs.Common.{leadPages, otherPages, common}
+use Rattle.rules.specs.Plain.{firstFrom, atLeast}
 use Rattle.listlaws.proofs.BlockLaws.{same-refl}
 use Rattle.seeklaws.specs.Cursors.{firstAt}
 use Rattle.seeklaws.proofs.FirstLaws.{firstAt-self, first-found, foundAt-page}
-use Rattle.commonlaws.specs.Readers.{pagesOf, Rise, Ready, AllReady, from, leftIn, leadPages, otherPages}
-use Rattle.commonlaws.specs.Next.{Turned, hit, turnOf, behindLead, turned, allRounds, roundsBy}
-use Rattle.commonlaws.specs.Next.{freshLead, freshOthers, commonFrom}
-use Rattle.commonlaws.proofs.SharedLaws.{first-none, from-none, from-zero, from-first}
+use Rattle.commonlaws.specs.Readers.{pagesOf, Rise, Ready, AllReady, leftIn}
+use Rattle.commonlaws.specs.Next.{Turned, hit, turnOf, behindLead, turned, roundsTo, roundsBy}
+use Rattle.commonlaws.specs.Next.{freshLead, freshOthers}
+use Rattle.commonlaws.proofs.SharedLaws.{first-none, from-none, from-zero, from-le, from-first}
 use Rattle.commonlaws.proofs.AgreeLaws.{seek-plain, sought-first, sought-least, allReady-more, agree-same}
 use Rattle.commonlaws.proofs.TurnLaws.{this, To, turned-none, turned-page, turned-carried}
 use Rattle.commonlaws.proofs.FuelLaws.{rounds-turn, by-turns}
@@ -65,8 +66,8 @@ agree-all U c i xs f (r ∷ rs) k e =
 module _ (U : ℕ) where
   -- a seek for each cursor and page that is left, and the lead's last
   abbrev Exact : Reader → List Reader → ℕ → Type 0
-  Exact lead others b =
-      Same (lead .pages) (pagesOf others) → allRounds U lead others b .seeks ≡ (1 + length others) * leftIn b lead + 1
+  Exact lead others b = Same (lead .pages) (pagesOf others) → (n : ℕ) → leftIn b lead ≤ n
+      → roundsTo U lead others b (suc n) .seeks ≡ (1 + length others) * leftIn b lead + 1
 
   module _ (lead : Reader) (others : List Reader) (b : ℕ) (k : Ready U b lead) (a : AllReady U b others) where
     abbrev t : Turned
@@ -77,10 +78,10 @@ module _ (U : ℕ) where
 
     exact-none : (m : ℕ) → this U b lead others .found ≡ none m → Exact lead others b
     unfolding roundsBy counted nothing behindLead stopped
-    exact-none m e s =
-        let n : from b (lead .pages) ≡ [] =
+    exact-none m e s r h =
+        let n : atLeast b (lead .pages) ≡ [] =
         from-none b (lead .pages) (first-none b (lead .pages) m (sym (seek-plain U b lead k) ∙ e)) in
-        rw (rounds-turn U lead others b k a, turned-none U b lead others m e, n) (omega arith)
+        rw (rounds-turn U lead others b k a (suc r), turned-none U b lead others m e, n) (omega arith)
 
     module _ (c i : ℕ) (e : this U b lead others .found ≡ page c i) (s : Same (lead .pages) (pagesOf others)) where
       own-first : firstFrom c 0 (lead .pages) ≡ page c i
@@ -99,21 +100,23 @@ module _ (U : ℕ) where
             ap (λ (t : Turned). t .seeks) p ∙ omega (arith, g .1),
           )
 
-      begins : from b (lead .pages) ≡ c ∷ from (c + 1) (lead .pages)
+      begins : atLeast b (lead .pages) ≡ c ∷ atLeast (c + 1) (lead .pages)
       begins =
           let f = sought-first U b lead k c i e in
           rw (f .0, f .2) at (from-first 0 U (lead .pages) (k .rises) b (rw (f .0) (f .1)))
 
-      exact-page : ((d : ℕ) → To (t .turn) d → Exact (t .lead) (t .others) d)
-          → allRounds U lead others b .seeks ≡ (1 + length others) * leftIn b lead + 1
+      exact-page : ((d : ℕ) → To (t .turn) d → Exact (t .lead) (t .others) d) → (n : ℕ) → leftIn b lead ≤ n
+          → roundsTo U lead others b (suc n) .seeks ≡ (1 + length others) * leftIn b lead + 1
       unfolding roundsBy counted
-      exact-page ih =
+      exact-page ih n h =
           let q = agrees in
           let v = turned-carried U b lead others k a in
           let o : length (t .others) ≡ length others =
           sym (length-pages (t .others)) ∙ ap length (v .pages) ∙ length-pages others in
-          let r = ih (c + 1) (rw (q .0) refl) (rw (v .lead-pages, v .pages) s) in
-          rw (rounds-turn U lead others b k a, q .0, q .1, rw (o, v .lead-pages) at r, begins) (omega arith)
+          let z : suc (n - 1) ≡ n = omega (arith, h, ap length begins) in
+          let g : leftIn (c + 1) (t .lead) ≤ n - 1 = rw (v .lead-pages) (omega (arith, h, ap length begins)) in
+          let r = rw z at (ih (c + 1) (rw (q .0) refl) (rw (v .lead-pages, v .pages) s) (n - 1) g) in
+          rw (rounds-turn U lead others b k a (suc n), q .0, q .1, rw (o, v .lead-pages) at r, begins) (omega arith)
 
   -- by what the lead's seek finds
   rounds-exact : (lead : Reader) (others : List Reader) (b : ℕ) → Ready U b lead → AllReady U b others
@@ -123,26 +126,28 @@ module _ (U : ℕ) where
       step : (lead : Reader) (others : List Reader) (b : ℕ) → Ready U b lead → AllReady U b others
           → let t = turned U lead others b in
           ((d : ℕ) → To (t .turn) d → Exact (t .lead) (t .others) d) → Exact lead others b
-      step lead others b k a ih s = go (this U b lead others .found) refl
+      step lead others b k a ih s n h = go (this U b lead others .found) refl
         where
           go : (f : Found) → this U b lead others .found ≡ f
-              → allRounds U lead others b .seeks ≡ (1 + length others) * leftIn b lead + 1
-          go (none m) e = exact-none lead others b k a m e s
-          go (page c i) e = exact-page lead others b k a c i e s ih
+              → roundsTo U lead others b (suc n) .seeks ≡ (1 + length others) * leftIn b lead + 1
+          go (none m) e = exact-none lead others b k a m e s n h
+          go (page c i) e = exact-page lead others b k a c i e s ih n h
 
   -- k · m + 1 seeks where all k lists are one of m pages
   pub common-same : (ls : List (List ℕ)) (xs : List ℕ) → 0 < length ls → Rise U ls → Same xs ls
       → common U ls .seeks ≡ length ls * length xs + 1
-  unfolding commonFrom freshLead freshOthers
+  unfolding common freshLead freshOthers
   common-same ls xs some r e =
       let q = pick-same xs (lead-picked ls some) e in
       let p = readers-pages (otherPages ls) in
       let k : 1 + length (freshOthers ls) ≡ length ls =
       ap (λ (n : ℕ). 1 + n) (sym (length-pages (freshOthers ls)) ∙ ap length p) ∙ pick-length (lead-picked ls some) in
+      let n : ℕ = length (leadPages ls) in
+      let z : n + 1 ≡ suc n = omega arith in
       let x = rounds-exact (freshLead ls) (freshOthers ls) 0 (lead-ready U ls some r 0) (others-ready U ls some r 0)
-      (rw (p, q .0) (q .1)) in
+      (rw (p, q .0) (q .1)) n (from-le 0 (leadPages ls)) in
       let m : leftIn 0 (freshLead ls) ≡ length xs = ap length (from-zero (leadPages ls) ∙ q .0) in
-      rw (common-from U ls) (x ∙ rw (k, m))
+      rw (common-from U ls 0 (n + 1), z) (x ∙ rw (k, m))
 
 -- ---- a word named twice
 
@@ -159,7 +164,7 @@ module _ (xs : List ℕ) where
   pick-times (there k) = omega (arith, pick-times k)
 
   pub begins-times : (ls : List (List ℕ)) → 0 < length ls → readingIt xs (leadOn ls ∷ othersOn ls) ≡ times xs ls
-  unfolding readingIt times leadPages otherPages
+  unfolding readingIt times
   begins-times ls h = rw (readers-times (otherPages ls)) (pick-times (lead-picked ls h))
 
   times-append : (ks ls : List (List ℕ)) → times xs (ks ++ ls) ≡ times xs ks + times xs ls
@@ -177,7 +182,6 @@ length-readers [] = refl
 length-readers (l ∷ ls) = ap suc (length-readers ls)
 
 pub begins-length : (ls : List (List ℕ)) → 0 < length ls → length (leadOn ls ∷ othersOn ls) ≡ length ls
-unfolding leadPages otherPages
 begins-length ls h = omega (arith, length-readers (otherPages ls), pick-length (lead-picked ls h))
 
 runs-append : (N : ℕ) (ks ls : List (List ℕ)) → upperRuns N (ks ++ ls) ≡ upperRuns N ks + upperRuns N ls

@@ -25,7 +25,8 @@ use Rattle.rules.specs.Index.{indexFront, terms, card, validWords, validCard, i
 use Rattle.rules.specs.Index.{termsRefusal, indexRefusal, closeRefusal, closeIndex}
 use Rattle.rules.specs.Seek.{placeOf, bitsOf, cursorBit, startOf, looksTo, walk, gone, arrived, walked, walkFrom, move}
 use Rattle.rules.specs.Seek.{fresh, rankOf, seek}
-use Rattle.rules.specs.Common.{leadFrom, leadOf, readersOf, before, stopped, agree, counted, nothing, rounds, common}
+use Rattle.rules.specs.Common.{leadFrom, leadOf, readersOf, before, stopped, agree, counted, nothing, rounds}
+use Rattle.rules.specs.Common.{leadPages, otherPages, commonFrom, common}
 use Rattle.rules.specs.Plain.{firstFrom, below, member, inAll, sharedBy, commonPages, positionsAmong, positionsOn}
 use Rattle.rules.specs.Plain.{phraseOf, stands, startsAmong, starts, withStarts}
 use Rattle.rules.specs.Questions.{numbered, pagesIn, listsIn, wordsIn, byRank, byBound, byCommon, byPhrase, termsOf}
@@ -149,7 +150,7 @@ unfolding accepted andThen be beAt sized same bit runWord runBit field wordsFor 
     inOrderByPage validWord termBlock after part inside listsOf pagesOf countsOf positionsOf gaps less lowered
     readWord disagree termRefusal indexFront terms card validWords validCard indexN indexT termPart wordOf
     termsRefusal indexRefusal placeOf bitsOf cursorBit startOf looksTo walk gone arrived walked walkFrom move seek
-    leadFrom leadOf readersOf before stopped agree counted nothing rounds common firstFrom member inAll sharedBy
+    leadFrom leadOf readersOf before stopped agree counted nothing rounds leadPages otherPages commonFrom common firstFrom member inAll sharedBy
     commonPages positionsAmong positionsOn phraseOf stands startsAmong starts withStarts numbered pagesIn listsIn
     wordsIn byRank byBound byCommon byPhrase termsOf offsetsOf phraseIn answer allBelow wordsGood offsetsGood
     phraseGood goodQuestion kindOf countOf argsOf behind wellFormed replies fitting fitted reply joined put ask s9

@@ -22,12 +22,12 @@ use mathlib.Core.Path.{_≡_}
 use mathlib.Core.List.{List, [], _∷_, _++_}
 use Prim.Native.Nat.{ℕ, _+_, _≤_}
 use lib.Dec.{eqb}
-use lib.ListN.{length, getD, take, drop}
+use lib.ListN.{length, getD}
 use Rattle.rules.specs.Limits.{limit}
 use Rattle.rules.specs.Bytes.{same}
 use Rattle.rules.specs.Term.{Word, next, places, validWord}
 use Rattle.rules.specs.Seek.{fresh, upperWords}
-use Rattle.rules.specs.Common.{Reader, leadOf, readersOf}
+use Rattle.rules.specs.Common.{Reader, readersOf, leadPages, otherPages}
 use Rattle.rules.specs.Plain.{phraseOf}
 use Rattle.rules.specs.Questions.{byRank, byBound, byCommon, byPhrase, termsOf, offsetsOf, goodQuestion}
 
@@ -84,10 +84,10 @@ upperRuns N [] = 0
 upperRuns N (l ∷ ls) = upperWords N l + upperRuns N ls
 
 abbrev pub leadOn : List (List ℕ) → Reader
-leadOn ls = record { pages = getD ls (leadOf ls) []; cursor = fresh }
+leadOn ls = record { pages = leadPages ls; cursor = fresh }
 
 abbrev pub othersOn : List (List ℕ) → List Reader
-othersOn ls = readersOf (take (leadOf ls) ls ++ drop (leadOf ls + 1) ls)
+othersOn ls = readersOf (otherPages ls)
 
 unfoldable pub times : List ℕ → List (List ℕ) → ℕ
 times xs [] = 0

@@ -10,9 +10,11 @@ use Rattle.rules.proofs.Unique.{by-equation}
 use Rattle.hostlaws.specs.declared.HostWritten.{HostWritten}
 use Rattle.hostlaws.specs.declared.HostStreamed.{HostStreamed}
 use Rattle.hostlaws.specs.declared.HostAsked.{HostAsked}
-use Rattle.hostlaws.specs.Host.{Told, toldOf, ToldStream, toldStreamOf, heardOf, HostListChecked}
+use Rattle.hostlaws.specs.declared.HostScreened.{HostScreened}
+use Rattle.hostlaws.specs.Host.{Told, toldOf, ToldStream, toldStreamOf, heardOf, seenOf, HostListChecked}
 use Rattle.hostlaws.specs.Host.{HostListWritten, HostTermChecked, HostTermWritten, HostTermBegun}
 use Rattle.hostlaws.specs.Host.{HostPostingsPut, HostTermEnded, HostIndexChecked, HostIndexClosed, HostAnswered}
+use Rattle.hostlaws.specs.Host.{HostScreenShown}
 
 pub check-list-unique : (s : List ℕ) → Determined {A = ℕ} (λ r. HostListChecked s r)
 check-list-unique s = by-equation (λ r. r) (λ r. r) (λ r. refl) _
@@ -70,5 +72,15 @@ ask-unique s qs room =
     by-equation
     (λ p. heardOf (p .0) (p .1))
     (λ h. (record { refusal = h .refusal; answered = h .answered; used = h .used }, h .room))
+    (λ p. refl)
+    _
+
+pub screen-unique : (s : List ℕ) (b n : ℕ) (ts pages counts : List ℕ)
+    → Determined {A = HostScreened × List ℕ × List ℕ}
+    (λ p. HostScreenShown s b n ts pages counts (p .0) (p .1) (p .2))
+screen-unique s b n ts pages counts =
+    by-equation
+    (λ p. seenOf (p .0) (p .1) (p .2))
+    (λ h. (record { refusal = h .refusal; found = h .found; full = h .full; next = h .next }, h .pages, h .counts))
     (λ p. refl)
     _

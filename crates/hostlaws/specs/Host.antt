@@ -6,6 +6,8 @@
 --   toldStreamOf r room  the same, of what an exported call answers and the room after it
 --   heard a       the result of a run of questions, its refusal as a number
 --   heardOf r room the same, of what the exported call answers and the room after it
+--   seen m        the result of a screen, its refusal as a number
+--   seenOf r pages counts  the same, of what the exported call answers and the rooms after it
 --
 -- What each exported call promises, by name; its contract cites the predicate [01 Promises with no slack].
 --
@@ -19,6 +21,7 @@
 --   HostIndexChecked s r                jf_check_index
 --   HostIndexClosed buffer used N T r after  jf_close_index
 --   HostAnswered s qs room r after      jf_ask, with the questions qs on the card s
+--   HostScreenShown s b n ts pages counts r pages′ counts′  jf_screen, of n pages of the words ts from b on of the card s
 use mathlib.Core.Path.{_≡_}
 use mathlib.Core.List.{List}
 use Prim.Native.Nat.{ℕ}
@@ -31,9 +34,11 @@ use Rattle.rules.specs.Stream.{Streaming, beginTerm, putPostings, endTerm}
 use Rattle.rules.specs.ReadTerm.{termRefusal}
 use Rattle.rules.specs.Index.{indexRefusal, closeIndex}
 use Rattle.rules.specs.Ask.{Asked, ask}
+use Rattle.rules.specs.Screen.{Screening, screen}
 use Rattle.hostlaws.specs.declared.HostWritten.{HostWritten}
 use Rattle.hostlaws.specs.declared.HostStreamed.{HostStreamed}
 use Rattle.hostlaws.specs.declared.HostAsked.{HostAsked}
+use Rattle.hostlaws.specs.declared.HostScreened.{HostScreened}
 
 pub record Told : Type 0 where
   pub refusal : ℕ
@@ -70,6 +75,34 @@ heard a = record { refusal = number (a .refusal); answered = a .answered; used =
 abbrev pub heardOf : HostAsked → List ℕ → Heard
 heardOf r room = record { refusal = r .refusal; answered = r .answered; used = r .used; room = room }
 
+pub record Seen : Type 0 where
+  pub refusal : ℕ
+  pub found : ℕ
+  pub full : ℕ
+  pub next : ℕ
+  pub pages : List ℕ
+  pub counts : List ℕ
+
+abbrev pub seen : Screening → Seen
+seen m = record {
+  refusal = number (m .refusal);
+  found = m .found;
+  full = m .full;
+  next = m .next;
+  pages = m .pages;
+  counts = m .counts;
+}
+
+abbrev pub seenOf : HostScreened → List ℕ → List ℕ → Seen
+seenOf r pages counts = record {
+  refusal = r .refusal;
+  found = r .found;
+  full = r .full;
+  next = r .next;
+  pages = pages;
+  counts = counts;
+}
+
 abbrev pub HostListChecked : List ℕ → ℕ → Type 0
 HostListChecked s r = r ≡ number (listRefusal s)
 
@@ -99,3 +132,7 @@ HostIndexClosed buffer used N T r after = toldOf r after ≡ told (closeIndex bu
 
 abbrev pub HostAnswered : List ℕ → List ℕ → List ℕ → HostAsked → List ℕ → Type 0
 HostAnswered s qs room r after = heardOf r after ≡ heard (ask s qs room)
+
+abbrev pub HostScreenShown : List ℕ → ℕ → ℕ → List ℕ → List ℕ → List ℕ → HostScreened → List ℕ → List ℕ → Type 0
+HostScreenShown s b n ts pages counts r pages′ counts′ =
+    seenOf r pages′ counts′ ≡ seen (screen s b n ts pages counts)

@@ -24,3 +24,12 @@ pub struct HostAsked {
     pub answered: usize,
     pub used: usize,
 }
+
+// What a screen answers: how many pages it found, 1 where it is full, and then the bound of the next one.
+#[repr(C)]
+pub struct HostScreened {
+    pub refusal: u32,
+    pub found: usize,
+    pub full: u32,
+    pub next: u32,
+}

@@ -5,12 +5,14 @@ ghost use Rattle.rules.specs.Refusal.{number};
 ghost use Rattle.rules.specs.Term.{lentWord};
 ghost use Rattle.hostlaws.specs.Host.{HostListChecked, HostListWritten, HostTermChecked, HostTermWritten};
 ghost use Rattle.hostlaws.specs.Host.{HostTermBegun, HostPostingsPut, HostTermEnded};
-ghost use Rattle.hostlaws.specs.Host.{HostIndexChecked, HostIndexClosed, HostAnswered};
+ghost use Rattle.hostlaws.specs.Host.{HostIndexChecked, HostIndexClosed, HostAnswered, HostScreenShown};
 use hostlaws::HostAsked;
+use hostlaws::HostScreened;
 use hostlaws::HostStreamed;
 use hostlaws::HostWritten;
 use rules::Outcome;
 use rules::Refusal;
+use rules::Screened;
 use rules::Stream;
 use rules::Streamed;
 use rules::Written;
@@ -35,6 +37,20 @@ fn outcome(o: Outcome) -> HostAsked
         refusal: refusals::number_of(refusal),
         answered: o.answered,
         used: o.used,
+    }
+}
+
+// The answer of a screen with its number.
+fn screened(s: Screened) -> HostScreened
+    ensures { λ r. ⌜ (r .refusal ≡ number (s .refusal)) × (r .found ≡ s .found) × (r .full ≡ s .full)
+        × (r .next ≡ s .next) ⌝ }
+{
+    let refusal = s.refusal;
+    HostScreened {
+        refusal: refusals::number_of(refusal),
+        found: s.found,
+        full: s.full,
+        next: s.next,
     }
 }
 
@@ -151,4 +167,20 @@ pub extern "C" fn jf_ask(card: &[u8], questions: &[u32], room: &mut [u32]) -> Ho
         (now (room .exit)) ⌝ }
 {
     outcome(ask::ask(card, questions, room))
+}
+
+// Shows a screen of at most r pages that the words share, from the bound on.
+#[no_mangle]
+pub extern "C" fn jf_screen(
+    card: &[u8],
+    bound: u32,
+    r: u32,
+    words: &[u32],
+    pages: &mut [u32],
+    counts: &mut [u32],
+) -> HostScreened
+    ensures { λ s. ⌜ HostScreenShown (now (card .entry)) bound r (now (words .entry)) (now (pages .entry))
+        (now (counts .entry)) s (now (pages .exit)) (now (counts .exit)) ⌝ }
+{
+    screened(panel::screen(card, bound, r, words, pages, counts))
 }

@@ -7,8 +7,7 @@ use native.Mathlib.Omega.{arith}
 use borrow.Author.Tests.{eq-eqb, ne-eqb, le-leb, lt-leb, lt-ltb, le-ltb}
 use lib.ListN.{getD, take, drop}
 use lib.Seq.{take-at, drop-at, getD-at}
-use Rattle.rules.specs.Common.{leadOf}
-use Rattle.commonlaws.specs.Readers.{leadPages, otherPages}
+use Rattle.rules.specs.Common.{leadOf, leadPages, otherPages}
 use Rattle.querylaws.specs.Lists.{span}
 use Rattle.querylaws.proofs.SpanLaws.{length-span, span-cons, span-split, span-same}
 use Rattle.openlists.specs.Places.{sourceOf, slotOf}

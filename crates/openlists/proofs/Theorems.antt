@@ -7,13 +7,13 @@ use Prim.Native.Nat.{ℕ, zero, suc, _+_, _≤_, _<_}
 use native.Mathlib.Omega.{arith}
 use Rattle.rules.specs.List.{rising}
 use Rattle.rules.specs.ReadList.{listU}
-use Rattle.rules.specs.Common.{common}
+use Rattle.rules.specs.Common.{commonFrom}
 use Rattle.listlaws.proofs.ReadLaws.{accepted-rising}
 use Rattle.commonlaws.specs.Readers.{Rise}
-use Rattle.commonlaws.specs.Next.{freshLead, freshOthers, commonFrom}
+use Rattle.commonlaws.specs.Next.{freshLead, freshOthers}
 use Rattle.commonlaws.proofs.CommonLaws.{common-from}
 use Rattle.querylaws.specs.Lists.{span}
-use Rattle.querylaws.specs.Listings.{ruleOn, wholeIn}
+use Rattle.querylaws.specs.Listings.{ruleOn, ruleIn}
 use Rattle.openlists.specs.Places.{placePart, placePages, placedIn, Places, Alike, Opened}
 
 span-rise : (U : ℕ) (f : ℕ → List ℕ) (n i : ℕ) → ((j : ℕ) → i ≤ j → j < i + n → rising 0 U (f j) ≡ true)
@@ -31,7 +31,7 @@ module _ (s ps : List ℕ) (k : ℕ) (p : Places s ps k) (a : Alike s ps k) wher
       rw (a j (omega arith)) at (accepted-rising (placePart s ps j) (o .accepted)))
 
   -- the rule on the lists in the question's order
-  pub opened-common : (r : List ℕ) → Opened s ps k r → wholeIn s r k
-      ≡ common (listU (placePart s ps 0)) (placedIn s ps k)
-  unfolding ruleOn commonFrom freshLead freshOthers
-  opened-common r o = rw (o .bound, o .pages, common-from (listU (placePart s ps 0)) (placedIn s ps k))
+  pub opened-common : (r : List ℕ) → Opened s ps k r → (b n : ℕ)
+      → ruleIn s r k b n ≡ commonFrom (listU (placePart s ps 0)) (placedIn s ps k) b n
+  unfolding ruleOn freshLead freshOthers
+  opened-common r o b n = rw (o .bound, o .pages, common-from (listU (placePart s ps 0)) (placedIn s ps k) b n)

@@ -23,9 +23,9 @@ use lib.Dec.{eqb, leb, ltb}
 use lib.ListN.{length, getD, take, drop}
 use Rattle.rules.specs.declared.Refusal.the-variants.{Accepted}
 use Rattle.rules.specs.ReadList.{listU, listN, decode, listRefusal}
+use Rattle.rules.specs.Common.{leadPages, otherPages}
 use Rattle.shape.specs.declared.Shape.{Shape}
 use Rattle.shape.specs.Shape.{shapeOf}
-use Rattle.commonlaws.specs.Readers.{leadPages, otherPages}
 use Rattle.querylaws.specs.Lists.{span, numberOf, pagesIn, boundIn, Lists}
 
 abbrev pub fromOf : List ℕ → ℕ → ℕ

@@ -4,32 +4,33 @@ use mathlib.Core.Logic.{_⊎_, inl, inr}
 use mathlib.Core.Path.{_≡_, refl, sym, ap, _∙_}
 use mathlib.Core.List.{List, [], _∷_, _++_, append-assoc, append-nil}
 use Prim.Native.Nat.{ℕ, zero, suc, _+_, _-_, _^_, _≤_, _<_}
-use native.Mathlib.Nat.{zero-add, add-assoc}
+use native.Mathlib.Nat.{zero-add, add-zero, add-assoc}
 use native.Mathlib.Omega.{arith}
-use lib.ListN.{length, length-append}
+use lib.ListN.{length, getD, length-append}
 use lib.Seq.{take-all, take-nil, append-snoc, take-append-le}
 use Rattle.rules.specs.Limits.{limit}
 use Rattle.rules.specs.Seek.{none, page}
 use Rattle.rules.specs.Common.{Tally, counted, nothing}
 use Rattle.rules.specs.Write.{laid}
 use Rattle.commonlaws.specs.Readers.{leftIn}
-use Rattle.commonlaws.specs.Next.{Next, allRounds, onward}
+use Rattle.commonlaws.specs.Next.{Next, roundsTo, onward}
 use Rattle.commonlaws.proofs.SharedLaws.{from-le}
+use Rattle.commonlaws.proofs.FuelLaws.{rounds-done}
 use Rattle.commonlaws.proofs.NextLaws.{rounds-next}
 use Rattle.walklaws.specs.Cursors.{spentMark}
 use Rattle.querylaws.specs.declared.Query.{Query}
 use Rattle.querylaws.specs.declared.Turn.{Turn}
 use Rattle.querylaws.specs.declared.Listed.{Listed}
-use Rattle.querylaws.specs.Lists.{pagesAt, boundIn, Lists}
-use Rattle.querylaws.specs.Queries.{newQuery, readerAt, leadIn, othersIn, seeksOf, looksOf, nextFor, Running}
-use Rattle.querylaws.specs.Queries.{Turned}
+use Rattle.querylaws.specs.Lists.{pagesAt, pagesIn, boundIn, Lists}
+use Rattle.querylaws.specs.Queries.{newQuery, readerAt, leadIn, othersIn, seeksOf, looksOf, nextFor, Apt}
+use Rattle.querylaws.specs.Queries.{Running, Turned}
 use Rattle.querylaws.specs.Batches.{Turns, Batched}
-use Rattle.querylaws.specs.Listings.{wholeIn, laidWithin, Tells}
+use Rattle.querylaws.specs.Listings.{ruleIn, wholeIn, laidWithin, Tells}
 use Rattle.querylaws.proofs.ListLaws.{list-length}
 use Rattle.querylaws.proofs.RunLaws.{lead-ready, others-ready}
 use Rattle.querylaws.proofs.TurnLaws.{turned-none, turned-page, turned-fewer, turned-later}
 use Rattle.querylaws.proofs.BatchLaws.{turns-size, batched-long}
-use Rattle.querylaws.proofs.NewLaws.{new-seeks, new-looks, new-running, new-whole}
+use Rattle.querylaws.proofs.NewLaws.{new-seeks, new-looks, new-running, first-list, new-rule}
 
 -- ---- pages in the room
 
@@ -51,36 +52,133 @@ counted-none : (t : Tally) → counted 0 0 [] t ≡ t
 unfolding counted
 counted-none t = rw (zero-add (t .seeks), zero-add (t .looks))
 
-module _ (U : ℕ) (n : Next) where
-  onward-none : (m : ℕ) → n .found ≡ none m → onward U n ≡ counted (n .seeks) (n .looks) [] nothing
+counted-all : (s l : ℕ) (ps : List ℕ) → counted s l ps nothing ≡ record { seeks = s; looks = l; listed = ps }
+unfolding counted nothing
+counted-all s l ps = rw (add-zero s, add-zero l, append-nil ps)
+
+module _ (U : ℕ) (x : Next) (n : ℕ) where
+  onward-none : (m : ℕ) → x .found ≡ none m → onward U x (suc n) ≡ counted (x .seeks) (x .looks) [] nothing
   unfolding onward
   onward-none m e = rw (e, onward)
 
-  onward-page : (c j : ℕ) → n .found ≡ page c j
-      → onward U n ≡ counted (n .seeks) (n .looks) (c ∷ []) (allRounds U (n .lead) (n .others) (c + 1))
+  onward-page : (c j : ℕ) → x .found ≡ page c j
+      → onward U x (suc n) ≡ counted (x .seeks) (x .looks) (c ∷ []) (roundsTo U (x .lead) (x .others) (c + 1) n)
   unfolding onward
   onward-page c j e = rw (e, onward)
 
--- ---- the pages so far
+-- ---- the pages and counts so far, and the rule from here on until n pages more are listed
 
-abbrev restOf : List ℕ → List ℕ → ℕ → Query → ℕ → Tally
-restOf s sh k q b = allRounds (boundIn sh) (leadIn s sh q) (othersIn s sh k q) b
+abbrev pub restOf : List ℕ → List ℕ → ℕ → Query → ℕ → ℕ → Tally
+restOf s sh k q b n = roundsTo (boundIn sh) (leadIn s sh q) (othersIn s sh k q) b n
+
+module _ (s sh : List ℕ) (k : ℕ) (w : Tally) where
+  -- they come to w
+  abbrev pub Comes : ℕ → Query → ℕ → List ℕ → Type 0
+  Comes n q b ps = counted (seeksOf q) (looksOf q) ps (restOf s sh k q b n) ≡ w
+
+  module _ (n : ℕ) (q : Query) (b : ℕ) (ps : List ℕ) (a : Apt s sh k q b) (x : Comes (suc n) q b ps) (t : Turn)
+      (u : Turned s sh k q b t) where
+    abbrev here : Next
+    here = nextFor s sh k q b
+
+    so-far : (r : Tally) → onward (boundIn sh) here (suc n) ≡ r → w ≡ counted (seeksOf q) (looksOf q) ps r
+    so-far r e =
+        sym x
+        ∙ ap (counted (seeksOf q) (looksOf q) ps)
+        (rounds-next (boundIn sh) (leadIn s sh q) (othersIn s sh k q) b (lead-ready s sh k q b a)
+        (others-ready s sh k q b a) (suc n) ∙ e)
+
+    comes-page : (c j : ℕ) → t .mark ≡ c + 1 → here .found ≡ page c j
+        → Comes n (t .q) (t .mark) (ps ++ (t .mark - 1) ∷ [])
+    comes-page c j m e =
+        let d : t .mark - 1 ≡ c = omega arith in
+        let rest : Tally = roundsTo (boundIn sh) (here .lead) (here .others) (c + 1) n in
+        rw (u .seeks, u .looks, u .lead, u .others, d, m)
+        (sym
+        (so-far (counted (here .seeks) (here .looks) (c ∷ []) rest) (onward-page (boundIn sh) here n c j e)
+        ∙ counted-then (seeksOf q) (looksOf q) (here .seeks) (here .looks) ps (c ∷ []) rest))
+
+    comes-step : (t .mark ≡ spentMark → ⊥) → Comes n (t .q) (t .mark) (ps ++ (t .mark - 1) ∷ [])
+    comes-step h = let f = turned-page s sh k q b a t u h in comes-page (f .0) (f .1) (f .2) (f .3)
+
+    comes-end : t .mark ≡ spentMark → w ≡ record { seeks = seeksOf (t .q); looks = looksOf (t .q); listed = ps }
+    comes-end h =
+        let o = turned-none s sh k q b a t u h in
+        rw (u .seeks, u .looks)
+        (so-far (counted (here .seeks) (here .looks) [] nothing) (onward-none (boundIn sh) here n (o .0) (o .1))
+        ∙ counted-then (seeksOf q) (looksOf q) (here .seeks) (here .looks) ps [] nothing
+        ∙ counted-all (seeksOf q + here .seeks) (looksOf q + here .looks) (ps ++ [])
+        ∙ rw (append-nil ps))
+
+  -- with the pages qs that are found from here on, n of them or until none is left, they are w
+  comes-turns : (n : ℕ) (q : Query) (b m : ℕ) (ps qs : List ℕ) (t : Turn) → Running s sh k q b → Comes n q b ps
+      → Turns s sh k n q b m qs t → w ≡ record { seeks = seeksOf (t .q); looks = looksOf (t .q); listed = ps ++ qs }
+  unfolding Turns
+  comes-turns zero q b m ps qs t g x y =
+      rw (y .0, y .1, append-nil ps)
+      (sym x
+      ∙ ap (counted (seeksOf q) (looksOf q) ps) (rounds-done (boundIn sh) (leadIn s sh q) (othersIn s sh k q) b)
+      ∙ counted-all (seeksOf q) (looksOf q) ps)
+  comes-turns (suc n) q b m ps [] t g x y = rw (append-nil ps) (comes-end n q b ps (g .apt) x t (y .0) (y .1))
+  comes-turns (suc n) q b m ps (c ∷ qs) t g x y =
+      let u = y .0 in
+      let e : u .mark - 1 ≡ c = omega (arith, y .2) in
+      let next = rw e at (comes-step n q b ps (g .apt) x u (y .1) (y .3)) in
+      rw (append-snoc ps c qs)
+      at (comes-turns n (u .q) (u .mark) (u .rank) (ps ++ c ∷ []) qs t (y .1 .running (u .mark) (y .3) (omega arith))
+      next (y .4))
+
+  -- no count of theirs has wrapped
+  turns-narrow : (n : ℕ) (q : Query) (b m : ℕ) (qs : List ℕ) (t : Turn) → Turns s sh k (suc n) q b m qs t
+      → (length (t .q .cursors) ≡ 8) × (seeksOf (t .q) ≤ 2 ^ 28) × (looksOf (t .q) ≤ 2 ^ 29)
+  unfolding Turns
+  turns-narrow n q b m [] t y = (y .0 .eight, y .0 .narrow .0, y .0 .narrow .1)
+  turns-narrow zero q b m (c ∷ qs) t y = rw (y .4 .1) (y .1 .eight, y .1 .narrow .0, y .1 .narrow .1)
+  turns-narrow (suc n) q b m (c ∷ qs) t y =
+      turns-narrow n (y .0 .q) (y .0 .mark) (y .0 .rank) qs t (y .4)
+
+pub batched-narrow : (s sh : List ℕ) (k : ℕ) (q : Query) (b : ℕ) (room : List ℕ) (r : Turn) (room′ : List ℕ)
+    → 0 < length room → Batched s sh k q b room r room′
+    → (length (r .q .cursors) ≡ 8) × (seeksOf (r .q) < 2 ^ 32) × (looksOf (r .q) < 2 ^ 32)
+batched-narrow s sh k q b room r room′ h x =
+    let e : suc (length room - 1) ≡ length room = omega arith in
+    let n = turns-narrow s sh k (wholeIn s sh k) (length room - 1) q b 0 (x .pages) r (rw e (x .turns)) in
+    (n .0, omega (arith, n .1), omega (arith, n .2))
+
+-- the rule from a bound on, until as many pages as the room has places are listed
+pub batched-rule : (s sh : List ℕ) (k : ℕ) → Lists s sh k → (b : ℕ) (room : List ℕ) (r : Turn) (room′ : List ℕ)
+    (x : Batched s sh k newQuery b room r room′)
+    → ruleIn s sh k b (length room) ≡ record { seeks = seeksOf (r .q); looks = looksOf (r .q); listed = x .pages }
+batched-rule s sh k l b room r room′ x =
+    comes-turns s sh k (ruleIn s sh k b (length room)) (length room) newQuery b 0 [] (x .pages) r (new-running s sh k l b)
+    (rw (new-seeks, new-looks) (counted-none (restOf s sh k newQuery b (length room)) ∙ new-rule s sh k l b (length room)))
+    (x .turns)
+
+-- ---- all pages
 
 module _ (s sh : List ℕ) (k : ℕ) where
-  -- the pages ps were found up to the bound b
+  -- the pages ps were found up to the bound b; more may be listed than the lead has left
   pub record Partway (q : Query) (b found : ℕ) (ps : List ℕ) : Type 0 where
     pub running : Running s sh k q b
     pub sized : length ps ≡ found
     pub left : found + leftIn b (leadIn s sh q) ≤ length (pagesAt s sh 0)
-    pub same : counted (seeksOf q) (looksOf q) ps (restOf s sh k q b) ≡ wholeIn s sh k
+    pub more : ℕ
+    pub enough : leftIn b (leadIn s sh q) ≤ more
+    pub same : Comes s sh k (wholeIn s sh k) (suc more) q b ps
 
   pub partway-start : Lists s sh k → Partway newQuery 0 0 []
-  partway-start l = record {
-    running = new-running s sh k l 0;
-    sized = refl;
-    left = unfold readerAt in omega (arith, from-le 0 (pagesAt s sh 0));
-    same = rw (new-seeks, new-looks) (counted-none (restOf s sh k newQuery 0) ∙ new-whole s sh k l);
-  }
+  partway-start l =
+      let n : ℕ = length (getD (pagesIn s sh k) 0 []) in
+      let e : n + 1 ≡ suc n = omega arith in
+      record {
+        running = new-running s sh k l 0;
+        sized = refl;
+        left = unfold readerAt in omega (arith, from-le 0 (pagesAt s sh 0));
+        more = n;
+        enough = unfold readerAt in rw (first-list s sh k l) (from-le 0 (pagesAt s sh 0));
+        same = rw (new-seeks, new-looks, ← e)
+            (counted-none (restOf s sh k newQuery 0 (n + 1)) ∙ new-rule s sh k l 0 (n + 1));
+      }
 
   pub partway-few : (q : Query) (b found : ℕ) (ps : List ℕ) → Partway q b found ps → found ≤ limit
   partway-few q b found ps p =
@@ -88,51 +186,31 @@ module _ (s sh : List ℕ) (k : ℕ) where
       omega (arith, p .left, list-length s sh 0 (l .each 0 (l .some)))
 
   module _ (q : Query) (b found : ℕ) (ps : List ℕ) (p : Partway q b found ps) (t : Turn) (u : Turned s sh k q b t) where
-    abbrev here : Next
-    here = nextFor s sh k q b
-
-    rest-next : restOf s sh k q b ≡ onward (boundIn sh) here
-    rest-next = let a = p .running .apt in rounds-next (boundIn sh) (leadIn s sh q) (othersIn s sh k q) b
-        (lead-ready s sh k q b a) (others-ready s sh k q b a)
-
-    so-far : (r : Tally) → onward (boundIn sh) here ≡ r → wholeIn s sh k ≡ counted (seeksOf q) (looksOf q) ps r
-    so-far r e = sym (p .same) ∙ ap (counted (seeksOf q) (looksOf q) ps) (rest-next ∙ e)
-
-    same-step : (c j : ℕ) → t .mark ≡ c + 1 → here .found ≡ page c j
-        → counted (seeksOf (t .q)) (looksOf (t .q)) (ps ++ (t .mark - 1) ∷ []) (restOf s sh k (t .q) (t .mark))
-        ≡ wholeIn s sh k
-    same-step c j m e =
-        let d : t .mark - 1 ≡ c = omega arith in
-        let rest : Tally = allRounds (boundIn sh) (here .lead) (here .others) (c + 1) in
-        rw (u .seeks, u .looks, u .lead, u .others, d, m)
-        (sym
-        (so-far (counted (here .seeks) (here .looks) (c ∷ []) rest) (onward-page (boundIn sh) here c j e)
-        ∙ counted-then (seeksOf q) (looksOf q) (here .seeks) (here .looks) ps (c ∷ []) rest))
-
     pub partway-step : (t .mark ≡ spentMark → ⊥) → Partway (t .q) (t .mark) (found + 1) (ps ++ (t .mark - 1) ∷ [])
     partway-step h =
         let a = p .running .apt in
-        let f = turned-page s sh k q b a t u h in record {
+        let fewer = turned-fewer s sh k q b a t u h in
+        let e : suc (p .more - 1) ≡ p .more = omega (arith, fewer, p .enough) in
+        record {
           running = u .running (t .mark) h (omega arith);
           sized = length-append ps ((t .mark - 1) ∷ []) ∙ omega (arith, p .sized);
-          left = omega (arith, p .left, turned-fewer s sh k q b a t u h);
-          same = same-step (f .0) (f .1) (f .2) (f .3);
+          left = omega (arith, p .left, fewer);
+          more = p .more - 1;
+          enough = omega (arith, p .enough, fewer);
+          same = rw e (comes-step s sh k (wholeIn s sh k) (p .more) q b ps a (p .same) t u h);
         }
 
     pub partway-end : t .mark ≡ spentMark → (r : Listed) → (r .found ≡ found) × (r .seeks ≡ seeksOf (t .q))
         × (r .looks ≡ looksOf (t .q))
         → (wholeIn s sh k .listed ≡ ps) × Tells (wholeIn s sh k) r
-    unfolding counted nothing
     partway-end h r e =
-        let o = turned-none s sh k q b (p .running .apt) t u h in
-        let n = onward-none (boundIn sh) here (o .0) (o .1) in
-        let w = so-far (counted (here .seeks) (here .looks) [] nothing) n in
-        let listed : wholeIn s sh k .listed ≡ ps = ap (λ (x : Tally). x .listed) w ∙ append-nil ps in (
+        let w = comes-end s sh k (wholeIn s sh k) (p .more) q b ps (p .running .apt) (p .same) t u h in
+        let listed : wholeIn s sh k .listed ≡ ps = ap (λ (x : Tally). x .listed) w in (
           listed,
           record {
             found = e .0 ∙ sym (p .sized) ∙ ap length (sym listed);
-            seeks = omega (arith, e .1, u .seeks, ap (λ (x : Tally). x .seeks) w);
-            looks = omega (arith, e .2, u .looks, ap (λ (x : Tally). x .looks) w);
+            seeks = e .1 ∙ sym (ap (λ (x : Tally). x .seeks) w);
+            looks = e .2 ∙ sym (ap (λ (x : Tally). x .looks) w);
           },
         )
 

@@ -1,15 +1,15 @@
 -- Laws of a query that no seek has moved: its readers are fresh, and it may run from any bound.
 use mathlib.Core.Path.{_≡_, refl, ap}
-use mathlib.Core.List.{List, _∷_}
+use mathlib.Core.List.{List, [], _∷_}
 use Prim.Native.Nat.{ℕ, zero, suc, _+_, _-_, _≤_, _<_}
 use native.Mathlib.Nat.{mul-le-mul-left}
 use native.Mathlib.Omega.{arith}
-use lib.ListN.{getD-replicate}
+use lib.ListN.{getD, getD-replicate}
 use Rattle.rules.specs.Limits.{limit}
 use Rattle.rules.specs.Seek.{fresh}
 use Rattle.rules.specs.Common.{Reader, readersOf}
 use Rattle.commonlaws.specs.Readers.{leftIn}
-use Rattle.commonlaws.specs.Next.{allRounds}
+use Rattle.commonlaws.specs.Next.{roundsTo}
 use Rattle.commonlaws.proofs.SharedLaws.{from-le}
 use Rattle.commonlaws.proofs.CommonLaws.{fresh-ready}
 use Rattle.walklaws.specs.Cursors.{unused, ruleCursor}
@@ -17,7 +17,7 @@ use Rattle.walklaws.proofs.MoveLaws.{unused-held}
 use Rattle.querylaws.specs.Lists.{span, pagesAt, pagesIn, boundIn, Lists}
 use Rattle.querylaws.specs.Queries.{cursorIn, newQuery, readerAt, leadIn, othersIn}
 use Rattle.querylaws.specs.Queries.{total, seeksOf, looksOf, Apt, Running}
-use Rattle.querylaws.specs.Listings.{ruleOn, wholeIn}
+use Rattle.querylaws.specs.Listings.{ruleOn, ruleIn}
 use Rattle.querylaws.proofs.SpanLaws.{span-cons, span-same}
 use Rattle.querylaws.proofs.ListLaws.{list-rises, list-length}
 
@@ -65,9 +65,16 @@ module _ (s sh : List ℕ) where
           looks = omega (arith, new-looks);
         }
 
+    pub first-list : getD (pagesIn s sh k) 0 [] ≡ pagesAt s sh 0
+    unfolding pagesIn
+    first-list =
+        let z : k - 0 ≡ k = omega arith in
+        ap (λ (ls : List (List ℕ)). getD ls 0 []) (rw z at (span-cons (pagesAt s sh) 0 k (l .some)))
+
     -- the rule on its readers is the rule on the lists
-    pub new-whole : allRounds (boundIn sh) (leadIn s sh newQuery) (othersIn s sh k newQuery) 0 ≡ wholeIn s sh k
-    new-whole =
+    pub new-rule : (b n : ℕ)
+        → roundsTo (boundIn sh) (leadIn s sh newQuery) (othersIn s sh k newQuery) b n ≡ ruleIn s sh k b n
+    new-rule b n =
         let z : k - 0 ≡ k = omega arith in
         let e = rw z at (span-cons (pagesAt s sh) 0 k (l .some)) in
         let o = span-same (readerAt s sh newQuery) (λ j. freshOn (pagesAt s sh j)) (k - 1) 1

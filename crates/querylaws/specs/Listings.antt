@@ -1,26 +1,30 @@
 -- What listing and counting common pages answer.
 --
---   ruleOn U ls         the step rule on the lists ls, the first of which leads
---   wholeIn s sh k      that, on the first k lists that sh places in the card s
+--   ruleOn U ls b n     the step rule on the lists ls, the first of which leads, from b on until n pages are listed
+--   ruleIn s sh k b n   that, on the first k lists that sh places in the card s
+--   wholeIn s sh k      the same from 0 on, with no end to the pages
 --   Tells t r           r counts the pages, seeks and looks of t
 --   laidWithin xs room  xs at the room's front, as far as it goes
 use mathlib.Core.Path.{_≡_}
 use mathlib.Core.List.{List, [], _∷_}
-use Prim.Native.Nat.{ℕ}
-use lib.ListN.{length, take}
+use Prim.Native.Nat.{ℕ, _+_}
+use lib.ListN.{length, getD, take}
 use Rattle.rules.specs.Seek.{fresh}
 use Rattle.rules.specs.Common.{Tally, readersOf, nothing}
 use Rattle.rules.specs.Write.{laid}
-use Rattle.commonlaws.specs.Next.{allRounds}
+use Rattle.commonlaws.specs.Next.{roundsTo}
 use Rattle.querylaws.specs.declared.Listed.{Listed}
 use Rattle.querylaws.specs.Lists.{pagesIn, boundIn}
 
-unfoldable pub ruleOn : ℕ → List (List ℕ) → Tally
-ruleOn U [] = nothing
-ruleOn U (l ∷ ls) = allRounds U (record { pages = l; cursor = fresh }) (readersOf ls) 0
+unfoldable pub ruleOn : ℕ → List (List ℕ) → ℕ → ℕ → Tally
+ruleOn U [] b n = nothing
+ruleOn U (l ∷ ls) b n = roundsTo U (record { pages = l; cursor = fresh }) (readersOf ls) b n
+
+abbrev pub ruleIn : List ℕ → List ℕ → ℕ → ℕ → ℕ → Tally
+ruleIn s sh k b n = ruleOn (boundIn sh) (pagesIn s sh k) b n
 
 abbrev pub wholeIn : List ℕ → List ℕ → ℕ → Tally
-wholeIn s sh k = ruleOn (boundIn sh) (pagesIn s sh k)
+wholeIn s sh k = ruleIn s sh k 0 (length (getD (pagesIn s sh k) 0 []) + 1)
 
 pub record Tells (t : Tally) (r : Listed) : Type 0 where
   pub found : r .found ≡ length (t .listed)

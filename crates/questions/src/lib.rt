@@ -33,7 +33,7 @@ fn pair_good(args: &[u32], t: usize) -> bool
 }
 
 // Whether one to eight terms below t may be asked for.
-fn words_good(args: &[u32], t: usize) -> bool
+pub fn words_good(args: &[u32], t: usize) -> bool
     ensures { λ r. ⌜ r ≡ wordsGood t (now (args .entry)) ⌝ }
 {
     if args.len() < 1 {

@@ -22,14 +22,15 @@ use Rattle.rules.specs.Index.{termsRefusal, indexRefusal}
 use Rattle.rules.specs.Seek.{placeOf, bitsOf, cursorBit, startOf, looksTo, walk, gone, arrived, walked, walkFrom}
 use Rattle.rules.specs.Seek.{move, seek}
 use Rattle.rules.specs.Common.{leadFrom, leadOf, readersOf, before, stopped, agree, counted, nothing, rounds}
-use Rattle.rules.specs.Common.{common}
-use Rattle.rules.specs.Plain.{firstFrom, member, inAll, sharedBy, commonPages, positionsAmong, positionsOn}
+use Rattle.rules.specs.Common.{leadPages, otherPages, commonFrom, common}
+use Rattle.rules.specs.Plain.{firstFrom, atLeast, member, inAll, sharedBy, commonPages, positionsAmong, positionsOn}
 use Rattle.rules.specs.Plain.{phraseOf, stands, startsAmong, starts, withStarts}
 use Rattle.rules.specs.Questions.{numbered, pagesIn, listsIn, wordsIn, byRank, byBound, byCommon, byPhrase}
 use Rattle.rules.specs.Questions.{termsOf, offsetsOf, phraseIn, answer, allBelow, pairGood, wordsGood}
 use Rattle.rules.specs.Questions.{offsetsGood, phraseGood, goodQuestion, kindOf, countOf, argsOf, behind}
 use Rattle.rules.specs.Questions.{wellFormed, replies}
 use Rattle.rules.specs.Ask.{fitting, fitted, reply, joined, put, ask}
+use Rattle.rules.specs.Screen.{screenGood, screenPages, screenCounts, isFull, unshown, showing, screen}
 use Rattle.rules.specs.Program.{decimal, digits, line, lines, refusedWord, refusedLine, numbersOf, printedReply}
 use Rattle.rules.specs.Program.{printed}
 use Rattle.rules.specs.Samples.{sameRefusal, sameFound, soughtSo, holds, every}
@@ -37,5 +38,5 @@ use Rattle.rules.specs.Table.{stepped, s1, s1List, s2, s8, s9, s9Word, a
 use Rattle.rules.specs.Table.{samples}
 
 pub samples-hold : T (every samples)
-unfolding accepted andThen be beAt sized same bit runWord runBit field wordsFor words rising validList greatest width zeros upper lower afterZero pointer pointers lowerAt upperAt size runs body block stated listU listN elements readList decode isBlock listRefusal laid stored writeList total sums next raised placed places positive inOrder inOrderByPage validWord termBlock writeTerm emptied from withOnes numberOf added pointed announceRefusal countsAt positionsAt streamSize announced opened over live addedWord follows advanced complete sizeOf spoilt beginTerm going putPostings pointedWord endTerm putAll together streamWord after part inside listsOf pagesOf countsOf positionsOf gaps less lowered readWord disagree termRefusal indexFront terms card validWords validCard indexN indexT termPart wordOf termsRefusal indexRefusal placeOf bitsOf cursorBit startOf looksTo walk gone arrived walked walkFrom move seek leadFrom leadOf readersOf before stopped agree counted nothing rounds common firstFrom member inAll sharedBy commonPages positionsAmong positionsOn phraseOf stands startsAmong starts withStarts numbered pagesIn listsIn wordsIn byRank byBound byCommon byPhrase termsOf offsetsOf phraseIn answer allBelow pairGood wordsGood offsetsGood phraseGood goodQuestion kindOf countOf argsOf behind wellFormed replies fitting fitted reply joined put ask decimal digits line lines refusedWord refusedLine numbersOf printedReply printed sameRefusal sameFound soughtSo holds every stepped s1 s1List s2 s8 s9 s9Word atFront s12 torqueBolt samples
+unfolding accepted andThen be beAt sized same bit runWord runBit field wordsFor words rising validList greatest width zeros upper lower afterZero pointer pointers lowerAt upperAt size runs body block stated listU listN elements readList decode isBlock listRefusal laid stored writeList total sums next raised placed places positive inOrder inOrderByPage validWord termBlock writeTerm emptied from withOnes numberOf added pointed announceRefusal countsAt positionsAt streamSize announced opened over live addedWord follows advanced complete sizeOf spoilt beginTerm going putPostings pointedWord endTerm putAll together streamWord after part inside listsOf pagesOf countsOf positionsOf gaps less lowered readWord disagree termRefusal indexFront terms card validWords validCard indexN indexT termPart wordOf termsRefusal indexRefusal placeOf bitsOf cursorBit startOf looksTo walk gone arrived walked walkFrom move seek leadFrom leadOf readersOf before stopped agree counted nothing rounds leadPages otherPages commonFrom common firstFrom atLeast member inAll sharedBy commonPages positionsAmong positionsOn phraseOf stands startsAmong starts withStarts numbered pagesIn listsIn wordsIn byRank byBound byCommon byPhrase termsOf offsetsOf phraseIn answer allBelow pairGood wordsGood offsetsGood phraseGood goodQuestion kindOf countOf argsOf behind wellFormed replies fitting fitted reply joined put ask screenGood screenPages screenCounts isFull unshown showing screen decimal digits line lines refusedWord refusedLine numbersOf printedReply printed sameRefusal sameFound soughtSo holds every stepped s1 s1List s2 s8 s9 s9Word atFront s12 torqueBolt samples
 samples-hold = tt

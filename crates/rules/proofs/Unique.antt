@@ -6,14 +6,16 @@ use Prim.Native.Nat.{ℕ}
 use Rattle.rules.specs.declared.Refusal.{Refusal}
 use Rattle.rules.specs.declared.Written.{Written}
 use Rattle.rules.specs.declared.Outcome.{Outcome}
+use Rattle.rules.specs.declared.Screened.{Screened}
 use Rattle.rules.specs.declared.Stream.{Stream}
 use Rattle.rules.specs.declared.Streamed.{Streamed}
 use Rattle.rules.specs.Write.{Made, made}
 use Rattle.rules.specs.Term.{Word}
 use Rattle.rules.specs.Stream.{Streaming, streaming}
 use Rattle.rules.specs.Ask.{asked}
+use Rattle.rules.specs.Screen.{screening}
 use Rattle.rules.specs.Promises.{Determined, ListChecked, ListWritten, TermChecked, TermWritten, IndexChecked}
-use Rattle.rules.specs.Promises.{TermBegun, PostingsPut, TermEnded, IndexClosed, Answered, Printed}
+use Rattle.rules.specs.Promises.{TermBegun, PostingsPut, TermEnded, IndexClosed, Answered, ScreenShown, Printed}
 
 -- A promise that equates a view of the result, from which the result can be had back, determines it.
 pub by-equation : {A B : Type 0} (view : A → B) (back : B → A) → ((p : A) → back (view p) ≡ p) → (b : B)
@@ -75,6 +77,19 @@ ask-unique s qs room =
     by-equation
     (λ p. asked (p .0) (p .1))
     (λ a. (record { refusal = a .refusal; answered = a .answered; used = a .used }, a .room))
+    (λ p. refl)
+    _
+
+pub screen-unique : (s : List ℕ) (b n : ℕ) (ts pages counts : List ℕ)
+    → Determined {A = Screened × List ℕ × List ℕ} (λ p. ScreenShown s b n ts pages counts (p .0) (p .1) (p .2))
+screen-unique s b n ts pages counts =
+    by-equation
+    (λ p. screening (p .0) (p .1) (p .2))
+    (λ m. (
+      record { refusal = m .refusal; found = m .found; full = m .full; next = m .next },
+      m .pages,
+      m .counts,
+    ))
     (λ p. refl)
     _
 

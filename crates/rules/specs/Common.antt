@@ -3,8 +3,11 @@
 --   Reader          a list of pages and the cursor on it
 --   Tally           seeks, looks, and the pages listed
 --   leadOf ls       the number of the shortest list, the first of equals
+--   leadPages ls, otherPages ls  that list, and the others
 --   agree U c rs    the others are sought in turn for c, until one answers none or more than c
---   common U ls     the rule on the lists ls of pages below U
+--   rounds f r U lead others b  the rule from the bound b on, with at most f seeks of the lead, until r pages are listed
+--   commonFrom U ls b r  the rule on the lists ls of pages below U, from the bound b on, until r pages are listed [02 e]
+--   common U ls     the rule from 0 on, with no end to the pages
 use mathlib.Core.Bool.{true, false}
 use mathlib.Core.List.{List, [], _∷_, _++_}
 use Prim.Native.Nat.{ℕ, zero, suc, _+_}
@@ -81,26 +84,37 @@ counted seeks looks listed t = record {
 unfoldable pub nothing : Tally
 nothing = record { seeks = 0; looks = 0; listed = [] }
 
--- the lead is sought for b, at most f times in all
-unfoldable pub rounds : ℕ → ℕ → Reader → List Reader → ℕ → Tally
-rounds zero U lead others b = nothing
-rounds (suc f) U lead others b =
+-- the lead is sought for b
+unfoldable pub rounds : ℕ → ℕ → ℕ → Reader → List Reader → ℕ → Tally
+rounds zero r U lead others b = nothing
+rounds (suc f) zero U lead others b = nothing
+rounds (suc f) (suc r) U lead others b =
     let s : Sought = seek U (lead .pages) (lead .cursor) b in
     let moved : Reader = record { pages = lead .pages; cursor = s .cursor } in
     elim (s .found) [
       | none _ ↦ counted 1 (s .looks) [] nothing
       | page c _ ↦
-          let r : Round = agree U c others in
-          elim (r .ended) [
-            | exhausted ↦ counted (1 + r .seeks) (s .looks + r .looks) [] nothing
-            | larger d ↦ counted (1 + r .seeks) (s .looks + r .looks) [] (rounds f U moved (r .readers) d)
-            | agreed ↦ counted (1 + r .seeks) (s .looks + r .looks) (c ∷ []) (rounds f U moved (r .readers) (c + 1))
+          let a : Round = agree U c others in
+          elim (a .ended) [
+            | exhausted ↦ counted (1 + a .seeks) (s .looks + a .looks) [] nothing
+            | larger d ↦ counted (1 + a .seeks) (s .looks + a .looks) [] (rounds f (suc r) U moved (a .readers) d)
+            | agreed ↦ counted (1 + a .seeks) (s .looks + a .looks) (c ∷ []) (rounds f r U moved (a .readers) (c + 1))
           ]
     ]
 
+unfoldable pub leadPages : List (List ℕ) → List ℕ
+leadPages ls = getD ls (leadOf ls) []
+
+-- the others, in their order
+unfoldable pub otherPages : List (List ℕ) → List (List ℕ)
+otherPages ls = take (leadOf ls) ls ++ drop (leadOf ls + 1) ls
+
 -- each seek of the lead passes an element of it, so one more than it has suffice
+unfoldable pub commonFrom : ℕ → List (List ℕ) → ℕ → ℕ → Tally
+commonFrom U ls b r =
+    let lead : List ℕ = leadPages ls in
+    rounds (length lead + 1) r U (record { pages = lead; cursor = fresh }) (readersOf (otherPages ls)) b
+
+-- no more pages than the lead has can be listed
 unfoldable pub common : ℕ → List (List ℕ) → Tally
-common U ls =
-    let l : ℕ = leadOf ls in
-    let lead : List ℕ = getD ls l [] in
-    rounds (length lead + 1) U (record { pages = lead; cursor = fresh }) (readersOf (take l ls ++ drop (l + 1) ls)) 0
+common U ls = commonFrom U ls 0 (length (leadPages ls) + 1)

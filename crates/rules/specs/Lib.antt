@@ -17,6 +17,7 @@ pub mod Common
 pub mod Plain
 pub mod Questions
 pub mod Ask
+pub mod Screen
 pub mod Program
 pub mod Promises
 pub mod Samples

@@ -4,6 +4,7 @@
 --   termLimit    T at most
 --   phraseLimit  words in a question at most
 --   offsetLimit  the offset of a phrase's word at most [02 b]
+--   screenLimit  pages of a screen at most [02 e]
 --   version      of every block
 --   listHeader, termHeader, indexHeader  the bytes below which a block is too short
 --   fourBytes    the first number that four bytes do not hold
@@ -20,6 +21,9 @@ phraseLimit = 8
 
 abbrev pub offsetLimit : ℕ
 offsetLimit = 255
+
+abbrev pub screenLimit : ℕ
+screenLimit = 64
 
 abbrev pub version : ℕ
 version = 1

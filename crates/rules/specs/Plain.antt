@@ -3,6 +3,7 @@
 --   firstFrom b i xs    the first element at least b with its number, xs those from number i on; or none, with the
 --                       number of all
 --   below b xs          how many of xs are below b [02 a]
+--   atLeast b xs        those of xs that are at least b [02 e]
 --   inAll x ls          whether x is in every list
 --   commonPages ls      the pages that all the lists hold
 --   positionsOn p t     the positions of word t on page p
@@ -25,6 +26,10 @@ firstFrom b i (x ∷ xs) = elim (leb b x) [ true ↦ page x i | false ↦ firstF
 unfoldable pub below : ℕ → List ℕ → ℕ
 below b [] = 0
 below b (x ∷ xs) = cond (ltb x b) 1 0 + below b xs
+
+unfoldable pub atLeast : ℕ → List ℕ → List ℕ
+atLeast b [] = []
+atLeast b (x ∷ xs) = elim (leb b x) [ true ↦ x ∷ atLeast b xs | false ↦ atLeast b xs ]
 
 unfoldable pub member : ℕ → List ℕ → Bool
 member x [] = false

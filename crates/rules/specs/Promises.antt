@@ -12,6 +12,8 @@
 --   IndexChecked s r                r is the refusal of the bytes s as an index
 --   IndexClosed buffer used N T r after  r answers closing an index, and leaves the buffer as `after`
 --   Answered s qs room r after      r is the outcome of the questions qs on the card s, and leaves the room as `after`
+--   ScreenShown s b n ts pages counts r pages′ counts′  r answers a screen of n pages of the words ts from b on of the
+--                                   card s, and leaves the rooms as `pages′` and `counts′`
 --   Printed s qs text r after       r is the length of what the program prints for two files, laid into the text
 use mathlib.Core.Path.{_≡_}
 use mathlib.Core.List.{List}
@@ -20,6 +22,7 @@ use lib.ListN.{length}
 use Rattle.rules.specs.declared.Refusal.{Refusal}
 use Rattle.rules.specs.declared.Written.{Written}
 use Rattle.rules.specs.declared.Outcome.{Outcome}
+use Rattle.rules.specs.declared.Screened.{Screened}
 use Rattle.rules.specs.declared.Stream.{Stream}
 use Rattle.rules.specs.declared.Streamed.{Streamed}
 use Rattle.rules.specs.ReadList.{listRefusal}
@@ -29,6 +32,7 @@ use Rattle.rules.specs.Stream.{streaming, beginTerm, putPostings, endTer
 use Rattle.rules.specs.ReadTerm.{termRefusal}
 use Rattle.rules.specs.Index.{indexRefusal, closeIndex}
 use Rattle.rules.specs.Ask.{asked, ask}
+use Rattle.rules.specs.Screen.{screening, screen}
 use Rattle.rules.specs.Program.{printed}
 
 abbrev pub Determined : {A : Type 0} → (A → Type 0) → Type 0
@@ -63,6 +67,9 @@ IndexClosed buffer used N T r after = made r after ≡ closeIndex buffer used N 
 
 abbrev pub Answered : List ℕ → List ℕ → List ℕ → Outcome → List ℕ → Type 0
 Answered s qs room r after = asked r after ≡ ask s qs room
+
+abbrev pub ScreenShown : List ℕ → ℕ → ℕ → List ℕ → List ℕ → List ℕ → Screened → List ℕ → List ℕ → Type 0
+ScreenShown s b n ts pages counts r pages′ counts′ = screening r pages′ counts′ ≡ screen s b n ts pages counts
 
 abbrev pub Printed : List ℕ → List ℕ → List ℕ → ℕ → List ℕ → Type 0
 Printed s qs text r after = (after ≡ laid (printed s qs) text) × (r ≡ length (printed s qs))

@@ -1,12 +1,12 @@
 -- What a sample of document 01 says, and whether the definitions give it [01 Sample cards]. The samples are in Table.antt.
 --
---   Row       a sample of one of eleven kinds
+--   Row       a sample of one of twelve kinds
 --   holds r   whether the definitions give what the row says
 --   every rs  whether they do so for all of the rows
-use mathlib.Core.Bool.{Bool, true, false, not, _&&_, _||_}
+use mathlib.Core.Bool.{Bool, true, false, cond, not, _&&_, _||_}
 use mathlib.Core.List.{List, [], _∷_}
 use Prim.Native.Nat.{ℕ}
-use lib.Dec.{eqb}
+use lib.Dec.{ltb, eqb}
 use lib.ListN.{length, take, replicate}
 use Rattle.rules.specs.declared.Refusal.the-variants.{Accepted}
 use Rattle.rules.specs.declared.Refusal.{Refusal}
@@ -14,7 +14,7 @@ use Rattle.rules.specs.Refusal.{number, accepted}
 use Rattle.rules.specs.Bytes.{same}
 use Rattle.rules.specs.List.{validList, block}
 use Rattle.rules.specs.ReadList.{listU, decode, listRefusal}
-use Rattle.rules.specs.Write.{Made, writeList}
+use Rattle.rules.specs.Write.{Made, laid, writeList}
 use Rattle.rules.specs.Term.{Word, writeTerm}
 use Rattle.rules.specs.Stream.{Streaming, beginTerm, together, streamWord}
 use Rattle.rules.specs.Index.{validCard, card, indexRefusal}
@@ -22,6 +22,7 @@ use Rattle.rules.specs.Seek.{Cursor, fresh, Found, none, page, Sought, s
 use Rattle.rules.specs.Common.{common}
 use Rattle.rules.specs.Plain.{commonPages}
 use Rattle.rules.specs.Ask.{Asked, ask}
+use Rattle.rules.specs.Screen.{Screening, screen}
 use Rattle.rules.specs.Program.{printed}
 
 -- one seek of a sequence on one cursor: the bound, what is found, and the looks
@@ -50,6 +51,9 @@ pub data Row : Type 0 where
   streamed : ℕ → ℕ → ℕ → ℕ → List Word → ℕ → Refusal → Row
   -- a card, questions, the size of the room, the refusal, the number answered and all answers
   asked : List ℕ → List ℕ → ℕ → Refusal → ℕ → List ℕ → Row
+  -- a card, the bound, r and the words of a screen, the sizes of the rooms for pages and counts, the refusal, the pages,
+  -- the next bound of a full screen, else 0, and the counts
+  screened : List ℕ → ℕ → ℕ → List ℕ → ℕ → ℕ → Refusal → List ℕ → ℕ → List ℕ → Row
   -- a card file, a question file and the program's text
   shown : List ℕ → List ℕ → List ℕ → Row
 
@@ -91,6 +95,13 @@ holds (asked s qs size r k answers) =
     let a : Asked = ask s qs (replicate size 0) in
     sameRefusal (a .refusal) r
     && (eqb (a .answered) k && (eqb (a .used) (length answers) && same (take (a .used) (a .room)) answers))
+holds (screened s b n ts size size′ r pages next counts) =
+    let a : Screening = screen s b n ts (replicate size 7) (replicate size′ 7) in
+    sameRefusal (a .refusal) r
+    && (eqb (a .found) (length pages)
+    && (eqb (a .full) (cond (ltb 0 next) 1 0)
+    && (eqb (a .next) next
+    && (same (a .pages) (laid pages (replicate size 7)) && same (a .counts) (laid counts (replicate size′ 7))))))
 holds (shown s qs text) = same (printed s qs) text
 
 unfoldable pub every : List Row → Bool

@@ -14,7 +14,7 @@ use Rattle.rules.specs.Term.{Word}
 use Rattle.rules.specs.Index.{card}
 use Rattle.rules.specs.Seek.{none, page}
 use Rattle.rules.specs.Samples.{Step, Row, listed, notList, notIndex, sought, tallied, indexed, written, asked}
-use Rattle.rules.specs.Samples.{begun, streamed, shown}
+use Rattle.rules.specs.Samples.{begun, streamed, screened, shown}
 
 -- k numbers from x on, d apart
 unfoldable pub stepped : ℕ → ℕ → ℕ → List ℕ
@@ -160,8 +160,26 @@ samples =
     ∷ (streamed 44 1 1 2 (posting 4 0 ∷ (posting 15 0 ∷ [])) 90 Lists
     ∷ (streamed 44 2 2 2 (posting 4 0 ∷ (posting 15 1 ∷ [])) 90 Lists
     ∷ (streamed 44 2 2 3 (posting 4 0 ∷ (posting 15 0 ∷ [])) 90 Lists
+    -- screens of S12 [02 e]: one page each, the second just full and an empty one behind it; all pages, and just two; from
+    -- U on, both ends; r and words that are 8; rooms one short; a card that is refused
+    ∷ (screened s12 0 1 (0 ∷ (1 ∷ [])) 40 3 Accepted (4 ∷ []) 5 (2 ∷ (2 ∷ []))
+    ∷ (screened s12 5 1 (0 ∷ (1 ∷ [])) 1 2 Accepted (15 ∷ []) 16 (2 ∷ (2 ∷ []))
+    ∷ (screened s12 16 1 (0 ∷ (1 ∷ [])) 0 2 Accepted [] 0 (1 ∷ (1 ∷ []))
+    ∷ (screened s12 0 64 (0 ∷ (1 ∷ [])) 2 2 Accepted (4 ∷ (15 ∷ [])) 0 (5 ∷ (5 ∷ []))
+    ∷ (screened s12 4 2 (0 ∷ (1 ∷ [])) 2 2 Accepted (4 ∷ (15 ∷ [])) 16 (4 ∷ (4 ∷ []))
+    ∷ (screened s12 44 64 (0 ∷ []) 0 2 Accepted [] 0 (1 ∷ (0 ∷ []))
+    ∷ (screened s12 4294967295 64 (0 ∷ []) 0 2 Accepted [] 0 (1 ∷ (0 ∷ []))
+    ∷ (screened s12 43 1 (0 ∷ []) 1 2 Accepted (43 ∷ []) 44 (1 ∷ (1 ∷ []))
+    ∷ (screened s12 0 0 (0 ∷ []) 40 2 Question [] 0 []
+    ∷ (screened s12 0 65 (0 ∷ []) 40 2 Question [] 0 []
+    ∷ (screened s12 0 64 [] 40 2 Question [] 0 []
+    ∷ (screened s12 0 64 (replicate 9 0) 40 2 Question [] 0 []
+    ∷ (screened s12 0 64 (0 ∷ (2 ∷ [])) 40 2 Question [] 0 []
+    ∷ (screened s12 0 64 (0 ∷ (1 ∷ [])) 1 2 Room [] 0 []
+    ∷ (screened s12 0 64 (0 ∷ (1 ∷ [])) 2 1 Room [] 0 []
+    ∷ (screened (set s9 8 4) 0 0 [] 0 0 Parts [] 0 []
     -- the pointer by b div 2^w; no jump back behind the cursor; back to the lead after a larger page
     ∷ (sought 1024 (stepped 300 0 3) (finds 600 600 200 2 ∷ (finds 897 897 299 5 ∷ (misses 898 300 2 ∷ [])))
     ∷ (sought 300 (stepped 300 0 1) (finds 290 290 290 2 ∷ (finds 295 295 295 1 ∷ []))
     ∷ (tallied 20 ((1 ∷ (9 ∷ [])) ∷ ((2 ∷ (9 ∷ (10 ∷ []))) ∷ ((1 ∷ (9 ∷ (12 ∷ []))) ∷ []))) 6 6 (9 ∷ [])
-    ∷ [])))))))))))))))))))))))))))))))))))))))))))))))))))))))))))))))))))))))))))))
+    ∷ [])))))))))))))))))))))))))))))))))))))))))))))))))))))))))))))))))))))))))))))))))))))))))))))

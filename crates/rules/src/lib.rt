@@ -13,6 +13,9 @@ pub const PHRASE_LIMIT: usize = 8;
 // The offset of a phrase's word at most.
 pub const OFFSET_LIMIT: usize = 255;
 
+// Pages of a screen at most.
+pub const SCREEN_LIMIT: u32 = 64;
+
 // The first number that four bytes do not hold.
 pub const FOUR_BYTES: usize = 4294967296;
 
@@ -78,6 +81,14 @@ pub struct Outcome {
     pub refusal: Refusal,
     pub answered: usize,
     pub used: usize,
+}
+
+// What a screen answers: how many pages it found, 1 where it is full, and then the bound of the next one [02 e].
+pub struct Screened {
+    pub refusal: Refusal,
+    pub found: usize,
+    pub full: u32,
+    pub next: u32,
 }
 
 // Where the writing of a word in runs stands: what was announced, and how far it is laid. `mark` is 1 while postings may

@@ -10,15 +10,14 @@ use lib.ListN.{length, set, length-append}
 use Rattle.rules.specs.Common.{Tally, counted}
 use Rattle.rules.specs.Plain.{InPhrase, starts, withStarts}
 use Rattle.rules.specs.Write.{laid}
-use Rattle.querylaws.specs.Lists.{numberOf, boundIn}
-use Rattle.commonlaws.specs.Next.{allRounds}
+use Rattle.querylaws.specs.Lists.{numberOf}
 use Rattle.walklaws.specs.Cursors.{spentMark}
 use Rattle.querylaws.specs.declared.Query.{Query}
 use Rattle.querylaws.specs.declared.Turn.{Turn}
 use Rattle.querylaws.specs.declared.Listed.{Listed}
-use Rattle.querylaws.specs.Queries.{newQuery, leadIn, othersIn, seeksOf, looksOf, Turned}
+use Rattle.querylaws.specs.Queries.{newQuery, seeksOf, looksOf, Turned}
 use Rattle.querylaws.proofs.TurnLaws.{turned-page}
-use Rattle.querylaws.proofs.ListingLaws.{Partway, partway-start, partway-few, partway-step, partway-end}
+use Rattle.querylaws.proofs.ListingLaws.{restOf, Partway, partway-start, partway-few, partway-step, partway-end}
 use Rattle.querylaws.specs.Listings.{wholeIn}
 use Rattle.openlists.proofs.FewLaws.{whole-few}
 use Rattle.wordlists.proofs.OpenLaws.{opened-listed}
@@ -138,7 +137,7 @@ module _ (s ts : List ℕ) (lead : ℕ) (pg ct ps room : List ℕ) (a : Asked s 
         unfolding counted
         within =
             let rest : List ℕ =
-            allRounds (boundIn pg) (leadIn s pg (t .q)) (othersIn s pg (length ts) (t .q)) (t .mark) .listed in
+            restOf s pg (length ts) (t .q) (t .mark) (suc (next-way .more)) .listed in
             let e : (g .seen ++ (t .mark - 1) ∷ []) ++ rest ≡ wholeIn s pg (length ts) .listed =
             ap (λ (x : Tally). x .listed) (next-way .same) in
             let f =

@@ -10,7 +10,7 @@ use Rattle.rules.specs.declared.Refusal.the-variants.{Accepted}
 use Rattle.rules.specs.ReadList.{listU, decode}
 use Rattle.rules.specs.ReadTerm.{pagesOf, readWord}
 use Rattle.rules.specs.Index.{indexN, indexT, termPart, wordOf, indexRefusal}
-use Rattle.rules.specs.Common.{Tally, leadOf}
+use Rattle.rules.specs.Common.{Tally, leadOf, commonFrom, common}
 use Rattle.rules.specs.Plain.{commonPages}
 use Rattle.rules.specs.Questions.{pagesIn, listsIn, wordsGood}
 use Rattle.termlaws.proofs.Theorems.{accepted-lists}
@@ -82,9 +82,9 @@ module _ (s ts ps : List ℕ) (a : indexRefusal s ≡ Accepted) (g : wordsGood (
     rise =
         rw (part-bound 0 (words-parts (indexT s) ts g .0), placed-lists) at
         (placed-rise s ps (length ts) pages-places pages-alike);
-    rule =
+    rule = λ b n.
         rw (part-bound 0 (words-parts (indexT s) ts g .0), placed-lists) at
-        (opened-common s ps (length ts) pages-places pages-alike r o);
+        (opened-common s ps (length ts) pages-places pages-alike r o b n);
   }
 
 -- ---- the pages opened
@@ -98,10 +98,16 @@ module _ (s ts r : List ℕ) (o : OpenedPages s ts r) where
   pub opened-some : 0 < length (listsIn s ts)
   opened-some = rw (length-lists s ts) (o .lists .some)
 
+  pub opened-whole : wholeIn s r (length ts) ≡ common (indexN s) (listsIn s ts)
+  unfolding common
+  opened-whole =
+      o .rule 0 (length (getD (allPages s r (length ts)) 0 []) + 1)
+      ∙ ap (λ (ls : List (List ℕ)). commonFrom (indexN s) (listsIn s ts) 0 (length (getD ls 0 []) + 1)) (o .pages)
+
   -- plain reading lists the same pages
   pub opened-listed : wholeIn s r (length ts) .listed ≡ commonPages (listsIn s ts)
   opened-listed =
-      ap (λ (t : Tally). t .listed) (o .rule) ∙ common-listed (indexN s) (listsIn s ts) opened-some (o .rise)
+      ap (λ (t : Tally). t .listed) opened-whole ∙ common-listed (indexN s) (listsIn s ts) opened-some (o .rise)
 
   module _ (lead : ℕ) (e : lead ≡ leadOf (listsIn s ts)) where
     pub lead-within : lead < length ts

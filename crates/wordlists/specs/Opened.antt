@@ -7,11 +7,11 @@ use mathlib.Core.List.{List, _∷_}
 use Prim.Native.Nat.{ℕ}
 use lib.ListN.{length}
 use Rattle.rules.specs.Index.{indexN}
-use Rattle.rules.specs.Common.{common}
+use Rattle.rules.specs.Common.{leadPages, otherPages, commonFrom}
 use Rattle.rules.specs.Questions.{listsIn}
-use Rattle.commonlaws.specs.Readers.{Rise, leadPages, otherPages}
+use Rattle.commonlaws.specs.Readers.{Rise}
 use Rattle.querylaws.specs.Lists.{pagesIn, boundIn, Lists}
-use Rattle.querylaws.specs.Listings.{wholeIn}
+use Rattle.querylaws.specs.Listings.{ruleIn}
 
 pub record OpenedPages (s ts r : List ℕ) : Type 0 where
   pub room : length r ≡ 64
@@ -19,4 +19,4 @@ pub record OpenedPages (s ts r : List ℕ) : Type 0 where
   pub pages : pagesIn s r (length ts) ≡ leadPages (listsIn s ts) ∷ otherPages (listsIn s ts)
   pub bound : boundIn r ≡ indexN s
   pub rise : Rise (indexN s) (listsIn s ts)
-  pub rule : wholeIn s r (length ts) ≡ common (indexN s) (listsIn s ts)
+  pub rule : (b n : ℕ) → ruleIn s r (length ts) b n ≡ commonFrom (indexN s) (listsIn s ts) b n

@@ -212,7 +212,8 @@ pub fn nearly(random: &mut Random, before: &[u32], pages: u32) -> Vec<u32> {
     on
 }
 
-fn of_run_ends(random: &mut Random) -> Card {
+/// A card around lists whose last pointer is the run's end.
+pub fn of_run_ends(random: &mut Random) -> Card {
     let width = random.from_to(1, 5);
     let whole = (256 * random.from_to(1, 3)) << width;
     run_ends(random, width, whole)

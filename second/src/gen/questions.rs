@@ -125,7 +125,8 @@ fn any_rank(random: &mut Random, card: &Card, term: u32) -> u32 {
     }
 }
 
-fn any_bound(random: &mut Random, card: &Card, term: u32) -> u32 {
+/// A bound at or around a page of a word, at the ends, or anywhere.
+pub fn any_bound(random: &mut Random, card: &Card, term: u32) -> u32 {
     let pages = &card.words[term as usize].pages;
     let page = match pages.is_empty() {
         true => 0,
@@ -140,7 +141,8 @@ fn any_bound(random: &mut Random, card: &Card, term: u32) -> u32 {
     }
 }
 
-fn terms(random: &mut Random, card: &Card) -> Vec<u32> {
+/// One to eight words of a card that has some.
+pub fn terms(random: &mut Random, card: &Card) -> Vec<u32> {
     let most = random.pick(&[2, 3, 8]);
     (0..random.from_to(1, most))
         .map(|_| any_term(random, card))

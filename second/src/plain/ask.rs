@@ -3,8 +3,8 @@
 use super::form::{all_questions, Question};
 use super::index::check_index;
 use super::list::List;
+use super::meeting::meet;
 use super::refusal;
-use super::seek::{seek, Cursor};
 use super::term::Term;
 
 /// What asking gives: the refusal or 0, and each whole answer that fitted.
@@ -108,89 +108,9 @@ fn at_bound(pages: &List, bound: u32) -> Vec<u32> {
 
 /// Seeks, looks, then the common pages.
 fn common(terms: &[&Term]) -> Vec<u32> {
-    let mut lists: Vec<&List> = terms.iter().map(|term| &term.pages).collect();
-    let shortest = lists.iter().map(|list| list.elements.len()).min();
-    let lead = lists
-        .iter()
-        .position(|list| Some(list.elements.len()) == shortest);
-    let lead = lists.remove(lead.expect("a question has a word"));
-    let mut meeting = Meeting {
-        lead: Seeker::on(lead),
-        others: lists.into_iter().map(Seeker::on).collect(),
-        seeks: 0,
-        looks: 0,
-    };
-    let pages = meeting.common_pages();
-    [vec![meeting.seeks, meeting.looks], pages].concat()
-}
-
-/// A list with the cursor that seeks on it.
-struct Seeker<'a> {
-    list: &'a List,
-    cursor: Cursor,
-}
-
-impl<'a> Seeker<'a> {
-    fn on(list: &'a List) -> Seeker<'a> {
-        Seeker {
-            list,
-            cursor: Cursor::Fresh,
-        }
-    }
-}
-
-/// The lead and the others on their way through common pages.
-struct Meeting<'a> {
-    lead: Seeker<'a>,
-    others: Vec<Seeker<'a>>,
-    seeks: u32,
-    looks: u32,
-}
-
-/// What the others answer when each is sought for the lead's page.
-enum Round {
-    AllThere,
-    Ahead(u32),
-    OneSpent,
-}
-
-impl Meeting<'_> {
-    fn common_pages(&mut self) -> Vec<u32> {
-        let mut pages = Vec::new();
-        let mut wanted = 0;
-        while let Some(page) = self.seek_lead(wanted) {
-            match self.seek_others(page) {
-                Round::AllThere => {
-                    pages.push(page);
-                    wanted = page + 1;
-                }
-                Round::Ahead(further) => wanted = further,
-                Round::OneSpent => break,
-            }
-        }
-        pages
-    }
-
-    fn seek_lead(&mut self, wanted: u32) -> Option<u32> {
-        let (found, looks) = seek(self.lead.list, &mut self.lead.cursor, wanted);
-        self.seeks += 1;
-        self.looks += looks;
-        found
-    }
-
-    fn seek_others(&mut self, page: u32) -> Round {
-        for other in &mut self.others {
-            let (found, looks) = seek(other.list, &mut other.cursor, page);
-            self.seeks += 1;
-            self.looks += looks;
-            match found {
-                None => return Round::OneSpent,
-                Some(further) if further > page => return Round::Ahead(further),
-                Some(_) => {}
-            }
-        }
-        Round::AllThere
-    }
+    let lists = terms.iter().map(|term| &term.pages).collect();
+    let met = meet(lists, 0, usize::MAX);
+    [vec![met.seeks, met.looks], met.pages].concat()
 }
 
 /// Each page with a start, and the number of its starts.

@@ -8,7 +8,7 @@ use super::{refusal, GREATEST_BOUND};
 pub const LIST_HEADER: usize = 13;
 
 /// The zeros of the upper run from one pointer to the next.
-const ZEROS_PER_POINTER: usize = 256;
+pub const ZEROS_PER_POINTER: usize = 256;
 
 /// Strictly increasing numbers, each below the bound U.
 #[derive(Clone, Debug, PartialEq, Eq)]

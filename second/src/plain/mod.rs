@@ -7,7 +7,9 @@ pub mod bytes;
 pub mod form;
 pub mod index;
 pub mod list;
+pub mod meeting;
 pub mod program;
+pub mod screen;
 pub mod seek;
 pub mod stream;
 pub mod term;
@@ -20,6 +22,9 @@ pub const GREATEST_TERMS: u32 = 4_096;
 
 /// The greatest number of words in a question.
 pub const GREATEST_WORDS: usize = 8;
+
+/// The greatest number of pages that a screen can be asked for.
+pub const GREATEST_SCREEN: u32 = 64;
 
 /// The greatest offset of a word in a phrase.
 pub const GREATEST_OFFSET: u32 = 255;

@@ -21,11 +21,7 @@ pub fn write_answer(question: &Question, answer: Answer, out: &mut dyn Write) ->
                 looks,
                 pages,
             },
-        ) => {
-            write_pages(pages, out)?;
-            let seeks = counted(seeks as usize, "seek");
-            writeln!(out, " ({seeks}, {})", counted(looks as usize, "look"))
-        }
+        ) => write_common(pages, [seeks, looks], out),
         (Question::Phrase(_), Answer::Phrase(starts)) => write_starts(starts, out),
         _ => unreachable!("an answer is of its question's kind"),
     }
@@ -43,6 +39,14 @@ fn bound_text(bound: u32, page: Option<u32>, below: u32) -> String {
         (None, 0) => "no page; the word is on none".into(),
         (None, _) => format!("no page; {below_text}"),
     }
+}
+
+/// Prints common pages, and the seeks and looks that finding them took, to the end of the line.
+pub fn write_common(pages: &[u32], counts: [u32; 2], out: &mut dyn Write) -> io::Result<()> {
+    write_pages(pages, out)?;
+    let [seeks, looks] = counts.map(|count| count as usize);
+    let (seeks, looks) = (counted(seeks, "seek"), counted(looks, "look"));
+    writeln!(out, " ({seeks}, {looks})")
 }
 
 fn write_pages(pages: &[u32], out: &mut dyn Write) -> io::Result<()> {

@@ -9,15 +9,13 @@ use jundefola::{ask_all, question_numbers, CardWriter, Question, Refusal};
 
 use crate::answers::write_answer;
 use crate::card;
-use crate::check::{header_is_sound, told};
+use crate::check::told;
 use crate::files;
 use crate::listing::content_lines;
-use crate::names::Names;
+use crate::names::{Names, NAMES_OPTION};
+use crate::options::split_option;
 use crate::problem::Problem;
 use crate::questions::{is_kind, parse_question, question_text};
-
-/// The option that is followed by a listing with the words' names.
-const NAMES_OPTION: &str = "--names";
 
 /// Questions, where each was asked, and the names that they may use.
 struct Batch {
@@ -28,11 +26,12 @@ struct Batch {
 
 /// Prints the answers to all questions, one a line; with no question among the arguments, standard input is read.
 pub fn ask(arguments: &[OsString], out: &mut dyn Write) -> Result<(), Problem> {
-    let (listing, arguments) = split_option(arguments)?;
+    let arguments: Vec<&OsString> = arguments.iter().collect();
+    let (listing, arguments) = split_option(&arguments, NAMES_OPTION)?;
     let (file, questions) = arguments.split_first().ok_or(Problem::Usage)?;
     let file = Path::new(file);
     let card = files::read(file)?;
-    let names = listing.map(|listing| fitting_names(listing, file, &card));
+    let names = listing.map(|listing| Names::read_for(file, &card, Path::new(listing)));
     let mut batch = Batch::new(names.transpose()?);
     if questions.is_empty() {
         batch.add_input()?;
@@ -48,28 +47,6 @@ pub fn ask(arguments: &[OsString], out: &mut dyn Write) -> Result<(), Problem> {
         write_answer(question, answer, out)?;
     }
     Ok(())
-}
-
-/// The listing behind the option, where it is given, and the arguments without both.
-fn split_option(arguments: &[OsString]) -> Result<(Option<&Path>, Vec<&OsString>), Problem> {
-    let parts: Vec<&[OsString]> = arguments.split(|word| word == NAMES_OPTION).collect();
-    match parts[..] {
-        [all] => Ok((None, all.iter().collect())),
-        [before, [listing, behind @ ..]] => {
-            let others = before.iter().chain(behind).collect();
-            Ok((Some(Path::new(listing)), others))
-        }
-        _ => Err(Problem::Usage),
-    }
-}
-
-/// The names in a listing that has as many words and pages as the card; a card without a sound header is refused later.
-fn fitting_names(listing: &Path, file: &Path, card: &[u8]) -> Result<Names, Problem> {
-    let names = Names::read(listing)?;
-    if header_is_sound(card) {
-        names.check_fit(card, file)?;
-    }
-    Ok(names)
 }
 
 impl Batch {
@@ -203,28 +180,5 @@ mod tests {
         assert_eq!(halved, ["phrase rail common"]);
         let unknown = split(&["rank rail 0", "find 3"], Some(&names));
         assert_eq!(unknown, ["rank rail 0", "find 3"]);
-    }
-
-    #[test]
-    fn the_option_stands_anywhere_and_once() {
-        let arguments =
-            |words: &str| -> Vec<OsString> { words.split(' ').map(From::from).collect() };
-        for words in [
-            "--names l card rank",
-            "card --names l rank",
-            "card rank --names l",
-        ] {
-            let arguments = arguments(words);
-            let (listing, others) = split_option(&arguments).ok().unwrap();
-            assert_eq!(listing, Some(Path::new("l")));
-            assert_eq!(others, ["card", "rank"]);
-        }
-        assert!(split_option(&arguments("card")).is_ok_and(|(listing, _)| listing.is_none()));
-        for words in ["card --names", "--names l --names l card"] {
-            assert!(matches!(
-                split_option(&arguments(words)),
-                Err(Problem::Usage)
-            ));
-        }
     }
 }

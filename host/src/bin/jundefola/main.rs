@@ -10,8 +10,10 @@ mod listing;
 mod make;
 mod names;
 mod numbers;
+mod options;
 mod problem;
 mod questions;
+mod screens;
 mod show;
 mod word;
 
@@ -28,8 +30,11 @@ usage: jundefola make LISTING CARD      make a card from a listing
        jundefola check CARD             say whether a card is accepted, or what is refused and where
        jundefola show CARD              print a card as a listing
        jundefola ask CARD [QUESTION..]  answer questions, or those on standard input, one a line
-       jundefola ask --names LISTING CARD [QUESTION..]
-                                        the same, with the words' names in that listing
+       jundefola screens CARD TERM..    show the pages that have all the terms, one screen at a time
+
+Options: --names LISTING  with ask and screens: the words' names are those in that listing
+         --rows ROWS      with screens: so many pages on a screen, 1 to 64; without it 10
+         --from PAGE      with screens: only pages at or above that page
 
 A listing is a line `pages N`, then a line for each word: NAME page:position,position page:position ..
 The name may be left out; it has a letter and no colon, and no two are the same. A line without postings is a word on no
@@ -64,6 +69,7 @@ fn run(arguments: &[OsString], out: &mut dyn Write) -> Result<(), Problem> {
         (Some("check"), [card]) => check::check(Path::new(card), out),
         (Some("show"), [card]) => show::show(Path::new(card), out),
         (Some("ask"), rest) => ask::ask(rest, out),
+        (Some("screens"), rest) => screens::screens(rest, out),
         (Some("help" | "--help" | "-h"), []) => Ok(out.write_all(USAGE.as_bytes())?),
         _ => Err(Problem::Usage),
     }

@@ -4,10 +4,14 @@ use std::collections::HashMap;
 use std::path::{Path, PathBuf};
 
 use crate::card;
+use crate::check::header_is_sound;
 use crate::files;
 use crate::listing::Listing;
 use crate::numbers::counted;
 use crate::problem::Problem;
+
+/// The option that is followed by a listing with the words' names.
+pub const NAMES_OPTION: &str = "--names";
 
 /// The names of a listing's words.
 #[derive(Debug)]
@@ -19,10 +23,15 @@ pub struct Names {
 }
 
 impl Names {
-    /// The names in a listing.
-    pub fn read(file: &Path) -> Result<Names, Problem> {
-        let text = files::read_text(file)?;
-        Ok(Names::of(&Listing::parse(file, &text)?))
+    /// The names in a listing that has as many words and pages as the card of a file; a card without a sound header is
+    /// refused later.
+    pub fn read_for(file: &Path, card: &[u8], listing: &Path) -> Result<Names, Problem> {
+        let text = files::read_text(listing)?;
+        let names = Names::of(&Listing::parse(listing, &text)?);
+        if header_is_sound(card) {
+            names.check_fit(card, file)?;
+        }
+        Ok(names)
     }
 
     fn of(listing: &Listing) -> Names {
@@ -39,7 +48,7 @@ impl Names {
     }
 
     /// Refuses a listing that has not as many words and pages as the card, which has its header.
-    pub fn check_fit(&self, card: &[u8], file: &Path) -> Result<(), Problem> {
+    fn check_fit(&self, card: &[u8], file: &Path) -> Result<(), Problem> {
         let here = (self.names.len(), self.pages);
         let there = (card::term_count(card).into(), card::pages(card));
         if here == there {

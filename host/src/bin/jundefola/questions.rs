@@ -37,7 +37,8 @@ pub fn parse_question(words: &[&str], names: Option<&Names>) -> Result<Question,
     }
 }
 
-fn terms(operands: &[&str], names: Option<&Names>) -> Result<Vec<u32>, String> {
+/// The numbers of the terms that these words give, by number or by name.
+pub fn terms(operands: &[&str], names: Option<&Names>) -> Result<Vec<u32>, String> {
     operands.iter().map(|text| term(text, names)).collect()
 }
 
@@ -82,10 +83,7 @@ pub fn question_text(question: &Question, names: Option<&Names>) -> String {
     match question {
         Question::Rank { term, rank } => format!("rank {} {rank}", term_text(*term, names)),
         Question::Bound { term, bound } => format!("at {} {bound}", term_text(*term, names)),
-        Question::Common(terms) => {
-            let words = terms.iter().map(|&term| term_text(term, names));
-            joined("common", words)
-        }
+        Question::Common(terms) => terms_text("common", terms, names),
         Question::Phrase(words) => {
             let words = words
                 .iter()
@@ -93,6 +91,11 @@ pub fn question_text(question: &Question, names: Option<&Names>) -> String {
             joined("phrase", with_dropped(words))
         }
     }
+}
+
+/// What is asked, and behind it the terms, by name where they have one.
+pub fn terms_text(asked: &str, terms: &[u32], names: Option<&Names>) -> String {
+    joined(asked, terms.iter().map(|&term| term_text(term, names)))
 }
 
 fn joined(kind: &str, words: impl Iterator<Item = String>) -> String {
