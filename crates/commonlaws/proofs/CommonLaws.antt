@@ -1,18 +1,19 @@
 -- Common pages: the step rule's pages are those of plain reading whichever list leads, its seeks are
 -- at most k * m + 1, and its looks at most its seeks and the words of the lists' upper runs.
-use mathlib.Core.Bool.{Bool, true, false, _&&_, false≢true, and-false}
+use mathlib.Core.Bool.{Bool, true, false, _&&_, false≢true, and-false, or-true}
 use mathlib.Core.Path.{_≡_, refl, sym, ap, ap₂, _∙_}
 use mathlib.Core.List.{List, [], _∷_}
-use Prim.Native.Nat.{ℕ, _+_, _*_, _≤_, _<_}
+use Prim.Native.Nat.{ℕ, suc, _+_, _*_, _≤_, _<_}
 use native.Mathlib.Nat.{mul-le-mul-left, le-trans}
 use native.Mathlib.Decide.{ℕ-discrete}
 use native.Mathlib.Omega.{arith}
 use borrow.Author.Tests.{le-leb, lt-ltb}
+use lib.Dec.{eqb}
 use lib.ListN.{length, getD, take}
 use lib.Seq.{take-all}
 use Rattle.rules.specs.List.{rising}
-use Rattle.rules.specs.Seek.{fresh}
-use Rattle.rules.specs.Common.{readersOf, leadPages, otherPages, commonFrom, common}
+use Rattle.rules.specs.Seek.{fresh, none, Sought, gone, move, seek}
+use Rattle.rules.specs.Common.{readersOf, counted, nothing, rounds, leadPages, otherPages, commonFrom, common}
 use Rattle.rules.specs.Plain.{atLeast, member, inAll, sharedBy, commonPages}
 use Rattle.listlaws.proofs.RisingLaws.{rising-parts}
 use Rattle.seeklaws.proofs.SeekLaws.{behind-fresh}
@@ -135,6 +136,22 @@ pub common-from : (U : ℕ) (ls : List (List ℕ)) (b r : ℕ)
     → commonFrom U ls b r ≡ roundsTo U (freshLead ls) (freshOthers ls) b r
 unfolding commonFrom roundsTo freshLead freshOthers
 common-from U ls b r = refl
+
+seek-past : (U : ℕ) (xs : List ℕ) (b : ℕ) → U ≤ b → seek U xs fresh b ≡ gone xs 0
+unfolding seek move
+seek-past U xs b h = rw (le-leb U b h, or-true (eqb (length xs) 0))
+
+-- from U on there is one seek, with no looks
+pub past-all : (U : ℕ) (ls : List (List ℕ)) (b n : ℕ) → U ≤ b
+    → commonFrom U ls b (suc n) ≡ record { seeks = 1; looks = 0; listed = [] }
+unfolding commonFrom rounds counted nothing gone
+past-all U ls b n h =
+    let m : ℕ = length (leadPages ls) in
+    let e : m + 1 ≡ suc m = omega arith in
+    let s = seek-past U (leadPages ls) b h in
+    let f : seek U (leadPages ls) fresh b .found ≡ none m = ap (λ (x : Sought). x .found) s in
+    let l : seek U (leadPages ls) fresh b .looks ≡ 0 = ap (λ (x : Sought). x .looks) s in
+    rw (e, rounds, f, rounds) (ap (λ (k : ℕ). counted 1 k [] nothing) l)
 
 -- ---- the rule on the lists ls, from a bound on until r pages are listed
 

@@ -5,12 +5,12 @@ use mathlib.Core.List.{List, [], _∷_, _++_}
 use Prim.Native.Nat.{ℕ, zero, suc, _+_, _≤_, _<_}
 use native.Mathlib.Decide.{decLe, decLt, ℕ-discrete}
 use native.Mathlib.Omega.{arith}
-use borrow.Author.Tests.{le-leb, lt-leb, eq-eqb, ne-eqb}
-use lib.ListN.{length, getD}
+use borrow.Author.Tests.{le-leb, lt-leb, lt-ltb, eq-eqb, ne-eqb}
+use lib.ListN.{length, getD, drop}
 use Rattle.rules.specs.List.{rising}
 use Rattle.rules.specs.Seek.{none, page}
 use Rattle.rules.specs.Plain.{firstFrom, atLeast, member, inAll, sharedBy}
-use Rattle.listlaws.proofs.RisingLaws.{rising-parts}
+use Rattle.listlaws.proofs.RisingLaws.{rising-parts, rising-at}
 use Rattle.seeklaws.specs.Cursors.{firstAt}
 use Rattle.seeklaws.proofs.FirstLaws.{rising-lt, firstAt-here, firstAt-past, firstAt-le, firstAt-before}
 use Rattle.seeklaws.proofs.FirstLaws.{firstAt-at, first-found, foundAt-none, foundAt-page}
@@ -142,23 +142,44 @@ from-le b (x ∷ xs) =
       | no l ↦ rw (from-past b x xs (omega arith)) (omega (arith, from-le b xs))
     ]
 
-pub from-below : (lo U : ℕ) (xs : List ℕ) → rising lo U xs ≡ true → (b i : ℕ) → i < length (atLeast b xs)
-    → getD (atLeast b xs) i 0 < U
-unfolding atLeast
-from-below lo U [] r b i h = absurd (omega arith)
-from-below lo U (x ∷ xs) r b i h =
+-- those of a rising list rise from b on
+pub from-rises : (lo U : ℕ) (xs : List ℕ) → rising lo U xs ≡ true → (b : ℕ) → rising b U (atLeast b xs) ≡ true
+unfolding atLeast rising
+from-rises lo U [] r b = refl
+from-rises lo U (x ∷ xs) r b =
     let t = rising-parts lo U x xs r in
     elim (decLe b x) [
-      | yes l ↦ rw (from-here b x xs l) (front i (rw (from-here b x xs l) at h) (t .1) (from-below (x + 1) U xs (t .2) b))
-      | no l ↦
-          let e = from-past b x xs (omega arith) in
-          rw e (from-below (x + 1) U xs (t .2) b i (rw e at h))
+      | yes l ↦
+          rw (from-here b x xs l, from-all (x + 1) U xs (t .2) b (omega arith), le-leb b x l, lt-ltb x U (t .1)) (t .2)
+      | no l ↦ rw (from-past b x xs (omega arith)) (from-rises (x + 1) U xs (t .2) b)
     ]
-  where
-    front : (i : ℕ) → i < length (x ∷ atLeast b xs) → x < U
-        → ((i : ℕ) → i < length (atLeast b xs) → getD (atLeast b xs) i 0 < U) → getD (x ∷ atLeast b xs) i 0 < U
-    front zero h l ih = l
-    front (suc i) h l ih = ih i (omega (arith, h))
+
+-- those from d on are among those from b on
+pub from-from : (b d : ℕ) (xs : List ℕ) → b ≤ d → atLeast d (atLeast b xs) ≡ atLeast d xs
+unfolding atLeast
+from-from b d [] h = refl
+from-from b d (x ∷ xs) h =
+    let ih = from-from b d xs h in
+    elim (decLe b x) [
+      | yes l ↦ elim (decLe d x) [
+        | yes m ↦
+            rw (from-here b x xs l, from-here d x (atLeast b xs) m, from-here d x xs m) (ap (λ (l : List ℕ). x ∷ l) ih)
+        | no m ↦
+            rw (from-here b x xs l, from-past d x (atLeast b xs) (omega arith), from-past d x xs (omega arith)) ih
+      ]
+      | no l ↦ rw (from-past b x xs (omega arith), from-past d x xs (omega arith)) ih
+    ]
+
+-- those behind the first n of a rising list are those above the last of them
+pub from-behind : (lo U : ℕ) (xs : List ℕ) → rising lo U xs ≡ true → (n : ℕ) → n < length xs
+    → atLeast (getD xs n 0 + 1) xs ≡ drop (suc n) xs
+from-behind lo U [] r n h = absurd (omega arith)
+from-behind lo U (x ∷ xs) r zero h =
+    from-past (x + 1) x xs (omega arith) ∙ from-all (x + 1) U xs (rising-parts lo U x xs r .2) (x + 1) (omega arith)
+from-behind lo U (x ∷ xs) r (suc n) h =
+    let t = rising-parts lo U x xs r in
+    from-past (getD xs n 0 + 1) x xs (omega (arith, rising-at (x + 1) U xs (t .2) n (omega arith) .0))
+    ∙ from-behind (x + 1) U xs (t .2) n (omega arith)
 
 pub from-mono : (b d : ℕ) (xs : List ℕ) → b ≤ d → length (atLeast d xs) ≤ length (atLeast b xs)
 unfolding atLeast

@@ -16,7 +16,7 @@ use Rattle.rules.specs.List.{rising, zeros}
 use Rattle.rules.specs.Term.{Word}
 use Rattle.rules.specs.Index.{card, validCard, indexN, indexT, wordOf}
 use Rattle.rules.specs.Seek.{widthOf, bitsOf, upperWords}
-use Rattle.rules.specs.Common.{common}
+use Rattle.rules.specs.Common.{Tally, leadPages, commonFrom, common}
 use Rattle.rules.specs.Plain.{commonPages}
 use Rattle.rules.specs.Questions.{numbered, pagesIn, listsIn, wordsIn, byCommon, answer, allBelow, termsOf, phraseIn}
 use Rattle.rules.specs.Questions.{wordsGood, goodQuestion, replies}
@@ -70,7 +70,7 @@ module _ (N : ℕ) (ts : List Word) (v : validCard N ts ≡ true) where
       let p = below-front (length ts) t terms b in
       rw (holds-word t (p .0), holds-words terms (p .1))
 
-  holds-lists : (terms : List ℕ) → allBelow (length ts) terms ≡ true → listsIn (card N ts) terms ≡ pagesNamed ts terms
+  pub holds-lists : (terms : List ℕ) → allBelow (length ts) terms ≡ true → listsIn (card N ts) terms ≡ pagesNamed ts terms
   unfolding listsIn pagesNamed
   holds-lists [] b = refl
   holds-lists (t ∷ terms) b =
@@ -174,6 +174,11 @@ module _ (N : ℕ) (within : N ≤ limit) where
   runs-few [] r = omega arith
   runs-few (l ∷ ls) r = omega (arith, run-few l (r .0), runs-few ls (r .1))
 
+first-below : (ts : List Word) (ns : List ℕ) → 0 < length ns → allBelow (length ts) ns ≡ true
+    → getD ns 0 0 < length ts
+first-below ts [] h b = absurd (omega arith)
+first-below ts (t ∷ ns) h b = below-front (length ts) t ns b .0
+
 module _ (N : ℕ) (ts : List Word) (v : validCard N ts ≡ true) (terms : List ℕ) where
   abbrev lists : List (List ℕ)
   lists = pagesNamed ts terms
@@ -182,37 +187,59 @@ module _ (N : ℕ) (ts : List Word) (v : validCard N ts ≡ true) (terms : List 
     named-some : 0 < length lists
     named-some = rw (length-lists ts terms) some
 
+    named-rise : Rise N lists
+    named-rise = lists-rise N ts v terms below
+
     pub common-lists : common N lists .listed ≡ commonPages lists
-    common-lists = laws.common-listed N lists named-some (lists-rise N ts v terms below)
+    common-lists = laws.common-listed N lists named-some named-rise
+
+    pub common-rise : rising 0 N (commonPages lists) ≡ true
+    common-rise = laws.common-rises N lists named-some named-rise
+
+    -- ---- the counts of the rule from b on, until n pages are listed
+
+    module _ (b n : ℕ) where
+      abbrev tally : Tally
+      tally = commonFrom N lists b n
+
+      pub seeks-from : (j : ℕ) → j < length terms
+          → tally .seeks ≤ length terms * length (pagesAt ts (getD terms j 0)) + 1
+      seeks-from j h =
+          let l = length-lists ts terms in
+          let s = laws.from-seeks N lists named-some named-rise b n j (omega arith) in
+          rw (l, named-at ts terms j h) at s
+
+      pub looks-from : tally .looks ≤ tally .seeks + upperRuns N lists
+      looks-from = rw (upper-words N lists) (laws.from-looks N lists named-some named-rise b n)
+
+      pub fit-from : (tally .seeks < 2 ^ 32) × (tally .looks < 2 ^ 32)
+      fit-from =
+          let within = card-valid N ts v .within in
+          let pages = pagesAt ts (getD terms 0 0) in
+          let rise = pages-rise N ts v (getD terms 0 0) (first-below ts terms some below) in
+          let short : length pages ≤ limit = omega (arith, rising-length 0 N pages rise (omega arith)) in
+          let m : length terms * length pages ≤ length terms * limit = mul-le-mul-left (length terms) short in
+          let seeks : tally .seeks ≤ 134217729 = omega (arith, seeks-from 0 some, m) in
+          let runs = runs-few N within lists named-rise in
+          (omega arith, omega (arith, looks-from, length-lists ts terms))
+
+    -- ---- those of common pages
 
     pub seeks-most : (j : ℕ) → j < length terms
         → common N lists .seeks ≤ length terms * length (pagesAt ts (getD terms j 0)) + 1
-    seeks-most j h =
-        let l = length-lists ts terms in
-        let s = laws.common-seeks N lists named-some (lists-rise N ts v terms below) j (omega arith) in
-        rw (l, named-at ts terms j h) at s
+    unfolding common
+    seeks-most = seeks-from 0 (length (leadPages lists) + 1)
 
     -- one word, k times over
     pub seeks-same : (t : ℕ) → terms ≡ replicate (length terms) t
         → common N lists .seeks ≡ length terms * length (pagesAt ts t) + 1
     seeks-same t e =
-        let r = lists-rise N ts v terms below in
-        common-same N lists (pagesAt ts t) named-some r (named-same ts t terms e) ∙ rw (length-lists ts terms)
+        common-same N lists (pagesAt ts t) named-some named-rise (named-same ts t terms e) ∙ rw (length-lists ts terms)
 
     pub looks-most : common N lists .looks ≤ common N lists .seeks + upperRuns N lists
-    looks-most = rw (upper-words N lists) (laws.common-looks N lists named-some (lists-rise N ts v terms below))
+    unfolding common
+    looks-most = looks-from 0 (length (leadPages lists) + 1)
 
     pub counts-fit : (common N lists .seeks < 2 ^ 32) × (common N lists .looks < 2 ^ 32)
-    counts-fit =
-        let within = card-valid N ts v .within in
-        let pages = pagesAt ts (getD terms 0 0) in
-        let rise = pages-rise N ts v (getD terms 0 0) (first-below terms some below) in
-        let short : length pages ≤ limit = omega (arith, rising-length 0 N pages rise (omega arith)) in
-        let m : length terms * length pages ≤ length terms * limit = mul-le-mul-left (length terms) short in
-        let seeks : common N lists .seeks ≤ 134217729 = omega (arith, seeks-most 0 some, m) in
-        let runs = runs-few N within lists (lists-rise N ts v terms below) in
-        (omega arith, omega (arith, looks-most, length-lists ts terms))
-      where
-        first-below : (ns : List ℕ) → 0 < length ns → allBelow (length ts) ns ≡ true → getD ns 0 0 < length ts
-        first-below [] h b = absurd (omega arith)
-        first-below (t ∷ ns) h b = below-front (length ts) t ns b .0
+    unfolding common
+    counts-fit = fit-from 0 (length (leadPages lists) + 1)

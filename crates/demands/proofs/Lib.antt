@@ -12,9 +12,12 @@ pub mod StreamFaultLaws
 pub mod StreamLaws
 pub mod KeptLaws
 pub mod LedLaws
+pub mod ScreenLaws
 pub mod Demands
 pub mod Refusals
 pub mod StreamRefusals
 pub mod StreamSentences
+pub mod ScreenSentences
 pub mod Witnesses
 pub mod StreamWitnesses
+pub mod ScreenWitnesses

@@ -4,4 +4,5 @@ pub mod Faults
 pub mod BadQuestions
 pub mod Sentences
 pub mod Streams
+pub mod Screens
 pub mod StreamFaults

@@ -16,7 +16,8 @@ use Rattle.rules.specs.Plain.{atLeast, commonPages}
 use Rattle.rules.specs.Questions.{listsIn}
 use Rattle.rules.specs.Screen.{screenPages, screenCounts}
 use Rattle.cardlaws.proofs.PassedLaws.{accepted-passed}
-use Rattle.commonlaws.proofs.SharedLaws.{from-below}
+use Rattle.seeklaws.proofs.FirstLaws.{rising-below}
+use Rattle.commonlaws.proofs.SharedLaws.{from-rises}
 use Rattle.commonlaws.proofs.CommonLaws.{common-rises, from-listed}
 use Rattle.querylaws.specs.declared.Turn.{Turn}
 use Rattle.querylaws.specs.Queries.{newQuery, seeksOf, looksOf}
@@ -66,8 +67,8 @@ unfolding screenPages
 page-below s ts sh o b n i h =
     let all : List ℕ = atLeast b (commonPages (listsIn s ts)) in
     rw (getD-take n all i 0 (omega (arith, h, length-take n all)))
-    (from-below 0 (indexN s) (commonPages (listsIn s ts))
-    (common-rises (indexN s) (listsIn s ts) (opened-some s ts sh o) (o .rise)) b i (omega (arith, h, length-take n all)))
+    (rising-below b (indexN s) all (from-rises 0 (indexN s) (commonPages (listsIn s ts))
+    (common-rises (indexN s) (listsIn s ts) (opened-some s ts sh o) (o .rise)) b) i (omega (arith, h, length-take n all)))
 
 module _ (s ts sh : List ℕ) (a : indexRefusal s ≡ Accepted) (o : OpenedPages s ts sh) (b n : ℕ) (some : 0 < n)
     (list : List ℕ) (within : n ≤ length list) (r : Turn) (room′ : List ℕ)
