@@ -56,9 +56,9 @@ class Program:
         """Each call of a function's body, with the whole path of what is called."""
         return [(self.callee(function, call), call) for call in tree.every(tree.Call, function.body)]
 
-    def reached(self, root):
-        """The functions of the sources that a function calls, and those that they call, itself among them."""
-        found, todo = set(), [root]
+    def reached(self, *roots):
+        """The functions of the sources that functions call, and those that they call, themselves among them."""
+        found, todo = set(), list(roots)
         while todo:
             path = todo.pop()
             if path in self.functions and path not in found:

@@ -1,7 +1,7 @@
 """Sentences about counts and cursors in all crates: where they are made, moved, kept, summed up and told."""
 from reading import flow, tree
 from reading.compare import compared
-from sentences.names import FRESH, LOOK, LOOKING, LOOP, SEEK, SEEK_IN
+from sentences.names import FRESH, LOOK, LOOKING, LOOP, SCREEN, SEEK, SEEK_IN
 
 # every place at which a field `seeks` or `looks` is read or given
 COUNTS = {
@@ -9,6 +9,7 @@ COUNTS = {
     SEEK: ["c.looks", "seeks: c.seeks + 1", "c.seeks", "looks: looks"],
     "rows::totals": ["c.seeks", "c.looks", "seeks: seeks", "looks: looks"],
     "bycommon::put_common": ["listed.seeks", "listed.looks"],
+    "panel::put_screen": ["listed.seeks", "listed.looks"],
 }
 # the structs that hold counts
 COUNTING = ["walklaws::Cursor", "querylaws::Listed"]
@@ -26,16 +27,20 @@ CALLS = {
     LOOK: LOOKING,
     SEEK: [SEEK_IN],
     FRESH: ["querylaws::Query::new"],
-    "querylaws::Query::new": ["query::list_common", "kinds::by_bound", "pairs::list_starts"],
+    "querylaws::Query::new": ["query::list_common", "kinds::by_bound", "pairs::list_starts", SCREEN],
     SEEK_IN: [LOOP],
-    LOOP: ["query::list_common", "query::list_common", "kinds::by_bound", "pairs::list_starts"],  # kinds 3, 2 and 4
+    # kinds 3, 2 and 4, and a screen
+    LOOP: ["query::list_common", "query::list_common", "kinds::by_bound", "pairs::list_starts", SCREEN],
     "query::turn_of": [LOOP, LOOP],
-    "rows::totals": ["query::list_common"],
+    "rows::totals": ["query::list_common", SCREEN],
     # pages are counted first where the room may be too small for them
     "query::list_common": ["bycommon::by_common", "bycommon::put_common"],
     "bycommon::put_common": ["bycommon::by_common", "bycommon::by_common"],
     "bycommon::by_common": ["answer::answer_one"],
     "answer::answer_one": ["ask::answer_all"],
+    SCREEN: ["panel::screen"],
+    "panel::put_screen": ["panel::screen"],
+    "panel::screen": ["jundefola::jf_screen"],
 }
 # what `seek_in` is given and gives back: the query, and the cursor in hand; it is given no rank
 IN_HAND = ("q", "hand")

@@ -30,6 +30,8 @@ LOOP = "query::batch"
 # the way from the card's check to the kinds of questions, and those
 ANSWERS = ["ask::answer_all", "answer::answer_one"]
 KIND_3 = "bycommon::by_common"
+# what lists the pages of a screen
+SCREEN = "panel::list_from"
 KINDS = [KIND_3, "kinds::by_bound", "kinds::by_rank", "answer::by_phrase"]
 
 

@@ -1,9 +1,9 @@
-"""Sentences about the card's bytes on the way of kind 3: every place at which a byte of them is read."""
+"""Sentences about the card's bytes on the way of kind 3 and of a screen: every place at which a byte of them is read."""
 from typing import NamedTuple
 
 from reading import flow, tree
 from reading.compare import compared
-from sentences.names import ANSWERS, IS_TABLE, KIND_3, KINDS, LOOK, LOW_PART, PLACES, READING, RUN_WORD, TABLE
+from sentences.names import ANSWERS, IS_TABLE, KIND_3, KINDS, LOOK, LOW_PART, PLACES, READING, RUN_WORD, SCREEN, TABLE
 from sentences.written import WRITTEN
 
 
@@ -16,7 +16,7 @@ class Read(NamedTuple):
     asks: str = ""
 
 
-# every read of bytes that kind 3 reaches
+# every read of bytes that kind 3 or a screen reaches
 READS = {
     "numbers::read_u32": Read(["s[at]", "s[at + 1]", "s[at + 2]", "s[at + 3]"], "the bytes of a number"),
     "numbers::read_u64": Read(["read_u32(s, at)", "read_u32(s, at + 4)"], "the halves of a number"),
@@ -40,6 +40,11 @@ READS = {
 }
 
 
+def reached(program):
+    """The functions that kind 3 or a screen reaches."""
+    return program.reached(KIND_3, SCREEN)
+
+
 def card_goes_to_kinds(program):
     """Between the check of the card and the kinds of questions nothing is done with the card but hand it on."""
     for path in ANSWERS:
@@ -50,9 +55,9 @@ def card_goes_to_kinds(program):
 
 
 def bytes_are_followed(program):
-    """From kind 3 on, through all crates, bytes are cut, named, handed to functions of the crates and given back, and
-    nothing else is done with them but read them and take their length."""
-    for f in program.reached(KIND_3):
+    """From kind 3 and from a screen on, through all crates, bytes are cut, named, handed to functions of the crates and
+    given back, and nothing else is done with them but read them and take their length."""
+    for f in reached(program):
         held = flow.Bytes(program, f)
         for name in held.twice():
             yield f"{f.path}: the bytes {name} are bound more than once"
@@ -69,14 +74,14 @@ def reads_in(program, f):
 
 
 def reads_found(program):
-    """Every read of bytes that kind 3 reaches, in terms of what its function is given."""
+    """Every read of bytes that kind 3 or a screen reaches, in terms of what its function is given."""
     found = {f.path: [str(flow.followed(node, flow.named(f))) for node in reads_in(program, f)]
-             for f in program.reached(KIND_3)}
+             for f in reached(program)}
     return {path: texts for path, texts in found.items() if texts}
 
 
 def reads_where_named(program):
-    """From kind 3 on, through all crates, bytes are read only at the places of the table, by functions that ask of
+    """From kind 3 and from a screen on, through all crates, bytes are read only at the places of the table, by functions that ask of
     their callers what the table says."""
     yield from compared("it reads", reads_found(program), {path: read.texts for path, read in READS.items()})
     for path, read in READS.items():
@@ -87,7 +92,7 @@ def reads_where_named(program):
 def reads_settled(program):
     """Each of these reads is made once in a call and at a place that is settled by what its function is given; but for
     the walk over lengths, which stands as it is written in the test."""
-    for f in program.reached(KIND_3):
+    for f in reached(program):
         for node in reads_in(program, f):
             if f.path not in WRITTEN and not flow.settled(f, node):
                 yield f"{f.path}: `{node}` is in a loop, or its place can change"
@@ -111,7 +116,7 @@ def table_told(program):
 
 def tell(program):
     """Prints every read that was found, with what the table says of it."""
-    print(f"counts: kind 3 reaches {len(program.reached(KIND_3))} functions, and bytes are read in these alone:")
+    print(f"counts: kind 3 and screens reach {len(reached(program))} functions, and bytes are read in these alone:")
     for path, texts in reads_found(program).items():
         what = READS[path].what if path in READS else "not in the table"
         print(f"counts:   {path}: {', '.join(texts)}: {what}")

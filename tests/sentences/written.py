@@ -64,7 +64,32 @@ pub fn by_common(table: &Table, card: &[u8], terms: &[u32], room: &mut [u32]) ->
     put_common(table, card, &shapes, k, room)
 }
 """
-# the one loop besides the seek's in which kind 3 reads bytes: from block to block, by their lengths
+# how a screen lists its pages, and tells them
+SHOWN = """
+fn list_from(card: &[u8], words: &[u32], bound: usize, size: usize, list: &mut [u32]) -> Listed {
+    let mut shapes = [0u32; 64];
+    wordlists::open_pages(card, words, &mut shapes);
+    let table = bytetable::places();
+    let room = &mut list[0..size];
+    let turn = query::batch(&table, card, &shapes, Query::new(), words.len(), bound, room);
+    rows::totals(turn.q, turn.found)
+}
+fn put_screen(r: u32, list: &[u32], listed: Listed, pages: &mut [u32], counts: &mut [u32]) -> Screened {
+    let found = listed.found;
+    if pages.len() < found {
+        return refused(Refusal::Room);
+    }
+    if replies::put(&[listed.seeks, listed.looks], counts) == 0 {
+        return refused(Refusal::Room);
+    }
+    if found == 0 {
+        return shown(r, list, found);
+    }
+    replies::put(&list[0..found], pages);
+    shown(r, list, found)
+}
+"""
+# the one loop besides the seek's in which kind 3 or a screen reads bytes: from block to block, by their lengths
 WALK = """
 pub fn blocks_from(s: &[u8], from: usize, k: usize) -> &[u8] {
     let mut rest = &s[from..];
@@ -77,8 +102,8 @@ pub fn blocks_from(s: &[u8], from: usize, k: usize) -> &[u8] {
     rest
 }
 """
-WRITTEN = {f.path: f for crate, text in [("looks", LOOK), ("rows", SUMS), ("query", PAGES), ("bycommon", TOLD), ("parts", WALK)]
-           for f in read(crate, text).functions.values()}
+TEXTS = {"looks": LOOK, "rows": SUMS, "query": PAGES, "bycommon": TOLD, "panel": SHOWN, "parts": WALK}
+WRITTEN = {f.path: f for crate, text in TEXTS.items() for f in read(crate, text).functions.values()}
 
 
 def stands_as_written(program):
