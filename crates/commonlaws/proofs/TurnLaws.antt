@@ -123,7 +123,8 @@ module _ (U b : ℕ) (lead : Reader) (others : List Reader) where
       page-goes agreed s = record {
         first = own;
         shared = rw begins
-            (shared-yes (pagesOf others) c (atLeast (c + 1) (lead .pages)) (rw (m .pages) at (all-hold c (n .readers) s)));
+            (shared-yes (pagesOf others) c (atLeast (c + 1) (lead .pages))
+            (rw (m .pages) at (all-hold c (n .readers) s)));
         few = rw begins (omega (arith, m .seeks));
         fewer = rw begins (omega arith);
         later = sought-least U b lead k c i e;

@@ -70,7 +70,8 @@ module _ (N : ℕ) (ts : List Word) (v : validCard N ts ≡ true) where
       let p = below-front (length ts) t terms b in
       rw (holds-word t (p .0), holds-words terms (p .1))
 
-  pub holds-lists : (terms : List ℕ) → allBelow (length ts) terms ≡ true → listsIn (card N ts) terms ≡ pagesNamed ts terms
+  pub holds-lists : (terms : List ℕ) → allBelow (length ts) terms ≡ true
+      → listsIn (card N ts) terms ≡ pagesNamed ts terms
   unfolding listsIn pagesNamed
   holds-lists [] b = refl
   holds-lists (t ∷ terms) b =

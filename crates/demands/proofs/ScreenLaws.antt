@@ -1,16 +1,14 @@
 -- A screen by the definitions: the first of its sentences that holds, the ways that it ends, and the pages of screens
 -- that are taken one after the other.
-use mathlib.Core.Bool.{Bool, true, false, cond, not, _&&_, _||_, false≢true, true≢false}
-use mathlib.Core.Logic.{_⊎_, inl, inr}
+use mathlib.Core.Bool.{Bool, true, false, cond, not, _&&_, _||_, false≢true}
 use mathlib.Core.Path.{_≡_, refl, sym, ap, _∙_}
-use mathlib.Core.List.{List, [], _∷_, _++_}
-use Prim.Native.Nat.{ℕ, zero, suc, _+_, _-_, _≤_, _<_}
-use native.Mathlib.Decide.{decLt, ℕ-discrete}
+use mathlib.Core.List.{List, _∷_, _++_}
+use Prim.Native.Nat.{ℕ, suc, _+_, _-_, _≤_, _<_}
 use native.Mathlib.Omega.{arith}
-use borrow.Author.Tests.{ltb-false, leb-true, leb-false, le-ltb, le-leb, eq-eqb, ne-eqb}
+use borrow.Author.Tests.{ltb-false, leb-true, leb-false, le-ltb, le-leb}
 use lib.Dec.{ltb, leb}
 use lib.ListN.{length, getD, take, drop, length-take, take-append-drop}
-use lib.Seq.{getD-take, take-all, length-take-le}
+use lib.Seq.{getD-take, take-all}
 use Rattle.rules.specs.declared.Refusal.{Refusal}
 use Rattle.rules.specs.declared.Refusal.the-variants.{Accepted, Question, Room}
 use Rattle.rules.specs.Refusal.{number, accepted, andThen}
@@ -18,10 +16,10 @@ use Rattle.rules.specs.Limits.{phraseLimit, screenLimit}
 use Rattle.rules.specs.List.{rising}
 use Rattle.rules.specs.Write.{laid}
 use Rattle.rules.specs.Index.{indexN, indexT, indexRefusal}
-use Rattle.rules.specs.Plain.{atLeast, commonPages}
+use Rattle.rules.specs.Plain.{atLeast}
 use Rattle.rules.specs.Questions.{listsIn, allBelow, wordsGood}
 use Rattle.rules.specs.Screen.{screenGood, screenPages, screenCounts, isFull, Screening, unshown, showing, screen}
-use Rattle.laws.proofs.RefusalLaws.{accepted-true, true-accepted, or-parts}
+use Rattle.laws.proofs.RefusalLaws.{accepted-true, true-accepted}
 use Rattle.listlaws.proofs.RisingLaws.{rising-at}
 use Rattle.commonlaws.proofs.SharedLaws.{from-rises, from-from, from-behind}
 use Rattle.demands.specs.Sentences.{Sentence, _when_, First, indexSentences}

@@ -7,7 +7,7 @@ use mathlib.Core.Path.{_≡_, refl, sym, ap, _∙_}
 use mathlib.Core.List.{List, [], _∷_, _++_, append-assoc, append-nil}
 use Prim.Native.Nat.{ℕ, suc, _+_, _-_, _*_, _^_, _≤_, _<_}
 use native.Mathlib.Omega.{arith}
-use borrow.Author.Tests.{eqb-true, eqb-false, le-leb}
+use borrow.Author.Tests.{eqb-true, eqb-false}
 use lib.ListN.{length, getD, take, drop, length-append, length-take}
 use lib.Seq.{take-at, take-nil}
 use Rattle.rules.specs.declared.Refusal.the-variants.{Accepted}
@@ -16,7 +16,7 @@ use Rattle.rules.specs.Limits.{screenLimit}
 use Rattle.rules.specs.List.{rising}
 use Rattle.rules.specs.Write.{laid}
 use Rattle.rules.specs.Term.{Word}
-use Rattle.rules.specs.Index.{card, validCard, indexN, indexT, indexRefusal}
+use Rattle.rules.specs.Index.{card, validCard, indexN, indexT}
 use Rattle.rules.specs.Common.{commonFrom}
 use Rattle.rules.specs.Plain.{atLeast, commonPages}
 use Rattle.rules.specs.Questions.{listsIn, allBelow}
@@ -32,8 +32,10 @@ use Rattle.demands.specs.Asking.{pagesAt, pagesNamed, upperRuns}
 use Rattle.demands.specs.Sentences.{First}
 use Rattle.demands.specs.Screens.{screening, Unwritten, Fills, Falls, Shot, Took, shows, Full, shown}
 use Rattle.demands.proofs.WriteLaws.{number-le}
-use Rattle.demands.proofs.KindLaws.{states-N, states-T, holds-lists, common-rise, seeks-from, looks-from, fit-from}
-use Rattle.demands.proofs.ScreenLaws.{Passes, passes-whole, by-end, screen-first, good-screen, falls-all, fills-some}
+use Rattle.demands.proofs.KindLaws.{states-N, states-T, holds-lists, common-rise}
+use Rattle.demands.proofs.KindLaws.{seeks-from, looks-from, fit-from}
+use Rattle.demands.proofs.ScreenLaws.{Passes, passes-whole, by-end, screen-first, good-screen}
+use Rattle.demands.proofs.ScreenLaws.{falls-all, fills-some}
 use Rattle.demands.proofs.Demands.{by-common}
 
 -- ---- 1. its refusals
@@ -161,7 +163,8 @@ module _ (N : ℕ) (ts : List Word) (v : validCard N ts ≡ true)
         (z, t .0, t .1, t .2)
 
     -- They are the step rule's counts.
-    pub screen-counts : (getD counts′ 0 0 ≡ commonFrom N ls b r .seeks) × (getD counts′ 1 0 ≡ commonFrom N ls b r .looks)
+    pub screen-counts : (getD counts′ 0 0 ≡ commonFrom N ls b r .seeks)
+        × (getD counts′ 1 0 ≡ commonFrom N ls b r .looks)
     unfolding laid
     screen-counts = (
       ap (λ (l : List ℕ). getD l 0 0) (by-screen .2),
@@ -204,17 +207,18 @@ module _ (N : ℕ) (ts : List Word) (v : validCard N ts ≡ true)
     unfolding screenPages
     shot-pages =
         rw lists-are
-        at (screen-front (card N ts) b r terms (x .pages) (x .counts) (x .answer) (x .pages-after) (x .counts-after) (t .0)
-        (t .1))
+        at (screen-front (card N ts) b r terms (x .pages) (x .counts) (x .answer) (x .pages-after) (x .counts-after)
+        (t .0) (t .1))
 
     pub ends : Fills r here (x .answer) ⊎ Falls r here (x .answer)
     unfolding screenPages
     ends =
         rw lists-are
-        at (screen-full (card N ts) b r terms (x .pages) (x .counts) (x .answer) (x .pages-after) (x .counts-after) (t .0)
-        (t .1))
+        at (screen-full (card N ts) b r terms (x .pages) (x .counts) (x .answer) (x .pages-after) (x .counts-after)
+        (t .0) (t .1))
 
-    pub shot-full : x .answer .full ≡ 1 → (length (shows x) ≡ r) × (atLeast b C ≡ shows x ++ atLeast (x .answer .next) C)
+    pub shot-full : x .answer .full ≡ 1
+        → (length (shows x) ≡ r) × (atLeast b C ≡ shows x ++ atLeast (x .answer .next) C)
     shot-full f = elim ends [
       | inl e ↦ rw shot-pages (e .0, rw (e .2) (fills-some N C rise b r least (e .0)))
       | inr e ↦ absurd (omega (arith, f, e .1))

@@ -1,16 +1,16 @@
 -- The premises of ScreenSentences.antt can be met: every input has a result that the promise allows, and of every card
--- screens can be taken until one is not full. Screens by their numbers are in the table (crates/rules/specs/Table.antt).
+-- screens can be taken until one is not full. Screens by their numbers are rows of the table (crates/rules).
 use mathlib.Core.Bool.{true}
 use mathlib.Core.Logic.{inl, inr}
-use mathlib.Core.Path.{_≡_, refl, sym, ap, _∙_}
-use mathlib.Core.List.{List, [], _∷_, _++_}
+use mathlib.Core.Path.{_≡_, refl, ap, _∙_}
+use mathlib.Core.List.{List, [], _∷_}
 use Prim.Native.Nat.{ℕ, zero, suc, _≤_, _<_}
 use native.Mathlib.Omega.{arith}
 use lib.ListN.{length, replicate, length-append, length-replicate, length-take}
 use Rattle.rules.specs.Refusal.{number}
 use Rattle.rules.specs.Limits.{screenLimit}
 use Rattle.rules.specs.Term.{Word}
-use Rattle.rules.specs.Index.{card, validCard, indexT}
+use Rattle.rules.specs.Index.{card, validCard}
 use Rattle.rules.specs.Plain.{atLeast, commonPages}
 use Rattle.rules.specs.Questions.{listsIn, allBelow}
 use Rattle.rules.specs.Screen.{screenPages, Screening, screen}
@@ -18,7 +18,7 @@ use Rattle.cardlaws.proofs.Theorems.{card-accepted}
 use Rattle.hostlaws.specs.declared.HostScreened.{HostScreened}
 use Rattle.hostlaws.specs.Host.{HostScreenShown}
 use Rattle.demands.specs.Asking.{pagesNamed}
-use Rattle.demands.specs.Screens.{Shot, Took, shows, Full, shown}
+use Rattle.demands.specs.Screens.{Shot, Took, shows, Full}
 use Rattle.demands.proofs.KindLaws.{states-T}
 use Rattle.demands.proofs.ScreenLaws.{good-screen}
 use Rattle.demands.proofs.ScreenSentences.{screen-accepted, ends, shot-full}

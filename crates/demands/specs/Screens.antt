@@ -1,15 +1,15 @@
 -- Screens as a host takes them, and the sentences of their refusals [02 e].
 --
---   screening s b r ts pages counts  "The card is checked first; r not 1 to 64, no words, more than 8, or a word not below
---                        T are 8; pages below the pages found, or counts below its numbers, is 9"
+--   screening s b r ts pages counts  "The card is checked first; r not 1 to 64, no words, more than 8, or a word not
+--                        below T are 8; pages below the pages found, or counts below its numbers, is 9"
 --   Unwritten x pages counts pages′ counts′  "both rooms are unchanged and all other numbers are 0"
---   Fills r ps x         the pages ps are as many as the screen has: x says so, and that the next starts behind the last
+--   Fills r ps x         the pages ps are as many as the screen has: x says so, and that the next starts behind them
 --   Falls r ps x         they are fewer: x says so, and no bound
 --   Shot                 a screen that was taken: the rooms, what the call answered, and the rooms after it
 --   Took s ts r b x      x was taken of r pages of the words ts from b on of the card s, and not refused
 --   shows x              the pages that it shows
---   Full s ts r b xs c   the screens xs were taken one after the other, the first from b on, each from the bound that the
---                        last one gave, and each is full; the last gave the bound c
+--   Full s ts r b xs c   the screens xs were taken one after the other, the first from b on, each from the bound that
+--                        the one before it gave, and each is full; the last gave the bound c
 --   shown xs             their pages, one after the other
 use mathlib.Core.Path.{_≡_}
 use mathlib.Core.List.{List, [], _∷_, _++_}

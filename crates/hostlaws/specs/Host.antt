@@ -21,7 +21,8 @@
 --   HostIndexChecked s r                jf_check_index
 --   HostIndexClosed buffer used N T r after  jf_close_index
 --   HostAnswered s qs room r after      jf_ask, with the questions qs on the card s
---   HostScreenShown s b n ts pages counts r pages′ counts′  jf_screen, of n pages of the words ts from b on of the card s
+--   HostScreenShown s b n ts pages counts r pages′ counts′  jf_screen, of n pages of the words ts from b on of the card
+--                                       s
 use mathlib.Core.Path.{_≡_}
 use mathlib.Core.List.{List}
 use Prim.Native.Nat.{ℕ}

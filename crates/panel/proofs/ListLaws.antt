@@ -1,6 +1,6 @@
--- The pages that are listed: those of a screen, by the promises of opening the lists and of the loop of seeks; and where
--- they stand in the numbers that they are listed into.
-use mathlib.Core.Path.{_≡_, refl, sym, ap, _∙_}
+-- The pages that are listed: those of a screen, by the promises of opening the lists and of the loop of seeks; and
+-- where they stand in the numbers that they are listed into.
+use mathlib.Core.Path.{_≡_, sym, ap, _∙_}
 use mathlib.Core.List.{List, [], _∷_, _++_, append-assoc}
 use Prim.Native.Nat.{ℕ, _+_, _-_, _≤_, _<_}
 use native.Mathlib.Omega.{arith}
@@ -8,7 +8,6 @@ use borrow.Rule.Slice.PartMut.{midOf, postOf, putMid, mid-len}
 use lib.ListN.{length, getD, take, drop, length-take}
 use lib.Seq.{getD-take, take-append-seam}
 use Rattle.rules.specs.declared.Refusal.the-variants.{Accepted}
-use Rattle.rules.specs.Limits.{limit}
 use Rattle.rules.specs.Write.{laid}
 use Rattle.rules.specs.Index.{indexN, indexRefusal}
 use Rattle.rules.specs.Common.{Tally, commonFrom}
@@ -68,7 +67,8 @@ page-below s ts sh o b n i h =
     let all : List ℕ = atLeast b (commonPages (listsIn s ts)) in
     rw (getD-take n all i 0 (omega (arith, h, length-take n all)))
     (rising-below b (indexN s) all (from-rises 0 (indexN s) (commonPages (listsIn s ts))
-    (common-rises (indexN s) (listsIn s ts) (opened-some s ts sh o) (o .rise)) b) i (omega (arith, h, length-take n all)))
+    (common-rises (indexN s) (listsIn s ts) (opened-some s ts sh o) (o .rise)) b) i
+    (omega (arith, h, length-take n all)))
 
 module _ (s ts sh : List ℕ) (a : indexRefusal s ≡ Accepted) (o : OpenedPages s ts sh) (b n : ℕ) (some : 0 < n)
     (list : List ℕ) (within : n ≤ length list) (r : Turn) (room′ : List ℕ)

@@ -1,9 +1,8 @@
 -- A screen before it is handed over, and what is said of it.
 --
---   Lists s b n ts list found seeks looks  the list begins with so many pages, those of a screen of n pages of the words ts
---                                     from b on of the card s, and these are its counts
---   Shows n ps x                      x says how many the pages ps are, whether they fill a screen of n, and what bound
---                                     the next one has
+--   Lists s b n ts list found seeks looks  the list begins with so many pages, those of a screen of n pages of the
+--                 words ts from b on of the card s, and these are its counts
+--   Shows n ps x  x says how many the pages ps are, whether they fill a screen of n, and what bound the next one has
 use mathlib.Core.Bool.{cond}
 use mathlib.Core.Path.{_≡_}
 use mathlib.Core.List.{List, [], _∷_}

@@ -32,7 +32,7 @@ fn may_show(r: u32, words: &[u32], t: usize) -> bool
     questions::words_good(words, t)
 }
 
-// Lists the pages from the bound on that the words share at the front of the list, until there are as many as the screen
+// Lists the pages from the bound on that the words share at the front of the list, until there are as many as a screen
 // has or none is left.
 fn list_from(card: &[u8], words: &[u32], bound: usize, size: usize, list: &mut [u32]) -> Listed
     requires { ⌜ (indexRefusal (now card) ≡ Accepted) × (wordsGood (indexT (now card)) (now words) ≡ true)

@@ -150,9 +150,9 @@ pub batched-rule : (s sh : List ℕ) (k : ℕ) → Lists s sh k → (b : ℕ) (r
     (x : Batched s sh k newQuery b room r room′)
     → ruleIn s sh k b (length room) ≡ record { seeks = seeksOf (r .q); looks = looksOf (r .q); listed = x .pages }
 batched-rule s sh k l b room r room′ x =
-    comes-turns s sh k (ruleIn s sh k b (length room)) (length room) newQuery b 0 [] (x .pages) r (new-running s sh k l b)
-    (rw (new-seeks, new-looks) (counted-none (restOf s sh k newQuery b (length room)) ∙ new-rule s sh k l b (length room)))
-    (x .turns)
+    let n : ℕ = length room in
+    comes-turns s sh k (ruleIn s sh k b n) n newQuery b 0 [] (x .pages) r (new-running s sh k l b)
+    (rw (new-seeks, new-looks) (counted-none (restOf s sh k newQuery b n) ∙ new-rule s sh k l b n)) (x .turns)
 
 -- ---- all pages
 

@@ -23,8 +23,8 @@ use Rattle.rules.specs.Seek.{placeOf, bitsOf, cursorBit, startOf, looksT
 use Rattle.rules.specs.Seek.{move, seek}
 use Rattle.rules.specs.Common.{leadFrom, leadOf, readersOf, before, stopped, agree, counted, nothing, rounds}
 use Rattle.rules.specs.Common.{leadPages, otherPages, commonFrom, common}
-use Rattle.rules.specs.Plain.{firstFrom, atLeast, member, inAll, sharedBy, commonPages, positionsAmong, positionsOn}
-use Rattle.rules.specs.Plain.{phraseOf, stands, startsAmong, starts, withStarts}
+use Rattle.rules.specs.Plain.{firstFrom, atLeast, member, inAll, sharedBy, commonPages, positionsAmong}
+use Rattle.rules.specs.Plain.{positionsOn, phraseOf, stands, startsAmong, starts, withStarts}
 use Rattle.rules.specs.Questions.{numbered, pagesIn, listsIn, wordsIn, byRank, byBound, byCommon, byPhrase}
 use Rattle.rules.specs.Questions.{termsOf, offsetsOf, phraseIn, answer, allBelow, pairGood, wordsGood}
 use Rattle.rules.specs.Questions.{offsetsGood, phraseGood, goodQuestion, kindOf, countOf, argsOf, behind}

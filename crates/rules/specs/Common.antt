@@ -5,8 +5,9 @@
 --   leadOf ls       the number of the shortest list, the first of equals
 --   leadPages ls, otherPages ls  that list, and the others
 --   agree U c rs    the others are sought in turn for c, until one answers none or more than c
---   rounds f r U lead others b  the rule from the bound b on, with at most f seeks of the lead, until r pages are listed
---   commonFrom U ls b r  the rule on the lists ls of pages below U, from the bound b on, until r pages are listed [02 e]
+--   rounds f r U lead others b  the rule from the bound b on until r pages are listed [02 e], with at most f seeks of
+--                   the lead
+--   commonFrom U ls b r  the same on the lists ls of pages below U, with as many seeks as it takes
 --   common U ls     the rule from 0 on, with no end to the pages
 use mathlib.Core.Bool.{true, false}
 use mathlib.Core.List.{List, [], _∷_, _++_}

@@ -51,8 +51,8 @@ pub data Row : Type 0 where
   streamed : ℕ → ℕ → ℕ → ℕ → List Word → ℕ → Refusal → Row
   -- a card, questions, the size of the room, the refusal, the number answered and all answers
   asked : List ℕ → List ℕ → ℕ → Refusal → ℕ → List ℕ → Row
-  -- a card, the bound, r and the words of a screen, the sizes of the rooms for pages and counts, the refusal, the pages,
-  -- the next bound of a full screen, else 0, and the counts
+  -- a card, the bound, r and the words of a screen, the sizes of the rooms for pages and for counts, the refusal, the
+  -- pages, the next bound of a full screen, else 0, and the counts
   screened : List ℕ → ℕ → ℕ → List ℕ → ℕ → ℕ → Refusal → List ℕ → ℕ → List ℕ → Row
   -- a card file, a question file and the program's text
   shown : List ℕ → List ℕ → List ℕ → Row

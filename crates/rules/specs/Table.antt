@@ -160,8 +160,8 @@ samples =
     ∷ (streamed 44 1 1 2 (posting 4 0 ∷ (posting 15 0 ∷ [])) 90 Lists
     ∷ (streamed 44 2 2 2 (posting 4 0 ∷ (posting 15 1 ∷ [])) 90 Lists
     ∷ (streamed 44 2 2 3 (posting 4 0 ∷ (posting 15 0 ∷ [])) 90 Lists
-    -- screens of S12 [02 e]: one page each, the second just full and an empty one behind it; all pages, and just two; from
-    -- U on, both ends; r and words that are 8; rooms one short; a card that is refused
+    -- screens of S12 [02 e]: one page each, the second just full and an empty one behind it; all pages, and just two;
+    -- from U on, both ends; r and words that are 8; rooms one short; a card that is refused
     ∷ (screened s12 0 1 (0 ∷ (1 ∷ [])) 40 3 Accepted (4 ∷ []) 5 (2 ∷ (2 ∷ []))
     ∷ (screened s12 5 1 (0 ∷ (1 ∷ [])) 1 2 Accepted (15 ∷ []) 16 (2 ∷ (2 ∷ []))
     ∷ (screened s12 16 1 (0 ∷ (1 ∷ [])) 0 2 Accepted [] 0 (1 ∷ (1 ∷ []))

@@ -1,5 +1,4 @@
--- `list_from` opens the words' lists and goes over them by the one loop of seeks, into as many numbers as the screen has.
-use mathlib.Core.Path.{_≡_, _∙_}
+-- `list_from` opens the words' lists and goes over them by the one loop of seeks, into as many numbers as a screen has.
 use Prim.Native.Nat.{_-_, _<_}
 use native.Mathlib.Omega.{arith}
 use borrow.Rule.Slice.PartMut.{midOf, mid-len, same-len-mid}

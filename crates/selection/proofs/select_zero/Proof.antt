@@ -6,7 +6,6 @@ use native.Mathlib.Omega.{arith}
 use lib.Count.{ones}
 use Rattle.fields.specs.Words.{placeOfZero}
 use Rattle.fields.proofs.WordLaws.{complement-ones}
-use Rattle.selectlaws.specs.ByteCounts.{runningOnes}
 use Rattle.selectlaws.proofs.ByteLaws.{zero-counts}
 use Rattle.selection.proofs.select_zero.Statement.{statement}
 use Rattle.selection.proofs.select_zero.Tie as tie
