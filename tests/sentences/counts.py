@@ -1,7 +1,7 @@
 """Sentences about counts and cursors in all crates: where they are made, moved, kept, summed up and told."""
 from reading import flow, tree
 from reading.compare import compared
-from sentences.names import FRESH, LOOK, LOOKING, LOOP, SCREEN, SEEK, SEEK_IN
+from sentences.names import FRESH, LOOK, LOOKING, LOOP, SCREEN, SEEK, SEEK_IN, SHOWING
 
 # every place at which a field `seeks` or `looks` is read or given
 COUNTS = {
@@ -38,9 +38,9 @@ CALLS = {
     "bycommon::put_common": ["bycommon::by_common", "bycommon::by_common"],
     "bycommon::by_common": ["answer::answer_one"],
     "answer::answer_one": ["ask::answer_all"],
-    SCREEN: ["panel::screen"],
-    "panel::put_screen": ["panel::screen"],
-    "panel::screen": ["jundefola::jf_screen"],
+    SCREEN: [SHOWING],
+    "panel::put_screen": [SHOWING],
+    SHOWING: ["jundefola::jf_screen"],
 }
 # what `seek_in` is given and gives back: the query, and the cursor in hand; it is given no rank
 IN_HAND = ("q", "hand")

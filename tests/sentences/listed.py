@@ -1,5 +1,11 @@
-"""Sentences about crates.txt: each crate once, in a group, behind all that it uses."""
+"""Sentences about crates.txt: each crate once, in a group, behind all that it uses; and about what `panel` cites."""
+import re
+
 from reading.program import OUTSIDE
+
+# where the definitions and contracts of `panel` stand, and the crates whose definitions they may name
+PANEL = ("crates/panel/specs/", "crates/panel/src/")
+PANEL_CITES = ["rules", "panel"]
 
 
 def each_folder_once(listing):
@@ -48,4 +54,13 @@ def map_has_groups(listing):
             yield f"README.md: {crate} is in the group {group} here or there, but not in both"
 
 
-SENTENCES = [each_folder_once, each_in_a_group, uses_above, uses_listed, map_has_groups]
+def panel_cites_rules(listing):
+    """The definitions and contracts of `panel` name definitions of `rules` and its own, and no other crate's."""
+    for path, text in listing.texts.items():
+        if path.startswith(PANEL):
+            for crate in re.findall(r"^(?:ghost )?use Rattle·(\w+)", text, re.MULTILINE):
+                if crate not in PANEL_CITES:
+                    yield f"{path}: it names definitions of {crate}"
+
+
+SENTENCES = [each_folder_once, each_in_a_group, uses_above, uses_listed, map_has_groups, panel_cites_rules]

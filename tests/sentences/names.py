@@ -30,8 +30,10 @@ LOOP = "query::batch"
 # the way from the card's check to the kinds of questions, and those
 ANSWERS = ["ask::answer_all", "answer::answer_one"]
 KIND_3 = "bycommon::by_common"
-# what lists the pages of a screen
+# what lists the pages of a screen, the call, and what that hands the card to
 SCREEN = "panel::list_from"
+SHOWING = "panel::screen"
+SHOWN_BY = ["checkindex::check_index", "numbers::read_u16", SCREEN]
 KINDS = [KIND_3, "kinds::by_bound", "kinds::by_rank", "answer::by_phrase"]
 
 

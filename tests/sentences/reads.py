@@ -1,9 +1,10 @@
-"""Sentences about the card's bytes on the way of kind 3 and of a screen: every place at which a byte of them is read."""
+"""Sentences about the card's bytes on the way of kind 3 and of a screen: every place where a byte of them is read."""
 from typing import NamedTuple
 
 from reading import flow, tree
 from reading.compare import compared
-from sentences.names import ANSWERS, IS_TABLE, KIND_3, KINDS, LOOK, LOW_PART, PLACES, READING, RUN_WORD, SCREEN, TABLE
+from sentences.names import ANSWERS, IS_TABLE, KIND_3, KINDS, LOOK, LOW_PART, PLACES, READING, RUN_WORD, SCREEN
+from sentences.names import SHOWING, SHOWN_BY, TABLE
 from sentences.written import WRITTEN
 
 
@@ -46,11 +47,12 @@ def reached(program):
 
 
 def card_goes_to_kinds(program):
-    """Between the check of the card and the kinds of questions nothing is done with the card but hand it on."""
-    for path in ANSWERS:
+    """Between the check of the card and the kinds of questions nothing is done with the card but hand it on; a screen
+    hands it to the check, to the reading of T and to what lists its pages."""
+    for path, takers in [*((path, ANSWERS + KINDS) for path in ANSWERS), (SHOWING, SHOWN_BY)]:
         f = program.function(path)
         for use in flow.Bytes(program, f).uses():
-            if use.what != "handed" or program.callee(f, use.node) not in ANSWERS + KINDS:
+            if use.what != "handed" or program.callee(f, use.node) not in takers:
                 yield f"{path}: `{use.node}`: the bytes `{use.bytes}` are {use.what}"
 
 
@@ -81,8 +83,8 @@ def reads_found(program):
 
 
 def reads_where_named(program):
-    """From kind 3 and from a screen on, through all crates, bytes are read only at the places of the table, by functions that ask of
-    their callers what the table says."""
+    """From kind 3 and from a screen on, through all crates, bytes are read only at the places of the table, by
+    functions that ask of their callers what the table says."""
     yield from compared("it reads", reads_found(program), {path: read.texts for path, read in READS.items()})
     for path, read in READS.items():
         if read.asks and program.function(path).requires != [read.asks]:
