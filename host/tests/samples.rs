@@ -1,5 +1,8 @@
 //! The sample cards S1 to S12 of document 01, as docs/AMENDMENTS.md amends it, and its edges.
 
+mod cards;
+
+use cards::card_of_pages;
 use jundefola::{
     ask, ask_all, check_index, check_list, check_term, close_index, list_block, term_block,
     write_term, Answer, CardWriter, PageStarts, Question, Refusal,
@@ -33,17 +36,6 @@ fn hex(text: &str) -> Vec<u8> {
         .chunks(2)
         .map(|pair| pair[0] << 4 | pair[1])
         .collect()
-}
-
-/// A card whose words stand at position 0 of each of their pages.
-fn card_of_pages(n: u32, words: &[&[u32]]) -> Vec<u8> {
-    let mut writer = CardWriter::new(n);
-    for pages in words {
-        let ones = vec![1; pages.len()];
-        let zeros = vec![0; pages.len()];
-        writer.add(pages, &ones, &zeros).unwrap();
-    }
-    writer.close().unwrap()
 }
 
 /// The numbers of the answers to one question.

@@ -1,7 +1,10 @@
 //! Screens of common pages, against plain reading of the lists, and what is refused.
 
+mod cards;
+
+use cards::card_of_pages;
 use jundefola::{
-    ask_all, screen, Answer, CardWriter, Question, Refusal, Screen, Screened, Screens, MAX_SCREEN,
+    ask_all, screen, Answer, Question, Refusal, Screen, Screened, Screens, MAX_SCREEN,
     SCREEN_COUNTS,
 };
 
@@ -10,17 +13,6 @@ const FILL: u32 = 0xA5A5_A5A5;
 /// The pages of this small manual, and its words' pages; words 0 and 1 share 4, 15 and 43, and word 2 is on none.
 const N: u32 = 44;
 const WORDS: [&[u32]; 3] = [&[3, 4, 7, 13, 14, 15, 21, 43], &[4, 15, 20, 43], &[]];
-
-/// A card whose words stand at position 0 of each of their pages.
-fn card_of_pages(n: u32, words: &[&[u32]]) -> Vec<u8> {
-    let mut writer = CardWriter::new(n);
-    for pages in words {
-        let ones = vec![1; pages.len()];
-        let zeros = vec![0; pages.len()];
-        writer.add(pages, &ones, &zeros).unwrap();
-    }
-    writer.close().unwrap()
-}
 
 /// A card of one word on 200 pages, which is three screens of 64 and some.
 fn long_card() -> Vec<u8> {

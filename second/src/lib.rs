@@ -18,6 +18,8 @@ pub mod screen_sights;
 mod screen_slips;
 pub mod screen_text;
 pub mod sights;
+#[cfg(test)]
+mod slips;
 pub mod stored;
 pub mod stream_calls;
 pub mod stream_case;

@@ -1,16 +1,15 @@
 //! Libraries with one slip in the call for a screen, each of which the comparison has to find.
 
 use crate::case::Case;
-use crate::compare::{Other, Side};
+use crate::compare::Side;
 use crate::gen::screens;
 use crate::host_calls::Plain;
 use crate::plain::refusal;
 use crate::plain::screen::{Screened, Wanted};
 use crate::plain::{GREATEST_SCREEN, GREATEST_WORDS};
 use crate::screen_calls::ScreenCalls;
-use crate::stored;
+use crate::slips;
 use crate::text::Stored;
-use std::path::PathBuf;
 
 /// A library with one slip in it, over the plain program.
 #[derive(Clone, Copy, Debug, PartialEq, Eq)]
@@ -187,24 +186,16 @@ impl ScreenCalls for Slip {
 
 /// The number of differences that a slip makes on some cases.
 fn differences(slip: Slip, cases: &[Stored]) -> usize {
-    let other = Other {
-        side: Side {
-            calls: &Plain,
-            streams: &Plain,
-            screens: &slip,
-        },
-        program: None,
-        scratch: PathBuf::new(),
+    let side = Side {
+        calls: &Plain,
+        streams: &Plain,
+        screens: &slip,
     };
-    let compared = cases.iter().filter_map(|case| other.compare(case));
-    compared.filter(|done| done.difference.is_some()).count()
+    slips::differences(side, cases)
 }
 
 fn stored_calls() -> Vec<Stored> {
-    let edges = stored::edges().expect("the edges can be read");
-    let of_screen = |stored: &Stored| matches!(stored.case, Case::Screen(_));
-    let edges = edges.into_iter().map(|(_, stored)| stored);
-    edges.filter(of_screen).collect()
+    slips::stored_calls(|case| matches!(case, Case::Screen(_)))
 }
 
 fn seeded_calls() -> Vec<Stored> {

@@ -1,15 +1,14 @@
 //! Libraries with one slip in the calls of a session, each of which the comparison has to find.
 
 use crate::case::Case;
-use crate::compare::{Other, Side};
+use crate::compare::Side;
 use crate::gen::{cuts, streams};
 use crate::host_calls::Plain;
 use crate::plain::refusal;
 use crate::plain::stream::{Announced, Run, Stream, Streamed, GOING_ON};
-use crate::stored;
+use crate::slips;
 use crate::stream_calls::StreamCalls;
 use crate::text::Stored;
-use std::path::PathBuf;
 
 /// A library with one slip in it, over the plain program.
 #[derive(Clone, Copy, Debug, PartialEq, Eq)]
@@ -139,24 +138,16 @@ impl StreamCalls for Slip {
 
 /// The number of differences that a slip makes on some cases.
 fn differences(slip: Slip, cases: &[Stored]) -> usize {
-    let other = Other {
-        side: Side {
-            calls: &Plain,
-            streams: &slip,
-            screens: &Plain,
-        },
-        program: None,
-        scratch: PathBuf::new(),
+    let side = Side {
+        calls: &Plain,
+        streams: &slip,
+        screens: &Plain,
     };
-    let compared = cases.iter().filter_map(|case| other.compare(case));
-    compared.filter(|done| done.difference.is_some()).count()
+    slips::differences(side, cases)
 }
 
 fn stored_calls() -> Vec<Stored> {
-    let edges = stored::edges().expect("the edges can be read");
-    let of_session = |stored: &Stored| matches!(stored.case, Case::Stream(_));
-    let edges = edges.into_iter().map(|(_, stored)| stored);
-    edges.filter(of_session).collect()
+    slips::stored_calls(|case| matches!(case, Case::Stream(_)))
 }
 
 fn seeded_calls() -> Vec<Stored> {
