@@ -14,11 +14,10 @@ use Rattle.rules.specs.declared.Refusal.the-variants.{Accepted, Question, Room}
 use Rattle.rules.specs.Refusal.{number, accepted, andThen}
 use Rattle.rules.specs.Limits.{phraseLimit, screenLimit}
 use Rattle.rules.specs.List.{rising}
-use Rattle.rules.specs.Write.{laid}
 use Rattle.rules.specs.Index.{indexN, indexT, indexRefusal}
 use Rattle.rules.specs.Plain.{atLeast}
 use Rattle.rules.specs.Questions.{listsIn, allBelow, wordsGood}
-use Rattle.rules.specs.Screen.{screenGood, screenPages, screenCounts, isFull, Screening, unshown, showing, screen}
+use Rattle.rules.specs.Screen.{screenGood, screenPages, screenCounts, Screening, unshown, filled, showing, screen}
 use Rattle.laws.proofs.RefusalLaws.{accepted-true, true-accepted}
 use Rattle.listlaws.proofs.RisingLaws.{rising-at}
 use Rattle.commonlaws.proofs.SharedLaws.{from-rises, from-from, from-behind}
@@ -86,14 +85,7 @@ module _ (s : List ℕ) (b r : ℕ) (ts pages counts : List ℕ) where
       × (2 ≤ length counts)
 
   abbrev whole : Screening
-  whole = record {
-    refusal = Accepted;
-    found = length ps;
-    full = cond (isFull r ps) 1 0;
-    next = cond (isFull r ps) (getD ps (r - 1) 0 + 1) 0;
-    pages = laid ps pages;
-    counts = laid cs counts;
-  }
+  whole = filled r ps cs pages counts
 
   pub passes-whole : Passes → screen s b r ts pages counts ≡ whole
   unfolding screen showing screenCounts

@@ -1,7 +1,7 @@
 -- What the customer asks of screens, sentence by sentence [02 e]. Like those of Demands.antt, the theorems are of any
 -- result that the promise of the exported call allows, and of nothing else of the program; ScreenWitnesses.antt shows
 -- that their premises can be met.
-use mathlib.Core.Bool.{Bool, true, false, cond}
+use mathlib.Core.Bool.{Bool, true, false}
 use mathlib.Core.Logic.{_↔_, _⊎_, inl, inr}
 use mathlib.Core.Path.{_≡_, refl, sym, ap, _∙_}
 use mathlib.Core.List.{List, [], _∷_, _++_, append-assoc, append-nil}
@@ -20,7 +20,7 @@ use Rattle.rules.specs.Index.{card, validCard, indexN, indexT}
 use Rattle.rules.specs.Common.{commonFrom}
 use Rattle.rules.specs.Plain.{atLeast, commonPages}
 use Rattle.rules.specs.Questions.{listsIn, allBelow}
-use Rattle.rules.specs.Screen.{screenGood, screenPages, screenCounts, isFull, Screening, unshown, screen}
+use Rattle.rules.specs.Screen.{screenGood, screenPages, screenCounts, isFull, Screening, unshown, filled, screen}
 use Rattle.laws.proofs.RefusalLaws.{number-inj}
 use Rattle.cardlaws.proofs.Theorems.{card-accepted}
 use Rattle.commonlaws.proofs.SharedLaws.{from-zero}
@@ -83,14 +83,8 @@ module _ (s : List ℕ) (b r : ℕ) (ts pages counts : List ℕ) (x : HostScreen
   -- ---- 2. what it shows
 
   module _ (z : x .refusal ≡ 0) where
-    told : seenOf x pages′ counts′ ≡ seen (record {
-      refusal = Accepted;
-      found = length ps;
-      full = cond (isFull r ps) 1 0;
-      next = cond (isFull r ps) (getD ps (r - 1) 0 + 1) 0;
-      pages = laid ps pages;
-      counts = laid (screenCounts (indexN s) b r (listsIn s ts)) counts;
-    })
+    told : seenOf x pages′ counts′
+        ≡ seen (filled r ps (screenCounts (indexN s) b r (listsIn s ts)) pages counts)
     told = p ∙ ap seen (passes-whole s b r ts pages counts (screen-accepted .0 z))
 
     -- "`pages` gets the pages found, `counts` the seeks and the looks. Numbers of a room past what is written are

@@ -8,7 +8,8 @@
 --                        both rooms after it
 --   screening r pages counts  the same, of what the function answers and the rooms after it
 --   unshown r pages counts    a refusal: nothing found, nothing written
---   showing r ps cs pages counts  a screen of the pages ps with the counts cs, or refused as 9 where one does not fit
+--   filled r ps cs pages counts   a screen of r pages that shows the pages ps with the counts cs
+--   showing r ps cs pages counts  that, or refused as 9 where pages or counts do not fit
 --   screen s b r ts pages counts  the call
 use mathlib.Core.Bool.{Bool, cond, not, _&&_, _||_}
 use mathlib.Core.List.{List, [], _∷_}
@@ -60,17 +61,20 @@ unfoldable pub unshown : Refusal → List ℕ → List ℕ → Screening
 unshown r pages counts = record { refusal = r; found = 0; full = 0; next = 0; pages = pages; counts = counts }
 
 -- the next screen starts behind the last page
+abbrev pub filled : ℕ → List ℕ → List ℕ → List ℕ → List ℕ → Screening
+filled r ps cs pages counts = record {
+  refusal = Accepted;
+  found = length ps;
+  full = cond (isFull r ps) 1 0;
+  next = cond (isFull r ps) (getD ps (r - 1) 0 + 1) 0;
+  pages = laid ps pages;
+  counts = laid cs counts;
+}
+
 unfoldable pub showing : ℕ → List ℕ → List ℕ → List ℕ → List ℕ → Screening
 showing r ps cs pages counts =
     cond (ltb (length pages) (length ps) || ltb (length counts) (length cs)) (unshown Room pages counts)
-    (record {
-      refusal = Accepted;
-      found = length ps;
-      full = cond (isFull r ps) 1 0;
-      next = cond (isFull r ps) (getD ps (r - 1) 0 + 1) 0;
-      pages = laid ps pages;
-      counts = laid cs counts;
-    })
+    (filled r ps cs pages counts)
 
 unfoldable pub screen : List ℕ → ℕ → ℕ → List ℕ → List ℕ → List ℕ → Screening
 screen s b r ts pages counts =
