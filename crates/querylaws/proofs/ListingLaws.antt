@@ -128,21 +128,22 @@ module _ (s sh : List ℕ) (k : ℕ) (w : Tally) where
       at (comes-turns n (u .q) (u .mark) (u .rank) (ps ++ c ∷ []) qs t (y .1 .running (u .mark) (y .3) (omega arith))
       next (y .4))
 
-  -- no count of theirs has wrapped
-  turns-narrow : (n : ℕ) (q : Query) (b m : ℕ) (qs : List ℕ) (t : Turn) → Turns s sh k (suc n) q b m qs t
-      → (length (t .q .cursors) ≡ 8) × (seeksOf (t .q) ≤ 2 ^ 28) × (looksOf (t .q) ≤ 2 ^ 29)
-  unfolding Turns
-  turns-narrow n q b m [] t y = (y .0 .eight, y .0 .narrow .0, y .0 .narrow .1)
-  turns-narrow zero q b m (c ∷ qs) t y = rw (y .4 .1) (y .1 .eight, y .1 .narrow .0, y .1 .narrow .1)
-  turns-narrow (suc n) q b m (c ∷ qs) t y =
-      turns-narrow n (y .0 .q) (y .0 .mark) (y .0 .rank) qs t (y .4)
+-- no count of a batch has wrapped
+turns-narrow : (s sh : List ℕ) (k n : ℕ) (q : Query) (b m : ℕ) (qs : List ℕ) (t : Turn)
+    → Turns s sh k (suc n) q b m qs t
+    → (length (t .q .cursors) ≡ 8) × (seeksOf (t .q) ≤ 2 ^ 28) × (looksOf (t .q) ≤ 2 ^ 29)
+unfolding Turns
+turns-narrow s sh k n q b m [] t y = (y .0 .eight, y .0 .narrow .0, y .0 .narrow .1)
+turns-narrow s sh k zero q b m (c ∷ qs) t y = rw (y .4 .1) (y .1 .eight, y .1 .narrow .0, y .1 .narrow .1)
+turns-narrow s sh k (suc n) q b m (c ∷ qs) t y =
+    turns-narrow s sh k n (y .0 .q) (y .0 .mark) (y .0 .rank) qs t (y .4)
 
 pub batched-narrow : (s sh : List ℕ) (k : ℕ) (q : Query) (b : ℕ) (room : List ℕ) (r : Turn) (room′ : List ℕ)
     → 0 < length room → Batched s sh k q b room r room′
     → (length (r .q .cursors) ≡ 8) × (seeksOf (r .q) < 2 ^ 32) × (looksOf (r .q) < 2 ^ 32)
 batched-narrow s sh k q b room r room′ h x =
     let e : suc (length room - 1) ≡ length room = omega arith in
-    let n = turns-narrow s sh k (wholeIn s sh k) (length room - 1) q b 0 (x .pages) r (rw e (x .turns)) in
+    let n = turns-narrow s sh k (length room - 1) q b 0 (x .pages) r (rw e (x .turns)) in
     (n .0, omega (arith, n .1), omega (arith, n .2))
 
 -- the rule from a bound on, until as many pages as the room has places are listed
