@@ -1,5 +1,6 @@
 /*
- * Jundefola: posting lists in Elias-Fano form, the words of a manual, cards that index them, and questions over cards.
+ * Jundefola: posting lists in Elias-Fano form or as bitmaps, the words of a manual, cards that index them, and
+ * questions over cards.
  *
  * For C99 and C++. Link the archive target/staticlib/libjundefola.a, which `rt staticlib jundefola` makes.
  *
@@ -28,10 +29,10 @@ typedef enum jf_refusal {
     JF_ACCEPTED = 0, /* nothing is refused */
     JF_SHORT = 1,    /* fewer bytes than the header: list 13, term 44, card 11 */
     JF_LENGTH = 2,   /* the stated length differs from the bytes given, or does not fit its container */
-    JF_VERSION = 3,  /* the version is not 1 */
+    JF_VERSION = 3,  /* an unknown version, or a list whose form is not the one that belongs in its place */
     JF_LIMIT = 4,    /* U, N or T over its limit, or a closed card whose length does not fit four bytes */
     JF_LAYOUT = 5,   /* n above U, a length that U and n do not give, or bytes left after the last part */
-    JF_RUNS = 6,     /* runs or pointers are not those of a valid list */
+    JF_RUNS = 6,     /* runs or pointers, or a bitmap or its numbers, are not those of a valid list */
     JF_PARTS = 7,    /* the parts of a term or a card disagree */
     JF_QUESTION = 8, /* a bad question: an unknown kind, a wrong count, word or offset, or cut short; a bad screen */
     JF_ROOM = 9,     /* the room lent is too small */
@@ -46,7 +47,17 @@ typedef enum jf_kind {
     JF_KIND_PHRASE = 4  /* the pages where the words stand as in a phrase */
 } jf_kind;
 
+/*
+ * The editions of a card, each by the version in the card's header. A call that handles a term or closes a card is told
+ * that number; any other is an unknown version. The same words give the same answers in both, and may take other looks.
+ */
+typedef enum jf_edition {
+    JF_EDITION_1 = 1, /* all lists are runs */
+    JF_EDITION_2 = 2  /* the pages of a dense word, one on over a quarter of them, are a bitmap; other lists are runs */
+} jf_edition;
+
 /* The limits of document 01. */
+#define JF_MAX_VERSION 2u  /* the version of a card, which is at least 1 */
 #define JF_MAX_U 16777216u /* U of a list, and N, the pages of a card */
 #define JF_MAX_T 4096u     /* T, the words of a card */
 #define JF_MAX_WORDS 8u    /* the words in one question */
@@ -62,7 +73,7 @@ typedef enum jf_kind {
 /* Bytes that are enough for the block of any list of n numbers; the block may be shorter. */
 #define JF_LIST_ROOM(n) ((size_t)29 + (size_t)4 * (size_t)(n))
 
-/* Bytes that are enough for the term block of any word on that many pages, at that many positions in all. */
+/* Bytes that are enough, in each edition, for the term block of any word on that many pages, at so many positions. */
 #define JF_TERM_ROOM(pages, positions) \
     ((size_t)5 + (size_t)2 * JF_LIST_ROOM(pages) + JF_LIST_ROOM(positions))
 
@@ -78,6 +89,7 @@ typedef struct jf_written {
  */
 typedef struct jf_stream {
     uint32_t mark;
+    uint32_t version;
     uint32_t n;
     uint32_t pages;
     uint32_t positions;
@@ -114,36 +126,36 @@ typedef struct jf_screened {
 } jf_screened;
 
 /*
- * Writes the block of a list of strictly rising numbers, each below u, to the start of the room.
+ * Writes the block of a list of strictly rising numbers, each below u, as runs to the start of the room.
  * Refuses with JF_LIMIT (u), JF_LISTS or JF_ROOM. JF_LIST_ROOM(list_len) bytes are enough.
  */
 jf_written jf_write_list(uint32_t u, const uint32_t *list, size_t list_len, uint8_t *room, size_t room_len);
 
-/* Checks a list block, which must fill the bytes given; returns the refusal. */
+/* Checks the block of a list as runs, which must fill the bytes given; returns the refusal. A bitmap is JF_VERSION. */
 uint32_t jf_check_list(const uint8_t *block, size_t block_len);
 
 /*
- * Writes the term block of one word of a card with n pages to the start of the room: its pages, rising and below n, the
- * count of positions on each page, at least 1, and the positions, page after page, rising within a page.
- * Refuses with JF_LIMIT (n), JF_LISTS, JF_LIMIT (positions too high in sum) or JF_ROOM.
- * JF_TERM_ROOM(pages_len, positions_len) bytes are enough.
+ * Writes the term block of one word, for a card of that version with n pages, to the start of the room: its pages,
+ * rising and below n, the count of positions on each page, at least 1, and the positions, page after page, rising
+ * within a page. Refuses with JF_VERSION (an unknown version), JF_LIMIT (n), JF_LISTS, JF_LIMIT (positions too high in
+ * sum) or JF_ROOM, in this order. JF_TERM_ROOM(pages_len, positions_len) bytes are enough.
  */
-jf_written jf_write_term(uint32_t n, const uint32_t *pages, size_t pages_len, const uint32_t *counts,
-                         size_t counts_len, const uint32_t *positions, size_t positions_len, uint8_t *room,
-                         size_t room_len);
+jf_written jf_write_term(uint32_t version, uint32_t n, const uint32_t *pages, size_t pages_len,
+                         const uint32_t *counts, size_t counts_len, const uint32_t *positions, size_t positions_len,
+                         uint8_t *room, size_t room_len);
 
 /*
- * Announces a word that is written in runs, for a host that does not hold all of its postings at once: so many of a
- * card's n pages, so many positions in all, and the positions' u, which is the sum over the word's pages of the last
- * position there plus 1. Writes the headers of its block to the start of the room, and clears the rest of the block.
- * Refuses with JF_LIMIT (n or u), JF_LISTS (more pages than n or than positions, more positions than u, positions but
- * no pages, u without positions) or JF_ROOM; the room is then as it was, and the session that comes back is over.
- * JF_TERM_ROOM(pages, positions) bytes are enough.
+ * Announces a word that is written in runs, for a host that does not hold all of its postings at once: the version of
+ * the card, so many of its n pages, so many positions in all, and the positions' u, which is the sum over the word's
+ * pages of the last position there plus 1. Writes the headers of its block to the start of the room, and clears the
+ * rest of the block. Refuses with JF_VERSION (an unknown version), JF_LIMIT (n or u), JF_LISTS (more pages than n or
+ * than positions, more positions than u, positions but no pages, u without positions) or JF_ROOM, in this order; the
+ * room is then as it was, and the session that comes back is over. JF_TERM_ROOM(pages, positions) bytes are enough.
  *
  * Hand the session to jf_put_postings with each run, and to jf_end_term behind the last: each time the session that the
  * last call gave, and the room as that call left it, here or at another address. The finished block is then that of
  * jf_write_term, byte for byte, wherever the word was cut. In a room that was changed ones are set into what is there,
- * and pointers are taken from what is there. No call changes a byte past the block.
+ * and pointers and a bitmap's numbers are taken from what is there. No call changes a byte past the block.
  *
  * What both of them refuse, in this order:
  * - JF_LISTS, with the room as it was, where the session is over: behind a refused announcement, behind JF_LISTS and
@@ -152,7 +164,8 @@ jf_written jf_write_term(uint32_t n, const uint32_t *pages, size_t pages_len, co
  * - JF_ROOM, with the room and the session as they were, where the room is shorter than the block: go on with more.
  * - JF_LISTS, with the block all zero and the session over, where the postings or the totals are bad.
  */
-jf_streamed jf_begin_term(uint32_t n, uint32_t pages, uint32_t positions, uint32_t u, uint8_t *room, size_t room_len);
+jf_streamed jf_begin_term(uint32_t version, uint32_t n, uint32_t pages, uint32_t positions, uint32_t u, uint8_t *room,
+                          size_t room_len);
 
 /*
  * Lays the next run of a word's postings behind those in the room: pages, counts and positions as jf_write_term takes
@@ -164,26 +177,31 @@ jf_streamed jf_put_postings(jf_stream stream, const uint32_t *pages, size_t page
                             size_t room_len);
 
 /*
- * Closes a word: writes its pointers and reports the length of its block. Totals are bad where the announced pages,
- * positions or u are not reached.
+ * Closes a word: writes its pointers and a bitmap's numbers, and reports the length of its block. Totals are bad where
+ * the announced pages, positions or u are not reached.
  */
 jf_streamed jf_end_term(jf_stream stream, uint8_t *room, size_t room_len);
 
-/* Checks a term block, which must fill the bytes given; returns the refusal. */
-uint32_t jf_check_term(const uint8_t *block, size_t block_len);
+/*
+ * Checks a term block of a card of that version, which must fill the bytes given; returns the refusal. An unknown
+ * version is JF_VERSION, behind the term's own JF_SHORT and JF_LENGTH. So is a list that is a bitmap and should not be,
+ * or the reverse, behind the list's JF_LIMIT and an n above U, and before its length is compared.
+ */
+uint32_t jf_check_term(uint32_t version, const uint8_t *block, size_t block_len);
 
 /*
- * Makes a card of t term blocks that lie one after the other in the buffer, from byte JF_CARD_HEADER up to byte `used`.
- * It checks them and writes the header alone. The card is the first `length` bytes, which is `used`.
- * Refuses with JF_ROOM (used above buffer_len), JF_SHORT (used below JF_CARD_HEADER), JF_LIMIT (n, t, or a length past
- * four bytes), or as jf_check_index refuses the terms and what is left behind them.
+ * Makes a card of that version of t term blocks that lie one after the other in the buffer, from byte JF_CARD_HEADER up
+ * to byte `used`. It checks them and writes the header alone. The card is the first `length` bytes, which is `used`.
+ * Refuses with JF_ROOM (used above buffer_len), JF_SHORT (used below JF_CARD_HEADER), JF_VERSION (an unknown version),
+ * JF_LIMIT (n, t, or a length past four bytes), or as jf_check_index refuses the terms and what is left behind them, in
+ * this order.
  *
- * To fill the buffer, start with used = JF_CARD_HEADER and, for each word, write its term block to buffer + used with
- * room buffer_len - used, then add the length reported.
+ * To fill the buffer, start with used = JF_CARD_HEADER and, for each word, write its term block for the same version to
+ * buffer + used with room buffer_len - used, then add the length reported.
  */
-jf_written jf_close_index(uint8_t *buffer, size_t buffer_len, size_t used, uint32_t n, uint32_t t);
+jf_written jf_close_index(uint8_t *buffer, size_t buffer_len, size_t used, uint32_t version, uint32_t n, uint32_t t);
 
-/* Checks a card, which must fill the bytes given; returns the refusal. */
+/* Checks a card, which must fill the bytes given and states its version itself; returns the refusal. */
 uint32_t jf_check_index(const uint8_t *card, size_t card_len);
 
 /*

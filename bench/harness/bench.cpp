@@ -6,27 +6,32 @@
 
 namespace {
 
-jf_asked ask(const Engine &engine, const Bytes &card, const Questions &questions, List &room) {
-    return engine.ask(card.data(), card.size(), questions.numbers.data(), questions.numbers.size(), room.data(),
-                      room.size());
+jf_asked ask(const Side &side, const Questions &questions, List &room) {
+    return side.engine.ask(side.card.data(), side.card.size(), questions.numbers.data(), questions.numbers.size(),
+                           room.data(), room.size());
 }
 
-// the room of each engine, zeroed, of the size that the answers need
-struct Rooms {
-    List numbers[2];
-};
+// the room of each side, zeroed beforehand, of the size that the answers need
+using Rooms = std::vector<List>;
 
-// both engines give the same report and the same numbers; returns their rooms
-Rooms compared(const Bytes &card, const Questions &questions) {
-    const size_t size = room_for(card, questions);
-    Rooms rooms{{List(size), List(size)}};
-    jf_asked asked[2];
-    for (int e : {0, 1}) asked[e] = ask(*engines[e], card, questions, rooms.numbers[e]);
-    require(asked[0].refusal == asked[1].refusal && asked[0].answered == asked[1].answered &&
-                asked[0].used == asked[1].used,
-            "archive and peer report differently");
-    require(asked[0].answered == questions.count, "not all questions are answered");
-    require(rooms.numbers[0] == rooms.numbers[1], "archive and peer answer differently");
+List essence_in(const List &room, const Questions &questions, Essence essence) {
+    return essence(List(room.begin(), room.end() - static_cast<long>(questions.most)));
+}
+
+// all sides give the same report, and the same numbers or essence as the first; returns their rooms
+Rooms compared(const std::vector<Side> &sides, const Questions &questions, Essence essence) {
+    Rooms rooms(sides.size(), List(room_for(sides[0].card, questions)));
+    const jf_asked first = ask(sides[0], questions, rooms[0]);
+    require(first.answered == questions.count, "not all questions are answered");
+    for (size_t s = 1; s < sides.size(); s++) {
+        const jf_asked asked = ask(sides[s], questions, rooms[s]);
+        require(asked.refusal == first.refusal && asked.answered == first.answered && asked.used == first.used,
+                "%s and %s report differently", sides[0].name.c_str(), sides[s].name.c_str());
+        const bool same = sides[s].has_other_looks ? essence_in(rooms[s], questions, essence) ==
+                                                         essence_in(rooms[0], questions, essence)
+                                                   : rooms[s] == rooms[0];
+        require(same, "%s and %s answer differently", sides[0].name.c_str(), sides[s].name.c_str());
+    }
     return rooms;
 }
 
@@ -37,33 +42,35 @@ void compare(const Other &other, const Questions &questions, const List &expecte
             "archive and %s answer differently", other.name.c_str());
 }
 
-std::string with_none(const Engine &engine) { return std::string(engine.name) + ", no question"; }
+std::string with_none(const Side &side) { return side.name + ", no question"; }
+
+List nothing(const List &) { return {}; }
 
 } // namespace
 
-Times time_questions(const Bench &bench, const Bytes &card, const Questions &questions,
-                     const std::vector<Other> &others, Essence essence) {
-    Rooms rooms = compared(card, questions);
-    List room(rooms.numbers[0].size());
-    const List expected = essence(List(rooms.numbers[0].begin(), rooms.numbers[0].end() - questions.most));
+Times time_sides(const Bench &bench, const std::vector<Side> &sides, const Questions &questions,
+                 const std::vector<Other> &others, Essence essence) {
+    Rooms rooms = compared(sides, questions, essence);
+    List room(rooms[0].size());
+    const List expected = essence_in(rooms[0], questions, essence);
     for (const Other &other : others) compare(other, questions, expected, room.data());
 
     Race race;
     const Questions none;
-    for (int e : {0, 1}) {
-        const Engine &engine = *engines[e];
-        List &answers = rooms.numbers[e];
-        race.enter(engine.name, [&] { ask(engine, card, questions, answers); });
-        race.enter(with_none(engine), [&] { ask(engine, card, none, answers); });
+    for (size_t s = 0; s < sides.size(); s++) {
+        const Side &side = sides[s];
+        List &answers = rooms[s];
+        race.enter(side.name, [&] { ask(side, questions, answers); });
+        race.enter(with_none(side), [&] { ask(side, none, answers); });
     }
     for (const Other &other : others) race.enter(other.name, [&] { other.answer(room.data()); });
     race.run(bench.pace);
 
     Times times;
     const double count = static_cast<double>(questions.count);
-    for (const Engine *engine : engines) {
-        const double asking = race.smallest(engine->name) - race.smallest(with_none(*engine));
-        times.push_back({engine->name, asking / count});
+    for (const Side &side : sides) {
+        const double asking = race.smallest(side.name) - race.smallest(with_none(side));
+        times.push_back({side.name, asking / count});
     }
     for (const Other &other : others) {
         times.push_back({other.name, race.smallest(other.name) / static_cast<double>(other.count)});
@@ -71,11 +78,21 @@ Times time_questions(const Bench &bench, const Bytes &card, const Questions &que
     return times;
 }
 
+std::vector<Side> both_engines(const Bytes &card) {
+    return {{archive.name, archive, card}, {peer.name, peer, card}};
+}
+
+Times time_questions(const Bench &bench, const Bytes &card, const Questions &questions,
+                     const std::vector<Other> &others, Essence essence) {
+    return time_sides(bench, both_engines(card), questions, others, essence);
+}
+
 Times time_runs(const Bench &bench, const Bytes &card, const Questions &questions) {
-    Rooms rooms = compared(card, questions);
+    const std::vector<Side> sides = both_engines(card);
+    Rooms rooms = compared(sides, questions, nothing);
     Race race;
-    for (int e : {0, 1}) {
-        race.enter(engines[e]->name, [&, e] { ask(*engines[e], card, questions, rooms.numbers[e]); });
+    for (size_t s = 0; s < sides.size(); s++) {
+        race.enter(sides[s].name, [&, s] { ask(sides[s], questions, rooms[s]); });
     }
     race.run(bench.pace);
     return {{archive.name, race.smallest(archive.name)}, {peer.name, race.smallest(peer.name)}};

@@ -20,16 +20,16 @@ struct Word {
 Word plain_word(List pages);
 
 // the block of a word; the run ends if the engine refuses it
-Bytes term_block(const Engine &engine, uint32_t n, const Word &word);
+Bytes term_block(const Engine &engine, uint32_t n, const Word &word, uint32_t edition = first_edition);
 
 // the block of a list below u
 Bytes list_block(const Engine &engine, uint32_t u, const List &list);
 
 // the card of these words, the same bytes from both engines
-Bytes make_card(uint32_t n, const std::vector<Word> &words);
+Bytes make_card(uint32_t n, const std::vector<Word> &words, uint32_t edition = first_edition);
 
 // the card whose words stand once on each page of a list
-Bytes card_of_lists(uint32_t n, const std::vector<List> &lists);
+Bytes card_of_lists(uint32_t n, const std::vector<List> &lists, uint32_t edition = first_edition);
 
 // questions in the form that a run takes, how many there are, and the most that an answer could take
 struct Questions {

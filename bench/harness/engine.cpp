@@ -10,25 +10,27 @@ jf_written write_list(uint32_t u, const uint32_t *list, size_t list_len, uint8_t
     return as_written(peer_write_list(u, list, list_len, room, room_len));
 }
 
-jf_written write_term(uint32_t n, const uint32_t *pages, size_t pages_len, const uint32_t *counts, size_t counts_len,
-                      const uint32_t *positions, size_t positions_len, uint8_t *room, size_t room_len) {
+jf_written write_term(uint32_t version, uint32_t n, const uint32_t *pages, size_t pages_len, const uint32_t *counts,
+                      size_t counts_len, const uint32_t *positions, size_t positions_len, uint8_t *room,
+                      size_t room_len) {
     return as_written(
-        peer_write_term(n, pages, pages_len, counts, counts_len, positions, positions_len, room, room_len));
+        peer_write_term(version, n, pages, pages_len, counts, counts_len, positions, positions_len, room, room_len));
 }
 
 jf_streamed as_streamed(peer_streamed given) {
     const peer_stream &s = given.stream;
     return {given.refusal,
             given.length,
-            {s.mark, s.n, s.pages, s.positions, s.u, s.laid, s.filled, s.page, s.base}};
+            {s.mark, s.version, s.n, s.pages, s.positions, s.u, s.laid, s.filled, s.page, s.base}};
 }
 
 peer_stream of_peer(jf_stream s) {
-    return {s.mark, s.n, s.pages, s.positions, s.u, s.laid, s.filled, s.page, s.base};
+    return {s.mark, s.version, s.n, s.pages, s.positions, s.u, s.laid, s.filled, s.page, s.base};
 }
 
-jf_streamed begin_term(uint32_t n, uint32_t pages, uint32_t positions, uint32_t u, uint8_t *room, size_t room_len) {
-    return as_streamed(peer_begin_term(n, pages, positions, u, room, room_len));
+jf_streamed begin_term(uint32_t version, uint32_t n, uint32_t pages, uint32_t positions, uint32_t u, uint8_t *room,
+                       size_t room_len) {
+    return as_streamed(peer_begin_term(version, n, pages, positions, u, room, room_len));
 }
 
 jf_streamed put_postings(jf_stream stream, const uint32_t *pages, size_t pages_len, const uint32_t *counts,
@@ -42,8 +44,8 @@ jf_streamed end_term(jf_stream stream, uint8_t *room, size_t room_len) {
     return as_streamed(peer_end_term(of_peer(stream), room, room_len));
 }
 
-jf_written close_index(uint8_t *buffer, size_t buffer_len, size_t used, uint32_t n, uint32_t t) {
-    return as_written(peer_close_index(buffer, buffer_len, used, n, t));
+jf_written close_index(uint8_t *buffer, size_t buffer_len, size_t used, uint32_t version, uint32_t n, uint32_t t) {
+    return as_written(peer_close_index(buffer, buffer_len, used, version, n, t));
 }
 
 jf_asked ask(const uint8_t *card, size_t card_len, const uint32_t *questions, size_t questions_len, uint32_t *room,

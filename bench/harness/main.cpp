@@ -21,6 +21,7 @@ int main(int count, char **arguments) {
     if (wanted("lists")) measure_lists(bench);
     if (wanted("reading")) measure_reading(bench);
     if (wanted("common")) measure_common(bench);
+    if (wanted("dense")) measure_dense(bench);
     if (wanted("screens")) measure_screens(bench);
     if (wanted("phrases")) measure_phrases(bench);
     if (wanted("lookup")) measure_lookup(bench);

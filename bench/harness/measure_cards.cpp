@@ -40,7 +40,7 @@ void write_words(Bench &bench, uint32_t n, const Blocks &made, const std::string
     const Times times = race_both(bench, [&](int e) {
         for (size_t i = 0; i < made.words.size(); i++) {
             const Word &w = made.words[i];
-            engines[e]->write_term(n, w.pages.data(), w.pages.size(), w.counts.data(), w.counts.size(),
+            engines[e]->write_term(first_edition, n, w.pages.data(), w.pages.size(), w.counts.data(), w.counts.size(),
                                    w.positions.data(), w.positions.size(), rooms[e][i].data(), rooms[e][i].size());
         }
     });
@@ -50,7 +50,9 @@ void write_words(Bench &bench, uint32_t n, const Blocks &made, const std::string
 void check_words(Bench &bench, const Blocks &made, const std::string &text) {
     uint32_t refusals[2] = {0, 0};
     const Times times = race_both(bench, [&](int e) {
-        for (const Bytes &block : made.blocks) refusals[e] |= engines[e]->check_term(block.data(), block.size());
+        for (const Bytes &block : made.blocks) {
+            refusals[e] |= engines[e]->check_term(first_edition, block.data(), block.size());
+        }
     });
     require(refusals[0] == JF_ACCEPTED && refusals[1] == JF_ACCEPTED, "a written word is refused");
     bench.record.add({"check words", "whole card", text, "card", static_cast<double>(made.card.size()), times});
@@ -63,7 +65,7 @@ void close_and_check(Bench &bench, uint32_t n, Blocks &made, const std::string &
     uint32_t refusals[2] = {0, 0};
     const Times closing = race_both(bench, [&](int e) {
         Bytes &b = buffers[e];
-        refusals[e] |= engines[e]->close_index(b.data(), b.size(), b.size(), n, t).refusal;
+        refusals[e] |= engines[e]->close_index(b.data(), b.size(), b.size(), first_edition, n, t).refusal;
     });
     bench.record.add({"close a card", "whole card", text, "card", bytes, closing});
     const Times checking = race_both(bench, [&](int e) {

@@ -7,68 +7,6 @@
 
 namespace {
 
-constexpr size_t most_groups = 4;
-constexpr size_t most_elements = 1 << 20;
-
-// the lists of a card, and the words of each question on it
-struct Groups {
-    std::vector<List> lists;
-    std::vector<List> words;
-};
-
-// several groups of lists where they are short, so that a run is not one question learnt by heart
-Groups make_groups(uint32_t u, uint32_t k, const MakeGroup &make) {
-    Random random(u + k);
-    Groups groups;
-    size_t elements = 0;
-    while (groups.words.size() < most_groups && elements < most_elements) {
-        List words;
-        for (List &list : make(random, u, k)) {
-            words.push_back(static_cast<uint32_t>(groups.lists.size()));
-            elements += list.size();
-            groups.lists.push_back(std::move(list));
-        }
-        for (size_t i = words.size(); i > 1; i--) std::swap(words[i - 1], words[random.below(static_cast<uint32_t>(i))]);
-        groups.words.push_back(words);
-    }
-    return groups;
-}
-
-// of answers to kind 3: the pages alone
-List common_pages(const List &answers) {
-    List pages;
-    for (size_t i = 0; i < answers.size(); i += 1 + answers[i]) {
-        pages.insert(pages.end(), answers.begin() + static_cast<long>(i) + 3,
-                     answers.begin() + static_cast<long>(i + 1 + answers[i]));
-    }
-    return pages;
-}
-
-Questions repeated(const Groups &groups, size_t rounds) {
-    Questions questions;
-    for (size_t round = 0; round < rounds; round++) {
-        for (const List &words : groups.words) questions.add(JF_KIND_COMMON, words);
-    }
-    for (const List &list : groups.lists) questions.most = std::max(questions.most, 3 + list.size());
-    return questions;
-}
-
-// the seeks that one round of the questions reports
-double seeks_of(const Bytes &card, const Questions &questions) {
-    List room(room_for(card, questions));
-    const List &q = questions.numbers;
-    const jf_asked asked = archive.ask(card.data(), card.size(), q.data(), q.size(), room.data(), room.size());
-    double seeks = 0;
-    for (size_t i = 0; i < asked.used; i += 1 + room[i]) seeks += room[i + 1];
-    return seeks;
-}
-
-// so many rounds that the questions take about as long as the card's check, or longer
-size_t enough_rounds(const Bytes &card, double seeks) {
-    const double check_ns = 8.0 * static_cast<double>(card.size());
-    return static_cast<size_t>(std::clamp(check_ns / (15.0 * seeks), 1.0, 2000.0));
-}
-
 std::vector<Other> others_for(const Bench &bench, const std::vector<List> &words, size_t rounds) {
     std::vector<Other> others;
     for (const auto &contender : bench.contenders) {
@@ -93,14 +31,6 @@ std::vector<List> skewed(Random &random, uint32_t u, uint32_t k) {
         length *= 10;
     }
     return lists;
-}
-
-MakeGroup independent(double density) {
-    return [density](Random &random, uint32_t u, uint32_t k) {
-        std::vector<List> lists;
-        for (uint32_t i = 0; i < k; i++) lists.push_back(scattered(random, u, density));
-        return lists;
-    };
 }
 
 // in the same chapters of some 200 pages, of which each word has these

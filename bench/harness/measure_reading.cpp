@@ -40,27 +40,34 @@ List first_some(const List &numbers) {
 
 } // namespace
 
-void one_reading(Bench &bench, const std::string &family, uint32_t u, const List &list) {
-    const Bytes card = card_of_lists(u, {list});
-    for (const auto &contender : bench.contenders) contender->take(u, {list});
+Reading time_reading(const Bench &bench, const std::vector<Side> &sides, const std::vector<Contender *> &contenders,
+                     uint32_t u, const List &list) {
+    for (Contender *contender : contenders) contender->take(u, {list});
     Random random(list.size());
-    const size_t count = enough_questions(card);
+    const size_t count = enough_questions(sides[0].card);
     const List ranks = random_numbers(random, count, static_cast<uint32_t>(list.size()));
     const List bounds = random_numbers(random, count, u);
     const List some_ranks = first_some(ranks), some_bounds = first_some(bounds);
     const size_t some = some_ranks.size();
 
     std::vector<Other> by_rank, by_bound;
-    for (const auto &c : bench.contenders) {
-        by_rank.push_back({c->name(), some, [&](uint32_t *to) { return c->at_ranks(0, some_ranks, to), some; }});
-        by_bound.push_back({c->name(), some, [&](uint32_t *to) { return c->at_bounds(0, some_bounds, to), some; }});
+    for (Contender *c : contenders) {
+        by_rank.push_back({c->name(), some, [&, c](uint32_t *to) { return c->at_ranks(0, some_ranks, to), some; }});
+        by_bound.push_back({c->name(), some, [&, c](uint32_t *to) { return c->at_bounds(0, some_bounds, to), some; }});
     }
+    Times rank = time_sides(bench, sides, questions_of(JF_KIND_RANK, ranks), by_rank, pages_of<found_by_rank>);
+    Times seek = time_sides(bench, sides, questions_of(JF_KIND_BOUND, bounds), by_bound, pages_of<found_by_bound>);
+    return {rank, seek};
+}
+
+void one_reading(Bench &bench, const std::string &family, uint32_t u, const List &list) {
+    const Bytes card = card_of_lists(u, {list});
+    std::vector<Contender *> contenders;
+    for (const auto &contender : bench.contenders) contenders.push_back(contender.get());
+    const Reading reading = time_reading(bench, both_engines(card), contenders, u, list);
     const std::string text = parameters({{"U", u}, {"n", list.size()}});
-    const Times rank = time_questions(bench, card, questions_of(JF_KIND_RANK, ranks), by_rank, pages_of<found_by_rank>);
-    bench.record.add({"element by rank", family, text, "question", 0, rank});
-    const Times seek =
-        time_questions(bench, card, questions_of(JF_KIND_BOUND, bounds), by_bound, pages_of<found_by_bound>);
-    bench.record.add({"fresh seek", family, text, "question", 0, seek});
+    bench.record.add({"element by rank", family, text, "question", 0, reading.by_rank});
+    bench.record.add({"fresh seek", family, text, "question", 0, reading.by_bound});
 }
 
 void measure_reading(Bench &bench) {

@@ -46,8 +46,8 @@ uint32_t positions_u(const Word &word) {
 jf_streamed write_in_runs(const Engine &engine, const Stream &s, Bytes &room) {
     const Word &w = s.word;
     jf_streamed given =
-        engine.begin_term(s.n, static_cast<uint32_t>(w.pages.size()), static_cast<uint32_t>(w.positions.size()), s.u,
-                          room.data(), room.size());
+        engine.begin_term(first_edition, s.n, static_cast<uint32_t>(w.pages.size()),
+                          static_cast<uint32_t>(w.positions.size()), s.u, room.data(), room.size());
     for (const Run &run : s.runs) {
         given = engine.put_postings(given.stream, w.pages.data() + run.page, run.pages, w.counts.data() + run.page,
                                     run.pages, w.positions.data() + run.position, run.positions, room.data(),
@@ -58,8 +58,8 @@ jf_streamed write_in_runs(const Engine &engine, const Stream &s, Bytes &room) {
 
 void write_whole(const Stream &s, Bytes &room) {
     const Word &w = s.word;
-    archive.write_term(s.n, w.pages.data(), w.pages.size(), w.counts.data(), w.counts.size(), w.positions.data(),
-                       w.positions.size(), room.data(), room.size());
+    archive.write_term(first_edition, s.n, w.pages.data(), w.pages.size(), w.counts.data(), w.counts.size(),
+                       w.positions.data(), w.positions.size(), room.data(), room.size());
 }
 
 void compare(const Stream &s, const Bytes &block) {

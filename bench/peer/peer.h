@@ -1,5 +1,5 @@
 /*
- * The peer: document 01's format without proofs, written to be fast, for measuring only.
+ * The peer: the format of both editions without proofs, written to be fast, for measuring only.
  *
  * For C99 and C++. The calls, structs and numbers are those of include/jundefola.h, with peer_ in place of jf_.
  * Link libjundefola_peer.a, which `cargo build --release` makes, with -lpthread -ldl.
@@ -37,7 +37,7 @@ typedef struct peer_screened {
 
 /* A session that writes a word run by run, and what each of its calls reports. */
 typedef struct peer_stream {
-    uint32_t mark, n, pages, positions, u, laid, filled, page, base;
+    uint32_t mark, version, n, pages, positions, u, laid, filled, page, base;
 } peer_stream;
 
 typedef struct peer_streamed {
@@ -50,12 +50,12 @@ peer_written peer_write_list(uint32_t u, const uint32_t *list, size_t list_len, 
 
 uint32_t peer_check_list(const uint8_t *block, size_t block_len);
 
-peer_written peer_write_term(uint32_t n, const uint32_t *pages, size_t pages_len, const uint32_t *counts,
-                             size_t counts_len, const uint32_t *positions, size_t positions_len, uint8_t *room,
-                             size_t room_len);
+peer_written peer_write_term(uint32_t version, uint32_t n, const uint32_t *pages, size_t pages_len,
+                             const uint32_t *counts, size_t counts_len, const uint32_t *positions,
+                             size_t positions_len, uint8_t *room, size_t room_len);
 
-peer_streamed peer_begin_term(uint32_t n, uint32_t pages, uint32_t positions, uint32_t u, uint8_t *room,
-                              size_t room_len);
+peer_streamed peer_begin_term(uint32_t version, uint32_t n, uint32_t pages, uint32_t positions, uint32_t u,
+                              uint8_t *room, size_t room_len);
 
 peer_streamed peer_put_postings(peer_stream stream, const uint32_t *pages, size_t pages_len, const uint32_t *counts,
                                 size_t counts_len, const uint32_t *positions, size_t positions_len, uint8_t *room,
@@ -63,9 +63,10 @@ peer_streamed peer_put_postings(peer_stream stream, const uint32_t *pages, size_
 
 peer_streamed peer_end_term(peer_stream stream, uint8_t *room, size_t room_len);
 
-uint32_t peer_check_term(const uint8_t *block, size_t block_len);
+uint32_t peer_check_term(uint32_t version, const uint8_t *block, size_t block_len);
 
-peer_written peer_close_index(uint8_t *buffer, size_t buffer_len, size_t used, uint32_t n, uint32_t t);
+peer_written peer_close_index(uint8_t *buffer, size_t buffer_len, size_t used, uint32_t version, uint32_t n,
+                              uint32_t t);
 
 uint32_t peer_check_index(const uint8_t *card, size_t card_len);
 

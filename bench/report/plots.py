@@ -111,7 +111,7 @@ def growth_plot(path, measurements, title, panels):
 
 
 def write_all(folder, measurements):
-    ratio_plot(f"{folder}/ratios.svg", [m for m in measurements if not m.is_growth])
+    ratio_plot(f"{folder}/ratios.svg", [m for m in measurements if not m.is_growth and not m.is_size])
     lists = ["write a list", "check a list", "element by rank", "fresh seek"]
     growth_plot(f"{folder}/growth-n.svg", measurements, "Growth with the length of a list, U = 2^24",
                 [(operation, "n", "n, numbers in the list") for operation in lists])

@@ -7,13 +7,16 @@ from dataclasses import dataclass, field
 ARCHIVE = "archive"
 WHOLE_LISTS = "whole lists"
 ALL_PAGES = "all pages"
-CONTENDERS = ["peer", "sdsl", "CRoaring", "galloping", WHOLE_LISTS, ALL_PAGES]
+FIRST_EDITION = "edition 1"
+PLAIN_BITMAP = "plain bitmap"
+LOWER_BOUND = "lower bound"
+CONTENDERS = ["peer", "sdsl", "CRoaring", "galloping", WHOLE_LISTS, ALL_PAGES, FIRST_EDITION, PLAIN_BITMAP]
 GROWTH = "growth with "
 
 
 @dataclass
 class Measurement:
-    """One thing measured: nanoseconds of each contender for one unit."""
+    """One thing measured: nanoseconds of each contender for one unit, or bytes where the unit is a byte."""
 
     operation: str
     family: str
@@ -29,6 +32,10 @@ class Measurement:
     def value(self, name):
         """The number of a parameter, as of n in `U=44 n=8`."""
         return int(dict(pair.split("=") for pair in self.parameters.split())[name])
+
+    @property
+    def is_size(self):
+        return self.unit == "byte"
 
     @property
     def is_growth(self):

@@ -4,7 +4,7 @@ import math
 from xml.sax.saxutils import escape
 
 COLOURS = {"archive": "#000000", "peer": "#d55e00", "sdsl": "#0072b2", "CRoaring": "#009e73", "galloping": "#999999",
-           "whole lists": "#cc79a7", "all pages": "#e69f00"}
+           "whole lists": "#cc79a7", "all pages": "#e69f00", "edition 1": "#56b4e9", "plain bitmap": "#8a6d1d"}
 FONT = 'font-family="sans-serif"'
 
 

@@ -1,11 +1,16 @@
 """TABLE.md: what was measured, as tables, with the aims and whether they are met."""
 
-from results import ARCHIVE, CONTENDERS, WHOLE_LISTS, geometric_mean, ratios
+from results import ARCHIVE, CONTENDERS, FIRST_EDITION, LOWER_BOUND, WHOLE_LISTS, geometric_mean, ratios
+
+DENSE_COMMON = "seek in dense common pages"
+DENSE_WORDS = [DENSE_COMMON, "seek in mixed common pages", "dense page by rank", "dense fresh seek",
+               "write a dense word", "check a dense word"]
 
 GROUPS = [
     ("One list", ["write a list", "check a list"]),
     ("Reading one list", ["element by rank", "fresh seek"]),
     ("Intersections", ["common pages", "seek in common pages", "pages of one word"]),
+    ("Dense words, in edition 2", DENSE_WORDS),
     ("Screens of 10 pages", ["check before a screen", "screen with the check", "screen alone"]),
     ("Phrases", ["phrase", "phrase with gaps"]),
     ("Word lookup", ["word lookup"]),
@@ -15,11 +20,13 @@ GROUPS = [
     ("The program, from start to end", ["program"]),
 ]
 
-INTERSECTIONS = {"common pages", "seek in common pages"}
+INTERSECTIONS = {"common pages", "seek in common pages", DENSE_COMMON, "seek in mixed common pages"}
 PEER_MOST = 1.2
 PEER_MOST_INTERSECTION = 1.0
 # the most of the time for whole lists that a word written in runs may take
 WHOLE_LISTS_MOST = {"write in runs of 256": 1.3, "write in runs of 1": 3.0}
+# the most of edition 1's time that a seek in common pages of dense words may take
+FIRST_EDITION_MOST = 0.5
 DENSE = ("3 in 4", "1 in 2", "1 in 16")
 
 NOTES = """\
@@ -43,7 +50,14 @@ which is refused behind it; before each run checks, kind 3 and the same run go u
 processor alike. `screen alone` is the median of what a call took beyond the check in the same repetition, for cards \
 whose check is short; in a long one a screen is lost. `seeks` and `looks` are the screen's own, those with `all-` kind \
 3's.
-- CRoaring's seek is by its iterator, which is faster than rank and select, and finds no rank.\
+- CRoaring's seek is by its iterator, which is faster than rank and select, and finds no rank.
+- All cards are of edition 1 but those of dense words: there `archive` and `peer` have cards of edition 2, in which \
+dense pages are bitmaps, and `edition 1` is the archive on the same words in edition 1. `just dense` is n = U div 4 + \
+1, the fewest pages that are a bitmap. In mixed common pages one list is thin and the others are of 1 in 2. A seek is \
+a question's time over its seeks, which both editions have alike. CRoaring, whose bitmaps are crossed whole, and \
+`plain bitmap`, an `and` of words without counts or a check, make none; their time is divided by the same number. A \
+dense word stands once on each of its pages; it is written and checked with its counts and positions, and the time is \
+that of one page.\
 """
 
 
@@ -100,6 +114,18 @@ def operation_table(measurements):
     return lines
 
 
+def size_table(measurements):
+    """The bytes of dense pages as a bitmap, beside edition 1's and the fewest that tell such a list from all others."""
+    head = ["lists", "parameters", "bitmap", FIRST_EDITION, "ratio", LOWER_BOUND, "ratio"]
+    lines = [row(head), row(["---"] * 2 + ["---:"] * (len(head) - 2))]
+    for m in measurements:
+        cells = [m.family, parameter_text(m.parameters), f"{m.ns[ARCHIVE]:,.0f}"]
+        for other in (FIRST_EDITION, LOWER_BOUND):
+            cells += [f"{m.ns[other]:,.0f}", ratio_text(m.ratio(other)) if m.ns[other] else ""]
+        lines.append(row(cells))
+    return lines
+
+
 def summary_table(measurements):
     lines = [row(["operation"] + CONTENDERS), row(["---"] + ["---:"] * len(CONTENDERS))]
     for _, operations in GROUPS:
@@ -135,7 +161,7 @@ def misses(measurements, contender, most):
 
 
 def is_dense(measurement):
-    return any(measurement.family.endswith(name) for name in DENSE)
+    return measurement.operation in DENSE_WORDS or any(measurement.family.endswith(name) for name in DENSE)
 
 
 def aims(measurements):
@@ -152,6 +178,10 @@ def aims(measurements):
         if streamed:
             lines.append(met(f"{operation[0].upper()}{operation[1:]}, at most {most} of whole lists",
                              misses(streamed, WHOLE_LISTS, most)))
+    crossed = [m for m in measurements if m.operation == DENSE_COMMON]
+    if crossed:
+        lines.append(met(f"{DENSE_COMMON[0].upper()}{DENSE_COMMON[1:]}, at most {FIRST_EDITION_MOST} of edition 1",
+                         misses(crossed, FIRST_EDITION, FIRST_EDITION_MOST)))
     if any("sdsl" in m.ns for m in measurements):
         lines.append(met("sdsl, faster everywhere", misses(measurements, "sdsl", 1)))
     if any("CRoaring" in m.ns for m in measurements):
@@ -160,7 +190,8 @@ def aims(measurements):
 
 
 def write(path, measurements, machine):
-    chosen = [m for m in measurements if not m.is_growth]
+    chosen = [m for m in measurements if not m.is_growth and not m.is_size]
+    sizes = [m for m in measurements if m.is_size]
     lines = ["# What was measured", "", machine, "", NOTES, "", "## All operations", "",
              "Ratios archive / contender: geometric mean over all lists (least to greatest).", ""]
     lines += summary_table(chosen) + ["", "![ratios](ratios.svg)", "", "## Aims", ""] + aims(chosen)
@@ -170,6 +201,9 @@ def write(path, measurements, machine):
             rows = [m for m in chosen if m.operation == operation]
             if rows:
                 lines += ["", f"### {operation}, time for one {rows[0].unit}", ""] + operation_table(rows)
+    if sizes:
+        lines += ["", "## Bytes of dense pages", "", "The list block as a bitmap, in edition 1, and the lower bound: log2 "
+                  "of how many lists of n numbers below U there are, in whole bytes.", ""] + size_table(sizes)
     lines += ["", "## Growth", "", "With n at U = 2^24, with U at n = 2^12; words looked up on a card of T words; common "
               "pages of k words. The numbers are in results.csv.", "", "![growth with n](growth-n.svg)", "",
               "![growth with U](growth-u.svg)", "", "![growth with T and k](growth-t-k.svg)"]

@@ -1,6 +1,6 @@
 /*
- * Writes a list, a word in runs and a card of two words, asks it the four kinds of question and prints the answers, and
- * then shows common pages one screen at a time.
+ * Writes a list, a word in runs, a dense word in each edition and a card of two words, asks it the four kinds of
+ * question and prints the answers, and then shows common pages one screen at a time.
  */
 #include <inttypes.h>
 #include <stdio.h>
@@ -11,8 +11,8 @@
 
 #define LENGTH(array) (sizeof(array) / sizeof((array)[0]))
 
-/* The pages of this small manual. */
-enum { PAGES = 44 };
+/* The pages of this small manual, how many are every second of them, and the version of its card. */
+enum { PAGES = 44, EVEN_PAGES = PAGES / 2, VERSION = JF_EDITION_2 };
 
 /* The pages of the word "torque", the count on each, and the positions, page after page. */
 static const uint32_t torque_pages[] = {3, 4, 7, 13, 14, 15, 21, 43};
@@ -65,7 +65,8 @@ static uint32_t positions_u(const uint32_t *counts, size_t counts_len, const uin
 static size_t write_in_runs(uint8_t *room, size_t room_len)
 {
     uint32_t u = positions_u(torque_counts, LENGTH(torque_counts), torque_positions);
-    jf_streamed torque = jf_begin_term(PAGES, LENGTH(torque_pages), LENGTH(torque_positions), u, room, room_len);
+    jf_streamed torque = jf_begin_term(VERSION, PAGES, LENGTH(torque_pages), LENGTH(torque_positions), u, room,
+                                       room_len);
     expect_accepted("jf_begin_term", torque.refusal);
     torque = jf_put_postings(torque.stream, torque_pages, 4, torque_counts, 4, torque_positions, 4, room, room_len);
     expect_accepted("jf_put_postings", torque.refusal);
@@ -83,27 +84,48 @@ static void show_runs(void)
     uint8_t in_runs[JF_TERM_ROOM(LENGTH(torque_pages), LENGTH(torque_positions))];
     uint8_t at_once[sizeof in_runs];
     size_t length = write_in_runs(in_runs, sizeof in_runs);
-    jf_written torque = jf_write_term(PAGES, torque_pages, LENGTH(torque_pages), torque_counts, LENGTH(torque_counts),
-                                      torque_positions, LENGTH(torque_positions), at_once, sizeof at_once);
+    jf_written torque = jf_write_term(VERSION, PAGES, torque_pages, LENGTH(torque_pages), torque_counts,
+                                      LENGTH(torque_counts), torque_positions, LENGTH(torque_positions), at_once,
+                                      sizeof at_once);
     expect_accepted("jf_write_term", torque.refusal);
     int same = length == torque.length && memcmp(in_runs, at_once, length) == 0;
     printf("torque in two runs: %zu bytes, %s\n", length, same ? "the same as at once" : "and others at once");
+}
+
+/* Prints how long the block of a word on every second page is: in edition 2 its pages are a bitmap. */
+static void show_editions(void)
+{
+    uint32_t pages[EVEN_PAGES], counts[EVEN_PAGES], positions[EVEN_PAGES];
+    for (uint32_t i = 0; i < EVEN_PAGES; i++) {
+        pages[i] = 2 * i;
+        counts[i] = 1;
+        positions[i] = 0;
+    }
+    for (uint32_t version = 1; version <= JF_MAX_VERSION; version++) {
+        uint8_t block[JF_TERM_ROOM(EVEN_PAGES, EVEN_PAGES)];
+        jf_written even = jf_write_term(version, PAGES, pages, EVEN_PAGES, counts, EVEN_PAGES, positions, EVEN_PAGES,
+                                        block, sizeof block);
+        expect_accepted("jf_write_term", even.refusal);
+        expect_accepted("jf_check_term", jf_check_term(version, block, even.length));
+        printf("a word on every second page, edition %" PRIu32 ": %zu bytes\n", version, even.length);
+    }
 }
 
 /* Writes the two words behind the card's header, closes the card and returns its length. */
 static size_t make_card(uint8_t *buffer, size_t buffer_len)
 {
     size_t used = JF_CARD_HEADER;
-    jf_written torque = jf_write_term(PAGES, torque_pages, LENGTH(torque_pages), torque_counts, LENGTH(torque_counts),
-                                      torque_positions, LENGTH(torque_positions), buffer + used, buffer_len - used);
+    jf_written torque = jf_write_term(VERSION, PAGES, torque_pages, LENGTH(torque_pages), torque_counts,
+                                      LENGTH(torque_counts), torque_positions, LENGTH(torque_positions), buffer + used,
+                                      buffer_len - used);
     expect_accepted("jf_write_term", torque.refusal);
-    expect_accepted("jf_check_term", jf_check_term(buffer + used, torque.length));
+    expect_accepted("jf_check_term", jf_check_term(VERSION, buffer + used, torque.length));
     used += torque.length;
-    jf_written bolt = jf_write_term(PAGES, bolt_pages, LENGTH(bolt_pages), bolt_counts, LENGTH(bolt_counts),
+    jf_written bolt = jf_write_term(VERSION, PAGES, bolt_pages, LENGTH(bolt_pages), bolt_counts, LENGTH(bolt_counts),
                                     bolt_positions, LENGTH(bolt_positions), buffer + used, buffer_len - used);
     expect_accepted("jf_write_term", bolt.refusal);
     used += bolt.length;
-    jf_written card = jf_close_index(buffer, buffer_len, used, PAGES, WORDS);
+    jf_written card = jf_close_index(buffer, buffer_len, used, VERSION, PAGES, WORDS);
     expect_accepted("jf_close_index", card.refusal);
     return card.length;
 }
@@ -205,6 +227,7 @@ int main(void)
                    JF_TERM_ROOM(LENGTH(bolt_pages), LENGTH(bolt_positions))];
     show_list();
     show_runs();
+    show_editions();
     size_t card_len = make_card(buffer, sizeof buffer);
     expect_accepted("jf_check_index", jf_check_index(buffer, card_len));
     printf("card of %d words, %zu bytes\n", WORDS, card_len);

@@ -6,8 +6,8 @@ use crate::Question;
 /// The answer to one question.
 ///
 /// ```
-/// use jundefola::{ask_all, Answer, CardWriter, Question};
-/// let mut writer = CardWriter::new(44);
+/// use jundefola::{ask_all, Answer, CardWriter, Edition, Question};
+/// let mut writer = CardWriter::new(Edition::Two, 44);
 /// writer.add(&[4, 15], &[1, 1], &[0, 0])?;
 /// let card = writer.close()?;
 ///
@@ -34,7 +34,7 @@ pub enum Answer<'a> {
     Common {
         /// How many seeks were made.
         seeks: u32,
-        /// How many words of the upper runs the seeks looked at.
+        /// How many words of the upper runs, or of the bitmaps, the seeks looked at.
         looks: u32,
         /// The common pages, rising.
         pages: &'a [u32],

@@ -15,8 +15,8 @@ const GROWTH: usize = 4;
 /// the questions that are left.
 ///
 /// ```
-/// use jundefola::{ask_all, Answer, CardWriter, Question, Refusal};
-/// let mut writer = CardWriter::new(3);
+/// use jundefola::{ask_all, Answer, CardWriter, Edition, Question, Refusal};
+/// let mut writer = CardWriter::new(Edition::Two, 3);
 /// writer.add(&[1], &[2], &[0, 2])?;
 /// let card = writer.close()?;
 ///

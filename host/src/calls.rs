@@ -46,6 +46,7 @@ extern "C" {
     ) -> RawWritten;
     fn jf_check_list(block: *const u8, block_len: usize) -> u32;
     fn jf_write_term(
+        version: u32,
         n: u32,
         pages: *const u32,
         pages_len: usize,
@@ -57,6 +58,7 @@ extern "C" {
         room_len: usize,
     ) -> RawWritten;
     fn jf_begin_term(
+        version: u32,
         n: u32,
         pages: u32,
         positions: u32,
@@ -76,11 +78,12 @@ extern "C" {
         room_len: usize,
     ) -> RawStreamed;
     fn jf_end_term(stream: Stream, room: *mut u8, room_len: usize) -> RawStreamed;
-    fn jf_check_term(block: *const u8, block_len: usize) -> u32;
+    fn jf_check_term(version: u32, block: *const u8, block_len: usize) -> u32;
     fn jf_close_index(
         buffer: *mut u8,
         buffer_len: usize,
         used: usize,
+        version: u32,
         n: u32,
         t: u32,
     ) -> RawWritten;
@@ -114,6 +117,7 @@ extern "C" {
 #[derive(Clone, Debug, Default, PartialEq, Eq)]
 pub struct Stream {
     mark: u32,
+    version: u32,
     n: u32,
     pages: u32,
     positions: u32,
@@ -144,7 +148,8 @@ pub struct Screened {
     pub next: Option<u32>,
 }
 
-/// Writes the block of a list of strictly rising numbers, each below `u`, to the start of the room; gives its length.
+/// Writes the block of a list of strictly rising numbers, each below `u`, as runs to the start of the room; gives its
+/// length.
 ///
 /// [`list_room`](crate::list_room) tells how many bytes are enough. A refusal leaves the room as it was.
 ///
@@ -159,18 +164,28 @@ pub fn write_list(u: u32, list: &[u32], room: &mut [u8]) -> Result<usize, Refusa
     length(unsafe { jf_write_list(u, list.as_ptr(), list.len(), room.as_mut_ptr(), room.len()) })
 }
 
-/// Checks a list block, which has to fill the bytes given.
+/// Checks the block of a list as runs, which has to fill the bytes given; a bitmap is [`Refusal::Version`].
 pub fn check_list(block: &[u8]) -> Result<(), Refusal> {
     // SAFETY: the slice is lent for the call.
     accepted(unsafe { jf_check_list(block.as_ptr(), block.len()) })
 }
 
-/// Writes the term block of one word of a card with `n` pages to the start of the room; gives its length.
+/// Writes the term block of one word, for a card of this version with `n` pages, to the start of the room; gives its
+/// length.
 ///
-/// The word's pages rise and are below `n`; each has a count of at least 1; the positions follow page after page and
-/// rise within a page. [`term_room`](crate::term_room) tells how many bytes are enough. A refusal leaves the room as it
-/// was.
+/// The version is that of an [`Edition`](crate::Edition), or any number: one that is not known is [`Refusal::Version`],
+/// before all else. The word's pages rise and are below `n`; each has a count of at least 1; the positions follow page
+/// after page and rise within a page. [`term_room`](crate::term_room) tells how many bytes are enough. A refusal leaves
+/// the room as it was.
+///
+/// ```
+/// use jundefola::{write_term, Edition, Refusal};
+/// let mut room = [0; 100];
+/// assert_eq!(write_term(Edition::Two, 3, &[1], &[2], &[0, 2], &mut room), Ok(84));
+/// assert_eq!(write_term(7_u32, 3, &[1], &[2], &[0, 2], &mut room), Err(Refusal::Version));
+/// ```
 pub fn write_term(
+    version: impl Into<u32>,
     n: u32,
     pages: &[u32],
     counts: &[u32],
@@ -180,6 +195,7 @@ pub fn write_term(
     // SAFETY: the slices are lent for the call, and the room is lent alone.
     length(unsafe {
         jf_write_term(
+            version.into(),
             n,
             pages.as_ptr(),
             pages.len(),
@@ -193,14 +209,17 @@ pub fn write_term(
     })
 }
 
-/// Announces a word that is written in runs: so many of a card's `n` pages, so many positions, and the positions' U.
+/// Announces a word that is written in runs, for a card of this version: so many of its `n` pages, so many positions,
+/// and the positions' U.
 ///
 /// All headers are written to the start of the room and the rest of the block is cleared;
-/// [`term_room`](crate::term_room) tells how many bytes are enough. [`Refusal::Limit`] (`n` or `u`), [`Refusal::Lists`]
-/// (numbers that no word has) and [`Refusal::Room`] leave the room as it was.
+/// [`term_room`](crate::term_room) tells how many bytes are enough. [`Refusal::Version`] (one that is not known),
+/// [`Refusal::Limit`] (`n` or `u`), [`Refusal::Lists`] (numbers that no word has) and [`Refusal::Room`], in this order,
+/// leave the room as it was.
 ///
 /// [`TermWriter`](crate::TermWriter) holds session and room together, so that no other hand changes the room.
 pub fn begin_term(
+    version: impl Into<u32>,
     n: u32,
     pages: u32,
     positions: u32,
@@ -208,7 +227,17 @@ pub fn begin_term(
     room: &mut [u8],
 ) -> Result<Stream, Refusal> {
     // SAFETY: the room is lent alone for the call.
-    let begun = unsafe { jf_begin_term(n, pages, positions, u, room.as_mut_ptr(), room.len()) };
+    let begun = unsafe {
+        jf_begin_term(
+            version.into(),
+            n,
+            pages,
+            positions,
+            u,
+            room.as_mut_ptr(),
+            room.len(),
+        )
+    };
     accepted(begun.refusal).map(|()| begun.stream)
 }
 
@@ -242,7 +271,7 @@ pub fn put_postings(
     accepted(put.refusal)
 }
 
-/// Closes a word written in runs: writes its pointers and gives the length of its block.
+/// Closes a word written in runs: writes its pointers and a bitmap's numbers, and gives the length of its block.
 ///
 /// It refuses as [`put_postings`] does, with totals in place of postings: they are bad where the announced pages,
 /// positions or U are not reached.
@@ -253,22 +282,42 @@ pub fn end_term(stream: &mut Stream, room: &mut [u8]) -> Result<usize, Refusal> 
     accepted(ended.refusal).map(|()| ended.length)
 }
 
-/// Checks a term block, which has to fill the bytes given.
-pub fn check_term(block: &[u8]) -> Result<(), Refusal> {
-    // SAFETY: the slice is lent for the call.
-    accepted(unsafe { jf_check_term(block.as_ptr(), block.len()) })
-}
-
-/// Makes a card of the `t` term blocks that lie in the buffer from byte [`CARD_HEADER`](crate::CARD_HEADER) up to byte
-/// `used`; gives its length, which is `used`.
+/// Checks a term block of a card of this version, which has to fill the bytes given.
 ///
-/// The blocks are checked, and only the header is written. A refusal leaves the buffer as it was.
-pub fn close_index(buffer: &mut [u8], used: usize, n: u32, t: u32) -> Result<usize, Refusal> {
-    // SAFETY: the buffer is lent alone for the call.
-    length(unsafe { jf_close_index(buffer.as_mut_ptr(), buffer.len(), used, n, t) })
+/// The version is that of an [`Edition`](crate::Edition), or any number: one that is not known is [`Refusal::Version`],
+/// behind [`Refusal::Short`] and [`Refusal::Length`] of the block as a whole.
+pub fn check_term(version: impl Into<u32>, block: &[u8]) -> Result<(), Refusal> {
+    // SAFETY: the slice is lent for the call.
+    accepted(unsafe { jf_check_term(version.into(), block.as_ptr(), block.len()) })
 }
 
-/// Checks a card, which has to fill the bytes given.
+/// Makes a card of this version of the `t` term blocks that lie in the buffer from byte
+/// [`CARD_HEADER`](crate::CARD_HEADER) up to byte `used`; gives its length, which is `used`.
+///
+/// The version is that of an [`Edition`](crate::Edition), or any number: one that is not known is [`Refusal::Version`],
+/// behind [`Refusal::Room`] and [`Refusal::Short`] of `used`. The blocks are checked as those of a card of this
+/// version, and only the header is written. A refusal leaves the buffer as it was.
+pub fn close_index(
+    buffer: &mut [u8],
+    used: usize,
+    version: impl Into<u32>,
+    n: u32,
+    t: u32,
+) -> Result<usize, Refusal> {
+    // SAFETY: the buffer is lent alone for the call.
+    length(unsafe {
+        jf_close_index(
+            buffer.as_mut_ptr(),
+            buffer.len(),
+            used,
+            version.into(),
+            n,
+            t,
+        )
+    })
+}
+
+/// Checks a card, which has to fill the bytes given and states its version itself.
 pub fn check_index(card: &[u8]) -> Result<(), Refusal> {
     // SAFETY: the slice is lent for the call.
     accepted(unsafe { jf_check_index(card.as_ptr(), card.len()) })
@@ -343,13 +392,14 @@ fn accepted(number: u32) -> Result<(), Refusal> {
         return Ok(());
     }
     Err(Refusal::from_number(number).unwrap_or_else(|| {
-        panic!("the archive refused with {number}, which is no number of this edition")
+        panic!("the archive refused with {number}, which is no number of a refusal")
     }))
 }
 
 #[cfg(test)]
 mod tests {
     use super::*;
+    use crate::{term_block, Edition};
 
     const FILL: u8 = 0xA5;
 
@@ -357,6 +407,7 @@ mod tests {
     fn live() -> Stream {
         Stream {
             mark: 1,
+            version: 2,
             n: 44,
             pages: 2,
             positions: 3,
@@ -379,8 +430,9 @@ mod tests {
 
     #[test]
     fn the_structs_are_laid_as_in_the_header() {
-        assert_eq!((size_of::<Stream>(), align_of::<Stream>()), (36, 4));
-        assert_eq!(mem::offset_of!(Stream, base), 32);
+        assert_eq!((size_of::<Stream>(), align_of::<Stream>()), (40, 4));
+        assert_eq!(mem::offset_of!(Stream, version), 4);
+        assert_eq!(mem::offset_of!(Stream, base), 36);
         assert_eq!(mem::offset_of!(RawStreamed, length), size_of::<usize>());
         assert_eq!(mem::offset_of!(RawStreamed, stream), 2 * size_of::<usize>());
         assert_eq!(mem::offset_of!(RawScreened, found), size_of::<usize>());
@@ -394,16 +446,22 @@ mod tests {
     #[test]
     fn a_session_is_the_announcement_and_how_far_it_is_laid() {
         let mut room = [FILL; 200];
-        let mut stream = begin_term(44, 2, 3, 9, &mut room).unwrap();
-        put_postings(&mut stream, &[4], &[1], &[5], &mut room).unwrap();
-        assert_eq!(stream, live());
+        for edition in Edition::ALL {
+            let mut stream = begin_term(edition, 44, 2, 3, 9, &mut room).unwrap();
+            put_postings(&mut stream, &[4], &[1], &[5], &mut room).unwrap();
+            let version = edition.version();
+            assert_eq!(stream, Stream { version, ..live() });
+        }
     }
 
     #[test]
     fn a_session_that_is_not_live_is_refused_in_any_room() {
-        let wrong: [fn(&mut Stream); 11] = [
+        let wrong: [fn(&mut Stream); 14] = [
             |stream| stream.mark = 0,
             |stream| stream.mark = u32::MAX,
+            |stream| stream.version = 0,
+            |stream| stream.version = 3,
+            |stream| stream.version = u32::MAX,
             |stream| stream.n = 16_777_217,
             |stream| stream.u = 16_777_217,
             |stream| stream.n = 1,
@@ -437,9 +495,8 @@ mod tests {
             |stream| stream.laid = 2,
             |stream| stream.filled = 3,
         ];
-        let length = crate::term_block(44, &[4, 15], &[1, 2], &[5, 0, 2])
-            .unwrap()
-            .len();
+        let block = term_block(Edition::Two, 44, &[4, 15], &[1, 2], &[5, 0, 2]);
+        let length = block.unwrap().len();
         let cleared = [&vec![0; length][..], &[FILL; 3]].concat();
         for change in strange {
             let mut stream = live();

@@ -3,7 +3,7 @@
 //! The work is done by the proved library, whose archive this crate links. Here are its calls on slices
 //! ([`write_list`], [`check_list`], [`write_term`], [`check_term`], [`close_index`], [`check_index`], [`ask`]),
 //! the same on vectors ([`list_block`], [`term_block`], [`CardWriter`], [`ask_all`]), and names for what they
-//! take and answer ([`Question`], [`PhraseWord`], [`Answer`], [`Refusal`]).
+//! take and answer ([`Edition`], [`Question`], [`PhraseWord`], [`Answer`], [`Refusal`]).
 //!
 //! A word whose postings are not all at hand at once is written in runs of them: by [`TermWriter`], or by the calls
 //! [`begin_term`], [`put_postings`] and [`end_term`].
@@ -13,9 +13,9 @@
 //! A card has N pages, numbered from 0, and T words, its terms, numbered from 0:
 //!
 //! ```
-//! use jundefola::{ask_all, Answer, CardWriter, PageStarts, PhraseWord, Question};
+//! use jundefola::{ask_all, Answer, CardWriter, Edition, PageStarts, PhraseWord, Question};
 //!
-//! let mut writer = CardWriter::new(44);
+//! let mut writer = CardWriter::new(Edition::Two, 44);
 //! // "torque" is on page 4 at positions 0 and 7, and on page 15 at position 2
 //! writer.add(&[4, 15], &[2, 1], &[0, 7, 2])?;
 //! // "bolt" is on page 4 at position 1, on page 15 at position 4, and on page 21 at position 9
@@ -47,6 +47,7 @@ mod ask;
 mod blocks;
 #[allow(unsafe_code)]
 mod calls;
+mod edition;
 mod question;
 mod refusal;
 mod room;
@@ -60,6 +61,7 @@ pub use calls::{
     ask, begin_term, check_index, check_list, check_term, close_index, end_term, put_postings,
     screen, write_list, write_term, Asked, Screened, Stream,
 };
+pub use edition::Edition;
 pub use question::{question_numbers, PhraseWord, Question};
 pub use refusal::Refusal;
 pub use room::{list_room, term_room, CARD_HEADER, MAX_SCREEN, SCREEN_COUNTS};

@@ -10,13 +10,13 @@ pub enum Refusal {
     Short = 1,
     /// The stated length differs from the bytes given, or does not fit its container.
     Length = 2,
-    /// The version is not 1.
+    /// The version is not known, or the form of a list is not the one that belongs in its place.
     Version = 3,
     /// U, N or T is over its limit, or a closed card's length does not fit four bytes.
     Limit = 4,
     /// n is above U, the length is not the one that U and n give, or bytes are left after the last part.
     Layout = 5,
-    /// Runs or pointers are not those of a valid list.
+    /// Runs or pointers, or a bitmap or its numbers, are not those of a valid list.
     Runs = 6,
     /// The parts of a term or a card disagree.
     Parts = 7,
@@ -70,12 +70,16 @@ impl Refusal {
         match self {
             Refusal::Short => "there are fewer bytes than the header has",
             Refusal::Length => "the stated length is not that of the bytes given",
-            Refusal::Version => "the version is not 1",
+            Refusal::Version => {
+                "the version is not known, or a list has a form that does not belong there"
+            }
             Refusal::Limit => {
                 "a range, the number of pages or the number of words is over its limit"
             }
             Refusal::Layout => "the length is not the one that the header gives",
-            Refusal::Runs => "the runs or pointers are not those of a valid list",
+            Refusal::Runs => {
+                "the runs or pointers, or the bitmap or its numbers, are not those of a valid list"
+            }
             Refusal::Parts => "the parts disagree",
             Refusal::Question => "the question has a wrong form or names a term that is not there",
             Refusal::Room => "the room lent is too small",

@@ -15,7 +15,8 @@ const TERM_HEADER: usize = 5;
 /// Bytes that are enough for the block of any list of `len` numbers; the block may be shorter.
 ///
 /// An element takes at most 24 bits of the lower run, 3 of the upper run and a quarter of a bit for pointers, which is
-/// under 4 bytes; the header takes 13 bytes and filling both runs to whole words under 16.
+/// under 4 bytes; the header takes 13 bytes and filling both runs to whole words under 16. A bitmap has under 4 bits
+/// for each element, and an eighth more for its numbers.
 ///
 /// ```
 /// let mut room = vec![0; jundefola::list_room(3)];
@@ -25,7 +26,7 @@ pub fn list_room(len: usize) -> usize {
     len.saturating_mul(4).saturating_add(29)
 }
 
-/// Bytes that are enough for the term block of any word on that many pages, at that many positions in all.
+/// Bytes that are enough, in each edition, for the term block of any word on that many pages, at that many positions.
 pub fn term_room(pages: usize, positions: usize) -> usize {
     list_room(pages)
         .saturating_mul(2)

@@ -13,7 +13,7 @@ pub struct Screen {
     pub pages: Vec<u32>,
     /// How many seeks were made.
     pub seeks: u32,
-    /// How many words of the upper runs the seeks looked at.
+    /// How many words of the upper runs, or of the bitmaps, the seeks looked at.
     pub looks: u32,
     /// The bound of the next screen; none where this one is not full.
     pub next: Option<u32>,
@@ -33,8 +33,8 @@ impl Screen {
 /// step checks the card.
 ///
 /// ```
-/// use jundefola::{CardWriter, Screens};
-/// let mut writer = CardWriter::new(44);
+/// use jundefola::{CardWriter, Edition, Screens};
+/// let mut writer = CardWriter::new(Edition::Two, 44);
 /// writer.add(&[4, 15, 21], &[1, 1, 1], &[0, 0, 0])?;
 /// let card = writer.close()?;
 ///

@@ -1,6 +1,6 @@
 //! A word written in runs of its postings, for a writer that does not hold all of them at once.
 
-use crate::{begin_term, end_term, put_postings, Refusal, Stream};
+use crate::{begin_term, end_term, put_postings, Edition, Refusal, Stream};
 
 /// What is announced of a word before its postings are handed over.
 ///
@@ -47,17 +47,17 @@ fn sum(number: u32, more: u64) -> u32 {
 /// The term block of one word in the making, run by run. It has the room to itself until the word is finished.
 ///
 /// ```
-/// use jundefola::{term_block, term_room, Announcement, TermWriter};
+/// use jundefola::{term_block, term_room, Announcement, Edition, TermWriter};
 ///
 /// // "torque" is on page 4 at positions 0 and 7, and in a later chapter on page 15 at position 2
 /// let announced = Announcement { pages: 2, positions: 3, u: 8 + 3 };
 /// let mut room = vec![0; term_room(2, 3)];
-/// let mut writer = TermWriter::begin(44, announced, &mut room)?;
+/// let mut writer = TermWriter::begin(Edition::Two, 44, announced, &mut room)?;
 /// writer.put(&[4], &[2], &[0, 7])?;
 /// writer.put(&[15], &[1], &[2])?;
 /// let length = writer.finish()?;
 ///
-/// let whole = term_block(44, &[4, 15], &[2, 1], &[0, 7, 2])?;
+/// let whole = term_block(Edition::Two, 44, &[4, 15], &[2, 1], &[0, 7, 2])?;
 /// assert_eq!(room[..length], whole);
 /// # Ok::<(), jundefola::Refusal>(())
 /// ```
@@ -68,10 +68,11 @@ pub struct TermWriter<'a> {
 }
 
 impl<'a> TermWriter<'a> {
-    /// Announces a word of a card with `n` pages; its block will lie at the start of the room.
+    /// Announces a word of a card of this edition with `n` pages; its block will lie at the start of the room.
     ///
     /// [`term_room`](crate::term_room) tells how many bytes are enough. A refusal leaves the room as it was.
     pub fn begin(
+        edition: Edition,
         n: u32,
         announced: Announcement,
         room: &'a mut [u8],
@@ -81,7 +82,7 @@ impl<'a> TermWriter<'a> {
             positions,
             u,
         } = announced;
-        let stream = begin_term(n, pages, positions, u, room)?;
+        let stream = begin_term(edition, n, pages, positions, u, room)?;
         Ok(TermWriter { stream, room })
     }
 
@@ -90,20 +91,22 @@ impl<'a> TermWriter<'a> {
     /// So the words of a card are written side by side, a chapter at a time:
     ///
     /// ```
-    /// use jundefola::{check_index, close_index, Announcement, TermWriter, CARD_HEADER};
+    /// use jundefola::{check_index, close_index, Announcement, Edition, TermWriter, CARD_HEADER};
     ///
+    /// let edition = Edition::Two;
     /// let torque = Announcement { pages: 2, positions: 3, u: 8 + 3 };
     /// let bolt = Announcement { pages: 2, positions: 2, u: 2 + 5 };
     /// let mut card = vec![0; 500];
-    /// let (mut torque, behind) = TermWriter::begin(44, torque, &mut card[CARD_HEADER..])?.split();
-    /// let mut bolt = TermWriter::begin(44, bolt, behind)?;
+    /// let room = &mut card[CARD_HEADER..];
+    /// let (mut torque, behind) = TermWriter::begin(edition, 44, torque, room)?.split();
+    /// let mut bolt = TermWriter::begin(edition, 44, bolt, behind)?;
     /// // the first chapter has page 4, and the second page 15
     /// torque.put(&[4], &[2], &[0, 7])?;
     /// bolt.put(&[4], &[1], &[1])?;
     /// torque.put(&[15], &[1], &[2])?;
     /// bolt.put(&[15], &[1], &[4])?;
     /// let used = CARD_HEADER + torque.finish()? + bolt.finish()?;
-    /// let length = close_index(&mut card, used, 44, 2)?;
+    /// let length = close_index(&mut card, used, edition, 44, 2)?;
     /// assert_eq!(check_index(&card[..length]), Ok(()));
     /// # Ok::<(), jundefola::Refusal>(())
     /// ```

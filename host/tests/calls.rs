@@ -2,7 +2,8 @@
 
 use jundefola::{
     ask, ask_all, check_index, check_list, check_term, close_index, list_block, list_room,
-    term_block, term_room, write_list, write_term, Answer, Asked, CardWriter, Question, Refusal,
+    term_block, term_room, write_list, write_term, Answer, Asked, CardWriter, Edition, Question,
+    Refusal,
 };
 
 const FILL: u8 = 0xA5;
@@ -45,10 +46,10 @@ fn bad_lists_are_refused() {
 
 #[test]
 fn a_term_needs_its_room_and_leaves_the_rest() {
-    let block = term_block(3, &[1], &[2], &[0, 2]).unwrap();
-    let write = |room: &mut [u8]| write_term(3, &[1], &[2], &[0, 2], room);
+    let block = term_block(Edition::Two, 3, &[1], &[2], &[0, 2]).unwrap();
+    let write = |room: &mut [u8]| write_term(Edition::Two, 3, &[1], &[2], &[0, 2], room);
 
-    assert_eq!(check_term(&block), Ok(()));
+    assert_eq!(check_term(Edition::Two, &block), Ok(()));
     let (report, room) = in_room(block.len() + 3, write);
     assert_eq!(report, Ok(block.len()));
     assert_eq!(room, [&block[..], &[FILL; 3]].concat());
@@ -62,7 +63,7 @@ fn a_term_needs_its_room_and_leaves_the_rest() {
 #[test]
 fn bad_terms_are_refused() {
     let refused = |n, pages: &[u32], counts: &[u32], positions: &[u32]| {
-        term_block(n, pages, counts, positions).unwrap_err()
+        term_block(Edition::Two, n, pages, counts, positions).unwrap_err()
     };
     assert_eq!(refused(16_777_217, &[], &[], &[]), Refusal::Limit);
     assert_eq!(refused(3, &[1], &[], &[]), Refusal::Lists);
@@ -85,26 +86,30 @@ fn the_rooms_that_are_enough() {
             let mut room = vec![0; list_room(list.len())];
             assert!(write_list(limit, list, &mut room).is_ok());
             assert!(write_list(len, &dense, &mut room).is_ok());
+            let nines = vec![9; list.len()];
             let mut room = vec![0; term_room(list.len(), list.len())];
-            assert!(write_term(limit, list, &ones, &vec![9; list.len()], &mut room).is_ok());
+            for edition in Edition::ALL {
+                assert!(write_term(edition, limit, list, &ones, &nines, &mut room).is_ok());
+                assert!(write_term(edition, len, &dense, &ones, &nines, &mut room).is_ok());
+            }
         }
     }
 }
 
 #[test]
 fn closing_writes_the_header_alone() {
-    let term = term_block(3, &[1], &[2], &[0, 2]).unwrap();
+    let term = term_block(Edition::Two, 3, &[1], &[2], &[0, 2]).unwrap();
     let used = 11 + term.len();
     let buffer = [&[FILL; 11], &term[..], &[FILL; 2]].concat();
 
     let mut closed = buffer.clone();
-    assert_eq!(close_index(&mut closed, used, 3, 1), Ok(used));
+    assert_eq!(close_index(&mut closed, used, Edition::Two, 3, 1), Ok(used));
     assert_eq!(check_index(&closed[..used]), Ok(()));
     assert_eq!(closed[11..], buffer[11..]);
 
     let refused = |used, n, t| {
         let mut closed = buffer.clone();
-        let refusal = close_index(&mut closed, used, n, t).unwrap_err();
+        let refusal = close_index(&mut closed, used, Edition::Two, n, t).unwrap_err();
         assert_eq!(closed, buffer);
         refusal
     };
@@ -120,15 +125,18 @@ fn closing_writes_the_header_alone() {
 #[test]
 fn nothing_at_all_is_refused_as_short() {
     assert_eq!(check_list(&[]), Err(Refusal::Short));
-    assert_eq!(check_term(&[]), Err(Refusal::Short));
+    assert_eq!(check_term(Edition::Two, &[]), Err(Refusal::Short));
     assert_eq!(check_index(&[]), Err(Refusal::Short));
-    assert_eq!(close_index(&mut [], 0, 0, 0), Err(Refusal::Short));
+    assert_eq!(
+        close_index(&mut [], 0, Edition::Two, 0, 0),
+        Err(Refusal::Short)
+    );
     assert_eq!(ask(&[], &[], &mut []).refusal, Some(Refusal::Short));
 }
 
 #[test]
 fn a_refused_word_is_not_added() {
-    let mut writer = CardWriter::new(3);
+    let mut writer = CardWriter::new(Edition::Two, 3);
     assert_eq!(writer.add(&[3], &[1], &[0]), Err(Refusal::Lists));
     writer.add(&[2], &[1], &[0]).unwrap();
     assert_eq!(writer.words(), 1);
@@ -139,7 +147,7 @@ fn a_refused_word_is_not_added() {
 fn card_with_many_pages() -> Vec<u8> {
     let pages: Vec<u32> = (0..50_000).map(|i| 3 * i).collect();
     let ones = vec![1; pages.len()];
-    let mut writer = CardWriter::new(150_000);
+    let mut writer = CardWriter::new(Edition::Two, 150_000);
     writer.add(&pages, &ones, &vec![4; pages.len()]).unwrap();
     writer.add(&[], &[], &[]).unwrap();
     writer.close().unwrap()

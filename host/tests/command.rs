@@ -102,10 +102,14 @@ fn make_of_show_is_the_same_card() {
     let listing = "# header\n\npages 40 # leaves\n0:1,5 39:0 # first\n\n  \n# none\n7:3";
     let folder = Folder::with_card("make_of_show", listing);
     let shown = folder.run(&["show", "card"]);
-    assert_eq!(shown.printed, "pages 40\n0:1,5 39:0\n\n\n7:3\n");
+    let expected = "pages 40 # edition 2\n0:1,5 39:0 # runs\n\n\n7:3 # runs\n";
+    assert_eq!(shown.printed, expected);
     folder.write("shown", &shown.printed);
     let made = folder.run(&["make", "shown", "again"]);
-    assert_eq!(made.printed, "again: 4 words, 40 pages, 267 bytes\n");
+    assert_eq!(
+        made.printed,
+        "again: 4 words, 40 pages, 267 bytes, edition 2\n"
+    );
     assert_eq!(folder.read("again"), folder.read("card"));
 }
 
@@ -115,9 +119,101 @@ fn the_smallest_card() {
     let checked = folder.run(&["check", "card"]);
     assert_eq!(
         checked.printed,
-        "card: accepted: 0 words, 0 pages, 11 bytes\n"
+        "card: accepted: 0 words, 0 pages, 11 bytes, edition 2\n"
     );
-    assert_eq!(folder.run(&["show", "card"]).printed, "pages 0\n");
+    let shown = folder.run(&["show", "card"]);
+    assert_eq!(shown.printed, "pages 0 # edition 2\n");
+}
+
+/// Word 0 is on every page, word 1 on one of four and word 3 on two of four; word 2 is on none.
+const DENSE_WORDS: &str = "pages 4\n0:1 1:0 2:10 3:2\n2:1\n\n0:3,9 2:8\n";
+
+#[test]
+fn a_card_of_edition_2_has_bitmaps() {
+    let folder = Folder::with_card("edition_2", DENSE_WORDS);
+    let checked = folder.run(&["check", "card"]);
+    let expected = "card: accepted: 4 words, 4 pages, 291 bytes, edition 2\n\
+                    pages as a bitmap: words 0 3\n\
+                    pages as runs: word 1\n\
+                    on no page: word 2\n";
+    assert_eq!((checked.printed.as_str(), checked.status), (expected, 0));
+    let shown = folder.run(&["show", "card"]);
+    let expected =
+        "pages 4 # edition 2\n0:1 1:0 2:10 3:2 # bitmap\n2:1 # runs\n\n0:3,9 2:8 # bitmap\n";
+    assert_eq!(shown.printed, expected);
+    folder.write("shown", &shown.printed);
+    for edition in [&[][..], &["--edition", "2"]] {
+        let made = folder.run(&[&["make", "shown", "again"], edition].concat());
+        assert_eq!(made.status, 0);
+        assert_eq!(folder.read("again"), folder.read("card"));
+    }
+}
+
+#[test]
+fn a_card_of_edition_1_has_runs() {
+    let folder = Folder::with_card("edition_1", DENSE_WORDS);
+    for arguments in [
+        ["--edition", "1", "listing", "old"],
+        ["listing", "--edition", "1", "old"],
+        ["listing", "old", "--edition", "1"],
+    ] {
+        let made = folder.run(&[&["make"], &arguments[..]].concat());
+        let expected = "old: 4 words, 4 pages, 299 bytes, edition 1\n";
+        assert_eq!((made.printed.as_str(), made.status), (expected, 0));
+    }
+    assert_eq!((folder.read("old")[4], folder.read("card")[4]), (1, 2));
+    let checked = folder.run(&["check", "old"]);
+    let expected = "old: accepted: 4 words, 4 pages, 299 bytes, edition 1\n\
+                    pages as runs: words 0-1 3\n\
+                    on no page: word 2\n";
+    assert_eq!(checked.printed, expected);
+    let shown = folder.run(&["show", "old"]).printed;
+    assert!(shown.starts_with("pages 4 # edition 1\n0:1 1:0 2:10 3:2 # runs\n"));
+    folder.write("shown", &shown);
+    let made = folder.run(&["make", "--edition", "1", "shown", "again"]);
+    assert_eq!(made.status, 0);
+    assert_eq!(folder.read("again"), folder.read("old"));
+    for card in ["card", "old"] {
+        let asked = folder.run(&["ask", card, "common 0 3", "at 3 1", "phrase 3 _ 0"]);
+        let expected = "common 0 3: pages 0 2 (5 seeks, 5 looks)\n\
+                        at 3 1: page 2, rank 1; 1 page lies below 1\n\
+                        phrase 3 _ 0: page 2 (1 start)\n";
+        assert_eq!(asked.printed, expected);
+    }
+}
+
+#[test]
+fn an_edition_that_is_none_is_told() {
+    let folder = Folder::new("no_edition");
+    folder.write("listing", DENSE_WORDS);
+    for edition in ["0", "3", "-1", "two", "", "4294967297"] {
+        let made = folder.run(&["make", "--edition", edition, "listing", "card"]);
+        let expected = format!("jundefola: `--edition {edition}`: the editions are 1 and 2\n");
+        assert_eq!((made.errors, made.status), (expected, 1));
+        assert_eq!(folder.names(), ["listing"]);
+    }
+}
+
+#[test]
+fn forms_in_the_wrong_place_are_told() {
+    let folder = Folder::with_card("wrong_form", DENSE_WORDS);
+    let card = folder.read("card");
+    let told =
+        "refused 3: the version is not known, or a list has a form that does not belong there";
+    // the card's version, and that of the pages of term 0
+    for (at, version, place) in [
+        (4, 1, "in term 0, the list of pages"),
+        (20, 1, "in term 0, the list of pages"),
+        (20, 3, "in term 0, the list of pages"),
+        (4, 3, "in the card's header"),
+    ] {
+        let mut damaged = card.clone();
+        damaged[at] = version;
+        folder.write("damaged", damaged);
+        let checked = folder.run(&["check", "damaged"]);
+        let expected = format!("damaged: {told} ({place})\n");
+        assert_eq!((checked.printed, checked.status), (expected, 1));
+    }
 }
 
 #[test]
@@ -247,7 +343,8 @@ fn names_change_no_card() {
     let shown = folder.run(&["show", "card"]).printed;
     assert_eq!(
         shown,
-        "pages 44\n3:8 4:0 7:5 13:2 14:9 15:2,5 21:1 43:0\n4:1 15:3,6\n7:6\n\n\n"
+        "pages 44 # edition 2\n3:8 4:0 7:5 13:2 14:9 15:2,5 21:1 43:0 # runs\n\
+         4:1 15:3,6 # runs\n7:6 # runs\n\n\n"
     );
     folder.write("unnamed", shown);
     assert_eq!(folder.run(&["make", "unnamed", "again"]).status, 0);
@@ -321,7 +418,7 @@ fn damaged_cards_are_told_with_the_name_of_the_word() {
     folder.write("card", &card);
     let asked = folder.run(&["ask", "--names", "listing", "card", "rank bolt 0"]);
     let expected =
-        "jundefola: card: refused 6: the runs or pointers are not those of a valid list \
+        "jundefola: card: refused 6: the runs or pointers, or the bitmap or its numbers, are not those of a valid list \
                     (in term 1, `torque`, the list of positions)\n";
     assert_eq!((asked.errors.as_str(), asked.status), (expected, 1));
     folder.write("card", &card[..5]);
@@ -530,7 +627,7 @@ fn damaged_cards_are_told_with_their_place() {
     let last = card.len() - 1;
     card[last] ^= 1;
     folder.write("card", &card);
-    let told = "card: refused 6: the runs or pointers are not those of a valid list \
+    let told = "card: refused 6: the runs or pointers, or the bitmap or its numbers, are not those of a valid list \
                 (in term 1, the list of positions)\n";
     let checked = folder.run(&["check", "card"]);
     assert_eq!((checked.printed.as_str(), checked.status), (told, 1));
@@ -562,6 +659,17 @@ fn wrong_usage_is_told() {
     for arguments in [
         &[][..],
         &["make", "listing"],
+        &["make", "--edition", "1", "listing"],
+        &["make", "listing", "card", "--edition"],
+        &[
+            "make",
+            "--edition",
+            "1",
+            "listing",
+            "card",
+            "--edition",
+            "1",
+        ],
         &["check"],
         &["press", "card"],
         &["help", "me"],

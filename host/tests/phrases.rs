@@ -1,7 +1,8 @@
 //! Phrases with and without dropped words, against plain reading of a text, and the pairs that are refused.
+//! The cards are of edition 2, and most of their words dense.
 
 use jundefola::{
-    ask, ask_all, Answer, Asked, CardWriter, PageStarts, PhraseWord, Question, Refusal,
+    ask, ask_all, Answer, Asked, CardWriter, Edition, PageStarts, PhraseWord, Question, Refusal,
 };
 
 /// The pages of a text, a letter for each position: `a`, `b` and `c` are the words 0 to 2, a dot is a dropped word.
@@ -9,7 +10,7 @@ const TEXT: [&str; 5] = ["ab.c", "a.babcb", "", "cba..b", "aab.c.ab"];
 
 /// A card of words, each with its positions on each page.
 fn card_of(pages: u32, words: &[Vec<(u32, Vec<u32>)>]) -> Vec<u8> {
-    let mut writer = CardWriter::new(pages);
+    let mut writer = CardWriter::new(Edition::Two, pages);
     for postings in words {
         let on: Vec<u32> = postings.iter().map(|(page, _)| *page).collect();
         let counts: Vec<u32> = postings.iter().map(|(_, at)| at.len() as u32).collect();

@@ -1,11 +1,11 @@
-//! The sample cards S1 to S12 of document 01, as docs/AMENDMENTS.md amends it, and its edges.
+//! The sample cards S1 to S12 of document 01, as docs/AMENDMENTS.md amends it, and its edges, in edition 1.
 
 mod cards;
 
 use cards::card_of_pages;
 use jundefola::{
     ask, ask_all, check_index, check_list, check_term, close_index, list_block, term_block,
-    write_term, Answer, CardWriter, PageStarts, Question, Refusal,
+    write_term, Answer, CardWriter, Edition, PageStarts, Question, Refusal,
 };
 
 const S1_LIST: [u32; 8] = [3, 4, 7, 13, 14, 15, 21, 43];
@@ -48,7 +48,7 @@ fn answer(card: &[u8], question: &[u32]) -> Vec<u32> {
 }
 
 fn s9_card() -> Vec<u8> {
-    let mut writer = CardWriter::new(3);
+    let mut writer = CardWriter::new(Edition::One, 3);
     writer.add(&[1], &[2], &[0, 2]).unwrap();
     writer.close().unwrap()
 }
@@ -63,7 +63,7 @@ fn s1_a_list_of_eight() {
 
 #[test]
 fn s1_by_rank() {
-    let card = card_of_pages(44, &[&S1_LIST]);
+    let card = card_of_pages(Edition::One, 44, &[&S1_LIST]);
     for (rank, page) in (0..).zip(S1_LIST) {
         assert_eq!(answer(&card, &[1, 2, 0, rank]), [1, page]);
     }
@@ -92,7 +92,7 @@ fn s4_a_full_list() {
 
 #[test]
 fn s5_to_s7_bounds() {
-    let card = card_of_pages(44, &[&S1_LIST]);
+    let card = card_of_pages(Edition::One, 44, &[&S1_LIST]);
     assert_eq!(answer(&card, &[2, 2, 0, 16]), [2, 21, 6]);
     assert_eq!(answer(&card, &[2, 2, 0, 43]), [2, 43, 7]);
     assert_eq!(answer(&card, &[2, 2, 0, 44]), [1, 8]);
@@ -100,7 +100,7 @@ fn s5_to_s7_bounds() {
 
 #[test]
 fn bounds_behind_the_last_page_tell_all_pages() {
-    let card = card_of_pages(44, &[&S1_LIST, &[4, 15], &[]]);
+    let card = card_of_pages(Edition::One, 44, &[&S1_LIST, &[4, 15], &[]]);
     for bound in [44, 45, u32::MAX] {
         assert_eq!(answer(&card, &[2, 2, 0, bound]), [1, 8]);
     }
@@ -115,7 +115,7 @@ fn bounds_behind_the_last_page_tell_all_pages() {
 /// The looks of S1's first seek, beside those of the other word's: that word leads, and is on one page, the bound.
 #[test]
 fn s5_to_s7_looks() {
-    let card = card_of_pages(44, &[&S1_LIST, &[16], &[43]]);
+    let card = card_of_pages(Edition::One, 44, &[&S1_LIST, &[16], &[43]]);
     // page 21 is found, and then none for the other word: a look each
     assert_eq!(answer(&card, &[3, 2, 0, 1]), [2, 3, 1 + 1 + 1]);
     // the other word's last seek is for 44, which takes no look
@@ -129,7 +129,7 @@ fn s8_a_list_with_a_pointer() {
     assert_eq!(block.len(), 97);
     assert_eq!(block[13..17], 512_u32.to_be_bytes());
     // the full list's first seek is for the other word's page; the other word's own seeks take the looks that are left
-    let card = card_of_pages(300, &[&full, &[299], &[255], &[0]]);
+    let card = card_of_pages(Edition::One, 300, &[&full, &[299], &[255], &[0]]);
     assert_eq!(answer(&card, &[3, 2, 0, 1]), [3, 3, 1 + 2, 299]);
     assert_eq!(answer(&card, &[3, 2, 0, 2]), [3, 3, 1 + 8 + 1, 255]);
     assert_eq!(answer(&card, &[3, 2, 0, 3]), [3, 3, 1 + 1 + 1, 0]);
@@ -142,9 +142,9 @@ fn s8_a_list_with_a_pointer() {
 #[test]
 fn s9_to_s11_a_card_of_one_word() {
     let card = s9_card();
-    let term = term_block(3, &[1], &[2], &[0, 2]).unwrap();
+    let term = term_block(Edition::One, 3, &[1], &[2], &[0, 2]).unwrap();
     assert_eq!(term, hex(S9_TERM));
-    assert_eq!(check_term(&term), Ok(()));
+    assert_eq!(check_term(Edition::One, &term), Ok(()));
     assert_eq!(card, [hex(S9_HEADER), hex(S9_TERM)].concat());
     assert_eq!(answer(&card, &[3, 1, 0]), [3, 2, 2, 1]);
     assert_eq!(answer(&card, &[4, 4, 0, 0, 0, 1]), [0]);
@@ -153,7 +153,7 @@ fn s9_to_s11_a_card_of_one_word() {
 
 #[test]
 fn s12_common_pages() {
-    let card = card_of_pages(44, &[&S1_LIST, &[4, 15]]);
+    let card = card_of_pages(Edition::One, 44, &[&S1_LIST, &[4, 15]]);
     assert_eq!(card, hex(S12_CARD));
     assert_eq!(check_index(&card), Ok(()));
     assert_eq!(answer(&card, &[3, 2, 0, 1]), [4, 5, 5, 4, 15]);
@@ -163,21 +163,25 @@ fn s12_common_pages() {
 fn a_word_on_no_page() {
     let empty = "0000000D 01 00000000 00000000";
     let expected = hex(&["0000002C 01", empty, empty, empty].concat());
-    assert_eq!(term_block(0, &[], &[], &[]).unwrap(), expected);
+    assert_eq!(
+        term_block(Edition::One, 0, &[], &[], &[]).unwrap(),
+        expected
+    );
 }
 
 #[test]
 fn sums_and_positions_past_32_bits() {
     let refused = |counts: &[u32], positions: &[u32]| {
         let mut room = vec![0xA5; 96];
-        let refusal = write_term(3, &[1, 2], counts, positions, &mut room).unwrap_err();
+        let refusal =
+            write_term(Edition::One, 3, &[1, 2], counts, positions, &mut room).unwrap_err();
         assert_eq!(room, [0xA5; 96]);
         refusal
     };
     assert_eq!(refused(&[u32::MAX, 3], &[0, 2]), Refusal::Lists);
     assert_eq!(refused(&[1, 2], &[u32::MAX, 5, 5]), Refusal::Lists);
     assert_eq!(refused(&[1, 1], &[u32::MAX, 5]), Refusal::Limit);
-    let limit_before_lists = term_block(16_777_217, &[], &[1], &[]);
+    let limit_before_lists = term_block(Edition::One, 16_777_217, &[], &[1], &[]);
     assert_eq!(limit_before_lists, Err(Refusal::Limit));
 }
 
@@ -195,7 +199,8 @@ fn s9_cut() {
 fn s9_damaged() {
     use Refusal::{Layout, Length, Limit, Parts, Short, Version};
     let damages = [
-        (4, 2, Version, Version),
+        (4, 0, Version, Version),
+        (4, 3, Version, Version),
         (5, 2, Limit, Limit),
         (9, 0x10, Limit, Limit),
         (10, 0, Layout, Layout),
@@ -223,7 +228,7 @@ fn s9_closed() {
     let card = s9_card();
     let close = |used, n, t| {
         let mut buffer = card.clone();
-        let report = close_index(&mut buffer, used, n, t);
+        let report = close_index(&mut buffer, used, Edition::One, n, t);
         (report, buffer)
     };
     let refused = |refusal| (Err(refusal), card.clone());
@@ -246,7 +251,7 @@ fn at_bound(page: Option<u32>, below: u32) -> Answer<'static> {
 
 #[test]
 fn s5_to_s12_as_typed_answers() {
-    let card = card_of_pages(44, &[&S1_LIST, &[4, 15]]);
+    let card = card_of_pages(Edition::One, 44, &[&S1_LIST, &[4, 15]]);
     let questions = [
         Question::Rank { term: 0, rank: 5 },
         Question::Rank { term: 0, rank: 8 },
@@ -281,7 +286,7 @@ fn s5_to_s12_as_typed_answers() {
 #[test]
 fn typed_bounds_tell_the_pages_below() {
     let words: [&[u32]; 2] = [&S1_LIST, &[]];
-    let card = card_of_pages(44, &words);
+    let card = card_of_pages(Edition::One, 44, &words);
     for (term, pages) in (0..).zip(words) {
         for bound in (0..=45).chain([u32::MAX]) {
             let first = pages.iter().find(|page| **page >= bound);
@@ -305,7 +310,7 @@ fn edges_of_u() {
 #[test]
 fn edges_of_t() {
     let words = |count| {
-        let mut writer = CardWriter::new(0);
+        let mut writer = CardWriter::new(Edition::One, 0);
         for _ in 0..count {
             writer.add(&[], &[], &[]).unwrap();
         }

@@ -4,7 +4,7 @@ mod cards;
 
 use cards::card_of_pages;
 use jundefola::{
-    ask_all, screen, Answer, Question, Refusal, Screen, Screened, Screens, MAX_SCREEN,
+    ask_all, screen, Answer, Edition, Question, Refusal, Screen, Screened, Screens, MAX_SCREEN,
     SCREEN_COUNTS,
 };
 
@@ -17,7 +17,7 @@ const WORDS: [&[u32]; 3] = [&[3, 4, 7, 13, 14, 15, 21, 43], &[4, 15, 20, 43], &[
 /// A card of one word on 200 pages, which is three screens of 64 and some.
 fn long_card() -> Vec<u8> {
     let pages: Vec<u32> = (0..200).map(|i| 5 * i).collect();
-    card_of_pages(1000, &[&pages])
+    card_of_pages(Edition::Two, 1000, &[&pages])
 }
 
 /// A screen in rooms of these lengths: the report, and both rooms behind it.
@@ -65,7 +65,7 @@ fn joined(screens: &[Screen]) -> Vec<u32> {
 
 #[test]
 fn every_bound_and_size_shows_the_pages_of_plain_reading() {
-    let card = card_of_pages(N, &WORDS);
+    let card = card_of_pages(Edition::Two, N, &WORDS);
     for terms in [&[0][..], &[0, 1], &[1, 0, 1], &[2], &[0, 2]] {
         for bound in (0..=N + 1).chain([u32::MAX]) {
             for r in [1, 2, 3, 64] {
@@ -90,7 +90,7 @@ fn every_bound_and_size_shows_the_pages_of_plain_reading() {
 
 #[test]
 fn a_screen_of_all_pages_counts_as_kind_3_does() {
-    let card = card_of_pages(N, &WORDS);
+    let card = card_of_pages(Edition::Two, N, &WORDS);
     for terms in [&[0][..], &[0, 1], &[2], &[0, 2]] {
         let (pages, seeks, looks) = common(&card, terms);
         let expected = Screen {
@@ -106,7 +106,7 @@ fn a_screen_of_all_pages_counts_as_kind_3_does() {
 
 #[test]
 fn joined_screens_are_the_common_pages() {
-    let small = card_of_pages(N, &WORDS);
+    let small = card_of_pages(Edition::Two, N, &WORDS);
     let long = long_card();
     for (card, terms) in [
         (&small, &[0][..]),
@@ -134,7 +134,7 @@ fn joined_screens_are_the_common_pages() {
 
 #[test]
 fn an_empty_screen_follows_one_that_is_just_full() {
-    let card = card_of_pages(N, &WORDS);
+    let card = card_of_pages(Edition::Two, N, &WORDS);
     let mut screens = Screens::new(&card, &[0, 1], 3);
     let full = screens.next().unwrap().unwrap();
     assert_eq!(
@@ -149,7 +149,7 @@ fn an_empty_screen_follows_one_that_is_just_full() {
 
 #[test]
 fn screens_start_at_any_bound() {
-    let card = card_of_pages(N, &WORDS);
+    let card = card_of_pages(Edition::Two, N, &WORDS);
     for bound in (0..=N + 1).chain([u32::MAX]) {
         for rows in [1, 2, 64] {
             let screens = all(Screens::new(&card, &[0, 1], rows).starting_at(bound));
@@ -161,7 +161,7 @@ fn screens_start_at_any_bound() {
 
 #[test]
 fn a_room_that_is_one_short_is_refused_and_stays() {
-    let card = card_of_pages(N, &WORDS);
+    let card = card_of_pages(Edition::Two, N, &WORDS);
     for (bound, r, found) in [(0, 2, 2), (0, 64, 3), (15, 3, 2), (43, 1, 1)] {
         let asked = (bound, r, &[0, 1][..]);
         let (report, _) = in_rooms(&card, asked, [found, SCREEN_COUNTS]);
@@ -188,7 +188,7 @@ fn a_room_that_is_one_short_is_refused_and_stays() {
 
 #[test]
 fn bad_rows_and_words_are_refused() {
-    let card = card_of_pages(N, &WORDS);
+    let card = card_of_pages(Edition::Two, N, &WORDS);
     let untouched = [vec![FILL; 64], vec![FILL; 2]];
     for (r, terms) in [
         (0, &[0][..]),
@@ -215,7 +215,7 @@ fn bad_rows_and_words_are_refused() {
 
 #[test]
 fn a_refused_card_is_told_first() {
-    let mut card = card_of_pages(N, &WORDS);
+    let mut card = card_of_pages(Edition::Two, N, &WORDS);
     let untouched = [vec![FILL; 64], vec![FILL; 2]];
     let refused = |card: &[u8], refusal| {
         for (r, terms) in [(64, &[0][..]), (0, &[]), (65, &[9])] {
@@ -228,6 +228,6 @@ fn a_refused_card_is_told_first() {
     };
     refused(&[], Refusal::Short);
     refused(&card[..card.len() - 1], Refusal::Length);
-    card[4] = 2;
+    card[4] = 3;
     refused(&card, Refusal::Version);
 }

@@ -3,7 +3,7 @@
 
 use jundefola::{
     begin_term, close_index, end_term, put_postings, term_block, term_room, Announcement,
-    CardWriter, Refusal, Stream, TermWriter, CARD_HEADER,
+    CardWriter, Edition, Refusal, Stream, TermWriter, CARD_HEADER,
 };
 
 const FILL: u8 = 0xA5;
@@ -70,8 +70,8 @@ impl Postings {
     }
 
     /// The block of the whole word.
-    fn block(&self, n: u32) -> Vec<u8> {
-        term_block(n, &self.pages, &self.counts, &self.positions).unwrap()
+    fn block(&self, edition: Edition, n: u32) -> Vec<u8> {
+        term_block(edition, n, &self.pages, &self.counts, &self.positions).unwrap()
     }
 
     fn put_into(&self, writer: &mut TermWriter) -> Result<(), Refusal> {
@@ -83,16 +83,19 @@ impl Postings {
     }
 }
 
-/// Writes a word in these runs and compares it with the word written at once; three bytes lie behind the block.
+/// Writes a word in these runs and compares it with the word written at once, in both editions; three bytes lie behind
+/// the block.
 fn assert_written(n: u32, whole: &Postings, runs: &[Postings]) {
-    let block = whole.block(n);
-    let mut room = vec![FILL; block.len() + 3];
-    let mut writer = TermWriter::begin(n, whole.announced(), &mut room).unwrap();
-    for run in runs {
-        run.put_into(&mut writer).unwrap();
+    for edition in Edition::ALL {
+        let block = whole.block(edition, n);
+        let mut room = vec![FILL; block.len() + 3];
+        let mut writer = TermWriter::begin(edition, n, whole.announced(), &mut room).unwrap();
+        for run in runs {
+            run.put_into(&mut writer).unwrap();
+        }
+        assert_eq!(writer.finish(), Ok(block.len()));
+        assert_eq!(room, [&block[..], &[FILL; 3]].concat(), "{runs:?}");
     }
-    assert_eq!(writer.finish(), Ok(block.len()));
-    assert_eq!(room, [&block[..], &[FILL; 3]].concat(), "{runs:?}");
 }
 
 /// Each word on pages below 4 that stands on each of them nowhere, or at one of these sets of positions.
@@ -167,13 +170,13 @@ fn n_and_u_at_their_limit() {
 #[test]
 fn the_headers_come_first() {
     let word = Postings::new(&[1], &[2], &[0, 2]);
-    let block = word.block(3);
+    let block = word.block(Edition::Two, 3);
     let mut headers = block.clone();
     for run in [18..26, 26..34, 47..55, 55..63, 76..84] {
         headers[run].fill(0);
     }
     let mut room = vec![FILL; block.len()];
-    let mut stream = begin_term(3, 1, 2, 3, &mut room).unwrap();
+    let mut stream = begin_term(Edition::Two, 3, 1, 2, 3, &mut room).unwrap();
     assert_eq!(room, headers);
     word.put_raw(&mut stream, &mut room).unwrap();
     assert_eq!(room, block);
@@ -189,7 +192,7 @@ fn bits_not_reached_are_0() {
         })
     };
     let mut room = vec![FILL; term_room(2, 2)];
-    let mut stream = begin_term(44, 2, 2, 2, &mut room).unwrap();
+    let mut stream = begin_term(Edition::Two, 44, 2, 2, 2, &mut room).unwrap();
     assert_eq!(runs(&room), [0, 0]);
     put_postings(&mut stream, &[4], &[1], &[0], &mut room).unwrap();
     assert_eq!(runs(&room), [0x04, 0x01]);
@@ -197,22 +200,30 @@ fn bits_not_reached_are_0() {
     assert_eq!(runs(&room), [0xF4, 0x03]);
 }
 
+/// The pointers of runs, and the numbers of a bitmap, by the byte at which each list starts.
 #[test]
-fn the_pointers_come_last() {
+fn the_pointers_and_numbers_come_last() {
     let word = Postings::new(&(0..300).collect::<Vec<_>>(), &[1; 300], &[0; 300]);
-    let block = word.block(300);
-    let pointers = [5 + 13, 5 + 97 + 13, 5 + 2 * 97 + 13];
-    let mut room = vec![FILL; block.len()];
-    let mut stream = begin_term(300, 300, 300, 300, &mut room).unwrap();
-    word.put_raw(&mut stream, &mut room).unwrap();
-    for at in pointers {
-        assert_eq!(room[at..at + 4], [0; 4]);
+    for (edition, last) in [
+        (
+            Edition::One,
+            [(5, 512_u32), (5 + 97, 512), (5 + 97 + 97, 512)],
+        ),
+        (Edition::Two, [(5, 256), (5 + 57, 512), (5 + 57 + 97, 512)]),
+    ] {
+        let block = word.block(edition, 300);
+        let mut room = vec![FILL; block.len()];
+        let mut stream = begin_term(edition, 300, 300, 300, 300, &mut room).unwrap();
+        word.put_raw(&mut stream, &mut room).unwrap();
+        for (list, _) in last {
+            assert_eq!(room[list + 13..list + 17], [0; 4]);
+        }
+        assert_eq!(end_term(&mut stream, &mut room), Ok(block.len()));
+        for (list, number) in last {
+            assert_eq!(room[list + 13..list + 17], number.to_be_bytes());
+        }
+        assert_eq!(room, block);
     }
-    assert_eq!(end_term(&mut stream, &mut room), Ok(block.len()));
-    for at in pointers {
-        assert_eq!(room[at..at + 4], 512_u32.to_be_bytes());
-    }
-    assert_eq!(room, block);
 }
 
 #[test]
@@ -237,7 +248,7 @@ fn an_announcement_is_refused_with_the_room_unchanged() {
         };
         for bytes in [0, 100] {
             let mut room = vec![FILL; bytes];
-            let writer = TermWriter::begin(n, announced, &mut room);
+            let writer = TermWriter::begin(Edition::Two, n, announced, &mut room);
             assert_eq!(writer.err(), Some(refusal), "{n} {announced:?}");
             assert_eq!(room, vec![FILL; bytes]);
         }
@@ -245,19 +256,38 @@ fn an_announcement_is_refused_with_the_room_unchanged() {
 }
 
 #[test]
+fn an_unknown_version_is_refused_before_all_else() {
+    for version in [0, 3, 256, u32::MAX] {
+        for (n, pages, positions, u) in [(3, 1, 2, 3), (LIMIT + 1, 0, 0, 0), (0, 1, 1, 1)] {
+            for bytes in [0, 200] {
+                let mut room = vec![FILL; bytes];
+                let begun = begin_term(version, n, pages, positions, u, &mut room);
+                assert_eq!(begun, Err(Refusal::Version), "{version} {n}");
+                assert_eq!(room, vec![FILL; bytes]);
+            }
+        }
+    }
+}
+
+#[test]
 fn an_announcement_needs_the_room_of_the_block() {
     let mut room = [FILL; 84];
-    assert_eq!(begin_term(3, 1, 2, 3, &mut room[..83]), Err(Refusal::Room));
+    assert_eq!(
+        begin_term(Edition::Two, 3, 1, 2, 3, &mut room[..83]),
+        Err(Refusal::Room)
+    );
     assert_eq!(room, [FILL; 84]);
-    assert!(begin_term(3, 1, 2, 3, &mut room).is_ok());
+    assert!(begin_term(Edition::Two, 3, 1, 2, 3, &mut room).is_ok());
 }
 
 /// Lends a check the session of a word on pages 4 and 15 of 44, behind the first of them, and its room, which has three
 /// bytes more than the block.
 fn with_first_page(check: impl Fn(&mut Stream, &mut [u8])) {
-    let length = term_block(44, &[4, 15], &[1, 2], &[5, 0, 2]).unwrap().len();
+    let length = term_block(Edition::Two, 44, &[4, 15], &[1, 2], &[5, 0, 2])
+        .unwrap()
+        .len();
     let mut room = vec![FILL; length + 3];
-    let mut stream = begin_term(44, 2, 3, 9, &mut room).unwrap();
+    let mut stream = begin_term(Edition::Two, 44, 2, 3, 9, &mut room).unwrap();
     let first = Postings::new(&[4], &[1], &[5]);
     first.put_raw(&mut stream, &mut room).unwrap();
     check(&mut stream, &mut room);
@@ -339,9 +369,11 @@ fn totals_that_are_not_reached_clear_the_block() {
     let position_missing = nothing.with(4, &[5]).with(15, &[2]);
     let u_missing = nothing.with(4, &[5]).with(15, &[0, 1]);
     for word in [nothing, page_missing, position_missing, u_missing] {
-        let length = term_block(44, &[4, 15], &[1, 2], &[5, 0, 2]).unwrap().len();
+        let length = term_block(Edition::Two, 44, &[4, 15], &[1, 2], &[5, 0, 2])
+            .unwrap()
+            .len();
         let mut room = vec![FILL; length + 3];
-        let mut stream = begin_term(44, 2, 3, 9, &mut room).unwrap();
+        let mut stream = begin_term(Edition::Two, 44, 2, 3, 9, &mut room).unwrap();
         word.put_raw(&mut stream, &mut room).unwrap();
         assert_eq!(end_term(&mut stream, &mut room), Err(Refusal::Lists));
         assert_cleared(&stream, &room);
@@ -356,7 +388,7 @@ fn a_finished_word_takes_nothing_more() {
         rest.put_raw(stream, room).unwrap();
         let length = room.len() - 3;
         assert_eq!(end_term(stream, room), Ok(length));
-        let block = term_block(44, &[4, 15], &[1, 2], &[5, 0, 2]).unwrap();
+        let block = term_block(Edition::Two, 44, &[4, 15], &[1, 2], &[5, 0, 2]).unwrap();
         assert_eq!(room[..length], block);
         assert_over(stream);
     });
@@ -366,7 +398,7 @@ fn a_finished_word_takes_nothing_more() {
 #[test]
 fn a_short_room_ends_no_session() {
     with_first_page(|stream, room| {
-        let block = term_block(44, &[4, 15], &[1, 2], &[5, 0, 2]).unwrap();
+        let block = term_block(Edition::Two, 44, &[4, 15], &[1, 2], &[5, 0, 2]).unwrap();
         let rest = Postings::new(&[15], &[2], &[0, 2]);
         let bad = Postings::new(&[4], &[0], &[9, 9]);
         let before = (stream.clone(), room.to_vec());
@@ -392,9 +424,9 @@ fn a_short_room_ends_no_session() {
 #[test]
 fn the_room_may_move_between_calls() {
     let word = Postings::new(&[4, 15], &[1, 2], &[5, 0, 2]);
-    let block = word.block(44);
+    let block = word.block(Edition::Two, 44);
     let mut room = vec![FILL; block.len()];
-    let mut stream = begin_term(44, 2, 3, 9, &mut room).unwrap();
+    let mut stream = begin_term(Edition::Two, 44, 2, 3, 9, &mut room).unwrap();
     for run in word.cut(1) {
         room = [&room[..], &[FILL]].concat();
         run.put_raw(&mut stream, &mut room).unwrap();
@@ -403,14 +435,56 @@ fn the_room_may_move_between_calls() {
     assert_eq!(room, [&block[..], &[FILL; 2]].concat());
 }
 
+/// The table of docs/FORMAT.md: the bitmap of pump's pages, cut in front of page 12, and no number.
+#[test]
+fn bits_of_a_bitmap_are_set_run_by_run() {
+    let pages = [0, 1, 2, 5, 8, 9, 12, 16, 18, 23, 28, 35, 39];
+    let word = Postings::new(&pages, &[1; 13], &[0; 13]);
+    let mut room = vec![FILL; word.block(Edition::Two, 40).len()];
+    let mut stream = begin_term(Edition::Two, 40, 13, 13, 13, &mut room).unwrap();
+    let header = [0, 0, 0, 0x15, 2, 0, 0, 0, 40, 0, 0, 0, 13];
+    let assert_map = |room: &[u8], map: u64| {
+        assert_eq!(room[5..26], [&header[..], &map.to_be_bytes()].concat());
+    };
+    assert_map(&room, 0);
+    for (run, map) in word.cut(6).iter().zip([0x327, 0x88_1085_1327]) {
+        run.put_raw(&mut stream, &mut room).unwrap();
+        assert_map(&room, map);
+    }
+    end_term(&mut stream, &mut room).unwrap();
+    assert_map(&room, 0x88_1085_1327);
+}
+
+/// The close counts the ones that are there, spare bits aside, as far as a number reaches.
+#[test]
+fn numbers_are_taken_from_the_bits_that_are_there() {
+    let pages: Vec<u32> = (0..300).step_by(2).collect();
+    let word = Postings::new(&pages, &[1; 150], &[0; 150]);
+    let mut expected = word.block(Edition::Two, 300);
+    // the map starts behind the term's header, the list's header and one number: bit 1, bit 299 and a spare bit
+    let map = 5 + 13 + 4;
+    let host_bits = [(map + 7, 1 << 1), (map + 34, 1 << 3), (map + 32, 1 << 7)];
+    let number = 5 + 13..map;
+    expected[number].copy_from_slice(&129_u32.to_be_bytes());
+    let mut room = vec![FILL; expected.len()];
+    let mut stream = begin_term(Edition::Two, 300, 150, 150, 150, &mut room).unwrap();
+    for (at, bit) in host_bits {
+        room[at] |= bit;
+        expected[at] |= bit;
+    }
+    word.put_raw(&mut stream, &mut room).unwrap();
+    assert_eq!(end_term(&mut stream, &mut room), Ok(expected.len()));
+    assert_eq!(room, expected);
+}
+
 /// A one that the host sets stays: the block is then not that of the word.
 #[test]
 fn ones_are_set_into_what_is_there() {
     let word = Postings::new(&[1], &[2], &[0, 2]);
-    let mut expected = word.block(3);
+    let mut expected = word.block(Edition::Two, 3);
     expected[76] |= 0x80;
     let mut room = vec![0; expected.len()];
-    let mut stream = begin_term(3, 1, 2, 3, &mut room).unwrap();
+    let mut stream = begin_term(Edition::Two, 3, 1, 2, 3, &mut room).unwrap();
     room[76] = 0x80;
     word.put_raw(&mut stream, &mut room).unwrap();
     assert_eq!(end_term(&mut stream, &mut room), Ok(expected.len()));
@@ -421,7 +495,7 @@ fn ones_are_set_into_what_is_there() {
 fn a_writer_goes_no_further_behind_bad_postings() {
     let mut room = [FILL; 100];
     let word = Postings::new(&[1], &[2], &[0, 2]);
-    let mut writer = TermWriter::begin(3, word.announced(), &mut room).unwrap();
+    let mut writer = TermWriter::begin(Edition::Two, 3, word.announced(), &mut room).unwrap();
     assert_eq!(writer.put(&[3], &[1], &[0]), Err(Refusal::Lists));
     assert_eq!(word.put_into(&mut writer), Err(Refusal::Lists));
     assert_eq!(writer.finish(), Err(Refusal::Lists));
@@ -433,7 +507,7 @@ fn a_writer_goes_no_further_behind_bad_postings() {
 fn a_word_that_is_refused_gives_its_room_back() {
     let mut room = [FILL; 100];
     let word = Postings::new(&[1], &[2], &[0, 2]);
-    let mut writer = TermWriter::begin(3, word.announced(), &mut room).unwrap();
+    let mut writer = TermWriter::begin(Edition::Two, 3, word.announced(), &mut room).unwrap();
     assert_eq!(writer.put(&[3], &[1], &[0]), Err(Refusal::Lists));
     let (writer, behind) = writer.split();
     assert_eq!(behind.len(), 100);
@@ -446,7 +520,7 @@ fn a_word_that_is_refused_gives_its_room_back() {
 fn begin_all<'a>(n: u32, words: &[Postings], mut room: &'a mut [u8]) -> Vec<TermWriter<'a>> {
     let mut writers = Vec::new();
     for word in words {
-        let begun = TermWriter::begin(n, word.announced(), room).unwrap();
+        let begun = TermWriter::begin(Edition::Two, n, word.announced(), room).unwrap();
         let (writer, behind) = begun.split();
         writers.push(writer);
         room = behind;
@@ -473,9 +547,12 @@ fn a_card_a_chapter_at_a_time() {
     }
     let lengths = writers.into_iter().map(|writer| writer.finish().unwrap());
     let used = CARD_HEADER + lengths.sum::<usize>();
-    assert_eq!(close_index(&mut card, used, LONG_N, 3), Ok(used));
+    assert_eq!(
+        close_index(&mut card, used, Edition::Two, LONG_N, 3),
+        Ok(used)
+    );
 
-    let mut whole = CardWriter::new(LONG_N);
+    let mut whole = CardWriter::new(Edition::Two, LONG_N);
     for Postings {
         pages,
         counts,
@@ -506,6 +583,6 @@ fn numbers_past_32_bits_are_refused() {
     assert_eq!((announced.pages, announced.positions), (2, 2));
     assert_eq!(announced.u, u32::MAX);
     let mut room = [FILL; 200];
-    let writer = TermWriter::begin(3, announced, &mut room);
+    let writer = TermWriter::begin(Edition::Two, 3, announced, &mut room);
     assert_eq!(writer.err(), Some(Refusal::Limit));
 }

@@ -1,6 +1,6 @@
 //! One case, the run of it on one side, and its outcome.
 
-use crate::host_calls::HostCalls;
+use crate::host_calls::{Asked, HostCalls, Written};
 use crate::plain::stream::Stream;
 use crate::screen_case::{ScreenAfter, ScreenCase};
 use crate::stream_case::StreamCase;
@@ -72,7 +72,8 @@ impl Kind {
     /// The numbers of refusal that can occur, 0 for none.
     pub fn can_occur(self) -> &'static [u32] {
         match self {
-            Kind::WriteList | Kind::WriteTerm | Kind::BeginTerm => &[0, 4, 9, 10],
+            Kind::WriteList => &[0, 4, 9, 10],
+            Kind::WriteTerm | Kind::BeginTerm => &[0, 3, 4, 9, 10],
             Kind::PutPostings | Kind::EndTerm => &[0, 9, 10],
             Kind::CheckList => &[0, 1, 2, 3, 4, 5, 6],
             Kind::CheckTerm | Kind::CheckIndex => &[0, 1, 2, 3, 4, 5, 6, 7],
@@ -114,8 +115,9 @@ pub enum Case {
     },
     /// The block of `jf_check_list`.
     CheckList { block: Vec<u8> },
-    /// N, the three lists and the room of `jf_write_term`.
+    /// The version, N, the three lists and the room of `jf_write_term`.
     WriteTerm {
+        version: u32,
         card_pages: u32,
         pages: Vec<u32>,
         counts: Vec<u32>,
@@ -124,12 +126,13 @@ pub enum Case {
     },
     /// A call of a session.
     Stream(StreamCase),
-    /// The block of `jf_check_term`.
-    CheckTerm { block: Vec<u8> },
-    /// The buffer, used length, N and T of `jf_close_index`.
+    /// The version and the block of `jf_check_term`.
+    CheckTerm { version: u32, block: Vec<u8> },
+    /// The buffer, used length, version, N and T of `jf_close_index`.
     CloseIndex {
         buffer: Vec<u8>,
         used: usize,
+        version: u32,
         card_pages: u32,
         term_count: u32,
     },
@@ -240,71 +243,60 @@ fn printed_refusal(text: &str) -> u32 {
 
 /// Runs a host call on one side; a call of a session, one for a screen and a program case give `None`.
 pub fn run_call(side: &dyn HostCalls, case: &Case) -> Option<Outcome> {
+    let checked = |refusal| Outcome::Checked { refusal };
     let outcome = match case {
         Case::WriteList { bound, list, room } => {
-            let (written, after) = lend(room, |room| side.write_list(*bound, list, room));
-            Outcome::Written {
-                refusal: written.refusal,
-                length: written.length,
-                after,
-            }
+            written(room, |room| side.write_list(*bound, list, room))
         }
-        Case::CheckList { block } => Outcome::Checked {
-            refusal: side.check_list(block),
-        },
+        Case::CheckList { block } => checked(side.check_list(block)),
         Case::WriteTerm {
+            version,
             card_pages,
             pages,
             counts,
             positions,
             room,
-        } => {
-            let (written, after) = lend(room, |room| {
-                side.write_term(*card_pages, pages, counts, positions, room)
-            });
-            Outcome::Written {
-                refusal: written.refusal,
-                length: written.length,
-                after,
-            }
-        }
-        Case::CheckTerm { block } => Outcome::Checked {
-            refusal: side.check_term(block),
-        },
+        } => written(room, |room| {
+            side.write_term(*version, *card_pages, pages, counts, positions, room)
+        }),
+        Case::CheckTerm { version, block } => checked(side.check_term(*version, block)),
         Case::CloseIndex {
             buffer,
             used,
+            version,
             card_pages,
             term_count,
-        } => {
-            let (written, after) = lend(buffer, |buffer| {
-                side.close_index(buffer, *used, *card_pages, *term_count)
-            });
-            Outcome::Written {
-                refusal: written.refusal,
-                length: written.length,
-                after,
-            }
-        }
-        Case::CheckIndex { card } => Outcome::Checked {
-            refusal: side.check_index(card),
-        },
+        } => written(buffer, |buffer| {
+            side.close_index(buffer, *used, *version, *card_pages, *term_count)
+        }),
+        Case::CheckIndex { card } => checked(side.check_index(card)),
         Case::Ask {
             card,
             questions,
             room,
-        } => {
-            let (asked, after) = lend(room, |room| side.ask(card, questions, room));
-            Outcome::Asked {
-                refusal: asked.refusal,
-                answered: asked.answered,
-                used: asked.used,
-                after,
-            }
-        }
+        } => asked(room, |room| side.ask(card, questions, room)),
         Case::Stream(_) | Case::Screen(_) | Case::Program { .. } => return None,
     };
     Some(outcome)
+}
+
+fn written(room: &[u8], call: impl FnOnce(&mut [u8]) -> Written) -> Outcome {
+    let (Written { refusal, length }, after) = lend(room, call);
+    Outcome::Written {
+        refusal,
+        length,
+        after,
+    }
+}
+
+fn asked(room: &[u32], call: impl FnOnce(&mut [u32]) -> Asked) -> Outcome {
+    let (asked, after) = lend(room, call);
+    Outcome::Asked {
+        refusal: asked.refusal,
+        answered: asked.answered,
+        used: asked.used,
+        after,
+    }
 }
 
 /// Items kept on each side of a lent room, to see a write outside it.

@@ -213,13 +213,14 @@ mod tests {
 
         fn write_term(
             &self,
+            version: u32,
             card_pages: u32,
             pages: &[u32],
             counts: &[u32],
             positions: &[u32],
             room: &mut [u8],
         ) -> Written {
-            let written = Plain.write_term(card_pages, pages, counts, positions, room);
+            let written = Plain.write_term(version, card_pages, pages, counts, positions, room);
             match (self, written.refusal) {
                 (Slip::TellsALengthOnRefusal, 9) => Written {
                     length: room.len() + 1,
@@ -229,18 +230,19 @@ mod tests {
             }
         }
 
-        fn check_term(&self, block: &[u8]) -> u32 {
-            Plain.check_term(block)
+        fn check_term(&self, version: u32, block: &[u8]) -> u32 {
+            Plain.check_term(version, block)
         }
 
         fn close_index(
             &self,
             buffer: &mut [u8],
             used: usize,
+            version: u32,
             card_pages: u32,
             term_count: u32,
         ) -> Written {
-            Plain.close_index(buffer, used, card_pages, term_count)
+            Plain.close_index(buffer, used, version, card_pages, term_count)
         }
 
         fn check_index(&self, card: &[u8]) -> u32 {

@@ -10,6 +10,7 @@ use crate::gen::random::Random;
 use crate::gen::raw::{RawCard, RawList};
 use crate::gen::{calls, questions, rooms, screens, streams};
 use crate::plain::ask::{reply_over, Reply};
+use crate::plain::edition::Form;
 use crate::plain::index::check_index;
 use crate::plain::list::List;
 use crate::plain::term::Term;
@@ -63,9 +64,9 @@ impl FullCard {
         let case = match call % 24 {
             3 | 15 => return self.screen(random),
             7 | 19 => calls::write_list_of(random, list.clone()),
-            8 | 20 => calls::check_list_of(random, RawList::of(list)),
-            9 | 21 => calls::write_term_of(random, card.pages, word.clone()),
-            10 | 22 => calls::check_term_of(random, word.term(card.pages)),
+            8 | 20 => calls::check_list_of(random, RawList::of(list, Form::Runs)),
+            9 | 21 => calls::write_term_of(random, card.edition, card.pages, word.clone()),
+            10 | 22 => calls::check_term_of(random, card.term(long)),
             11 => calls::close_index_of(random, card, pieces.clone()),
             23 => calls::check_index_of(random, card, pieces.clone()),
             _ if call == 0 => return self.tour(random),
@@ -78,7 +79,7 @@ impl FullCard {
     pub fn session(&self) -> Vec<Decided> {
         let mut random = Random::of_case(self.seed, 8, self.number);
         let longest = self.longest()[0] as usize;
-        streams::session_of(&mut random, self.card.pages, &self.card.words[longest])
+        streams::session_of(&mut random, &self.card, longest)
     }
 
     /// The numbers of the words that stand anywhere, the longest first.
@@ -96,8 +97,7 @@ impl FullCard {
     }
 
     fn lists_of(&self, word: usize) -> [&List; 3] {
-        let term = &self.terms[word];
-        [&term.pages, &term.counts, &term.positions]
+        self.terms[word].lists()
     }
 
     /// Every kind of question, of eight words where it can have them, with

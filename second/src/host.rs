@@ -18,6 +18,7 @@ extern "C" {
     ) -> Written;
     fn jf_check_list(block: *const u8, block_len: usize) -> u32;
     fn jf_write_term(
+        version: u32,
         n: u32,
         pages: *const u32,
         pages_len: usize,
@@ -29,6 +30,7 @@ extern "C" {
         room_len: usize,
     ) -> Written;
     fn jf_begin_term(
+        version: u32,
         n: u32,
         pages: u32,
         positions: u32,
@@ -48,8 +50,15 @@ extern "C" {
         room_len: usize,
     ) -> Streamed;
     fn jf_end_term(stream: Stream, room: *mut u8, room_len: usize) -> Streamed;
-    fn jf_check_term(block: *const u8, block_len: usize) -> u32;
-    fn jf_close_index(buffer: *mut u8, buffer_len: usize, used: usize, n: u32, t: u32) -> Written;
+    fn jf_check_term(version: u32, block: *const u8, block_len: usize) -> u32;
+    fn jf_close_index(
+        buffer: *mut u8,
+        buffer_len: usize,
+        used: usize,
+        version: u32,
+        n: u32,
+        t: u32,
+    ) -> Written;
     fn jf_check_index(card: *const u8, card_len: usize) -> u32;
     fn jf_ask(
         card: *const u8,
@@ -106,6 +115,7 @@ impl HostCalls for Archive {
 
     fn write_term(
         &self,
+        version: u32,
         card_pages: u32,
         pages: &[u32],
         counts: &[u32],
@@ -115,6 +125,7 @@ impl HostCalls for Archive {
         let (at, size) = (room_address(room), room.len());
         unsafe {
             jf_write_term(
+                version,
                 card_pages,
                 address(pages),
                 pages.len(),
@@ -128,19 +139,20 @@ impl HostCalls for Archive {
         }
     }
 
-    fn check_term(&self, block: &[u8]) -> u32 {
-        unsafe { jf_check_term(address(block), block.len()) }
+    fn check_term(&self, version: u32, block: &[u8]) -> u32 {
+        unsafe { jf_check_term(version, address(block), block.len()) }
     }
 
     fn close_index(
         &self,
         buffer: &mut [u8],
         used: usize,
+        version: u32,
         card_pages: u32,
         term_count: u32,
     ) -> Written {
         let (at, size) = (room_address(buffer), buffer.len());
-        unsafe { jf_close_index(at, size, used, card_pages, term_count) }
+        unsafe { jf_close_index(at, size, used, version, card_pages, term_count) }
     }
 
     fn check_index(&self, card: &[u8]) -> u32 {
@@ -193,12 +205,13 @@ impl StreamCalls for Archive {
     fn begin_term(&self, announced: Announced, room: &mut [u8]) -> Streamed {
         let (at, size) = (room_address(room), room.len());
         let Announced {
+            version,
             card_pages,
             pages,
             positions,
             bound,
         } = announced;
-        unsafe { jf_begin_term(card_pages, pages, positions, bound, at, size) }
+        unsafe { jf_begin_term(version, card_pages, pages, positions, bound, at, size) }
     }
 
     fn put_postings(&self, stream: Stream, run: &Run, room: &mut [u8]) -> Streamed {

@@ -30,22 +30,24 @@ pub trait HostCalls: Sync {
     fn write_list(&self, bound: u32, list: &[u32], room: &mut [u8]) -> Written;
     /// Checks a list's block.
     fn check_list(&self, block: &[u8]) -> u32;
-    /// Writes a term's block.
+    /// Writes a term's block for an index of this version.
     fn write_term(
         &self,
+        version: u32,
         card_pages: u32,
         pages: &[u32],
         counts: &[u32],
         positions: &[u32],
         room: &mut [u8],
     ) -> Written;
-    /// Checks a term's block.
-    fn check_term(&self, block: &[u8]) -> u32;
+    /// Checks a term's block for an index of this version.
+    fn check_term(&self, version: u32, block: &[u8]) -> u32;
     /// Closes an index in its buffer.
     fn close_index(
         &self,
         buffer: &mut [u8],
         used: usize,
+        version: u32,
         card_pages: u32,
         term_count: u32,
     ) -> Written;
@@ -69,6 +71,7 @@ impl HostCalls for Plain {
 
     fn write_term(
         &self,
+        version: u32,
         card_pages: u32,
         pages: &[u32],
         counts: &[u32],
@@ -76,23 +79,24 @@ impl HostCalls for Plain {
         room: &mut [u8],
     ) -> Written {
         written(plain::term::write_term(
-            card_pages, pages, counts, positions, room,
+            version, card_pages, pages, counts, positions, room,
         ))
     }
 
-    fn check_term(&self, block: &[u8]) -> u32 {
-        refusal_of(plain::term::check_term(block))
+    fn check_term(&self, version: u32, block: &[u8]) -> u32 {
+        refusal_of(plain::term::check_term(version, block))
     }
 
     fn close_index(
         &self,
         buffer: &mut [u8],
         used: usize,
+        version: u32,
         card_pages: u32,
         term_count: u32,
     ) -> Written {
         written(plain::index::close_index(
-            buffer, used, card_pages, term_count,
+            buffer, used, version, card_pages, term_count,
         ))
     }
 

@@ -4,6 +4,10 @@
 
 pub mod case;
 pub mod compare;
+pub mod form_faults;
+pub mod form_sights;
+#[cfg(test)]
+mod form_slips;
 pub mod full_size;
 pub mod gen;
 pub mod host_calls;
@@ -17,6 +21,7 @@ pub mod screen_sights;
 #[cfg(test)]
 mod screen_slips;
 pub mod screen_text;
+pub mod seek_sights;
 pub mod sights;
 #[cfg(test)]
 mod slips;

@@ -14,13 +14,15 @@ const PAST_FOUR_BYTES: usize = 1 << 32;
 /// The buffer's length, which cut to four bytes is that of a header.
 const BUFFER: usize = PAST_FOUR_BYTES + 11;
 
-/// The used lengths and numbers of terms that are tried.
-const TRIED: [(usize, u32); 5] = [
-    (PAST_FOUR_BYTES - 1, 0),
-    (PAST_FOUR_BYTES - 1, 1),
-    (PAST_FOUR_BYTES, 0),
-    (PAST_FOUR_BYTES + 11, 0),
-    (PAST_FOUR_BYTES + 12, 0),
+/// The used lengths, versions and numbers of terms that are tried.
+const TRIED: [(usize, u32, u32); 7] = [
+    (PAST_FOUR_BYTES - 1, 1, 0),
+    (PAST_FOUR_BYTES - 1, 2, 1),
+    (PAST_FOUR_BYTES, 1, 0),
+    (PAST_FOUR_BYTES, 2, 0),
+    (PAST_FOUR_BYTES, 3, 0),
+    (PAST_FOUR_BYTES + 11, 1, 0),
+    (PAST_FOUR_BYTES + 12, 3, 0),
 ];
 
 /// Compares and counts the long closings. Gives a line for each difference,
@@ -28,12 +30,16 @@ const TRIED: [(usize, u32); 5] = [
 pub fn compare(side: &dyn HostCalls, tally: &mut Tally) -> Option<Vec<String>> {
     let mut buffer = zeros(BUFFER)?;
     let mut differences = Vec::new();
-    for (used, term_count) in TRIED {
-        let plain = Plain.close_index(&mut buffer, used, 0, term_count);
-        let given = side.close_index(&mut buffer, used, 0, term_count);
+    for (used, version, term_count) in TRIED {
+        let plain = Plain.close_index(&mut buffer, used, version, 0, term_count);
+        let given = side.close_index(&mut buffer, used, version, 0, term_count);
         tally.count_kind(Kind::CloseIndex, plain.refusal);
         if given != plain {
-            differences.push(difference(used, term_count, plain, given));
+            differences.push(difference(
+                [used, version as usize, term_count as usize],
+                plain,
+                given,
+            ));
         }
     }
     if !is_all_zeros(&buffer) {
@@ -42,8 +48,11 @@ pub fn compare(side: &dyn HostCalls, tally: &mut Tally) -> Option<Vec<String>> {
     Some(differences)
 }
 
-fn difference(used: usize, term_count: u32, plain: Written, given: Written) -> String {
-    format!("close_index used {used} t {term_count}: {plain:?} expected, {given:?} given")
+fn difference(tried: [usize; 3], plain: Written, given: Written) -> String {
+    let [used, version, term_count] = tried;
+    format!(
+        "close_index used {used} version {version} t {term_count}: {plain:?} expected, {given:?} given"
+    )
 }
 
 /// Whether every byte is 0, a stretch at a time to be quick about it.

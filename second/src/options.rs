@@ -34,6 +34,8 @@ pub enum Job {
     Full(u64),
     /// The session that writes the longest word of a card of full size.
     Long(u64),
+    /// Calls with a bitmap of the greatest U.
+    Limit(u64),
     /// A session of a word that is cut in every way.
     Cut(u64),
     /// A seeded session.
@@ -52,6 +54,7 @@ impl fmt::Display for Job {
             Job::Stored(number) => write!(f, "stored:{number}"),
             Job::Full(number) => write!(f, "full:{number}"),
             Job::Long(number) => write!(f, "long:{number}"),
+            Job::Limit(number) => write!(f, "limit:{number}"),
             Job::Cut(number) => write!(f, "cut:{number}"),
             Job::Stream(number) => write!(f, "stream:{number}"),
             Job::Screen(number) => write!(f, "screen:{number}"),
@@ -68,6 +71,7 @@ impl Job {
             "stored" => number.parse().ok().map(Job::Stored),
             "full" => number.parse().ok().map(Job::Full),
             "long" => number.parse().ok().map(Job::Long),
+            "limit" => number.parse().ok().map(Job::Limit),
             "cut" => number.parse().ok().map(Job::Cut),
             "stream" => number.parse().ok().map(Job::Stream),
             "screen" => number.parse().ok().map(Job::Screen),

@@ -2,6 +2,7 @@
 
 use crate::case::{Case, Outcome};
 use crate::gen::full_size::LONG;
+use crate::plain::edition::Form;
 use crate::plain::list::{List, Shape, ZEROS_PER_POINTER};
 use crate::plain::screen::{Screened, Wanted};
 use crate::plain::{refusal, GREATEST_BOUND, GREATEST_SCREEN, GREATEST_WORDS};
@@ -170,25 +171,44 @@ pub fn screen_sights(case: &Case, plain: &Outcome) -> Vec<ScreenSight> {
     faults.into_iter().map(ScreenSight::Refused).collect()
 }
 
-/// The pages of the words that are named, on an accepted card.
-fn named_lists(case: &ScreenCase) -> Vec<List> {
-    let lists = page_lists(&case.card);
-    let words = case.wanted.words.iter();
-    words.map(|word| lists[*word as usize].list()).collect()
+/// The pages of a word, and the form that they have on the card.
+struct Named {
+    list: List,
+    form: Form,
 }
 
-fn shortest(lists: &[List]) -> &List {
-    let shortest = lists.iter().min_by_key(|list| list.elements.len());
+impl Named {
+    /// The shape of its runs, if it has any.
+    fn shape(&self) -> Option<Shape> {
+        let has_runs = self.form == Form::Runs;
+        self.list.shape().filter(|_| has_runs)
+    }
+}
+
+/// The pages of the words that are named, on an accepted card.
+fn named_lists(case: &ScreenCase) -> Vec<Named> {
+    let lists = page_lists(&case.card);
+    let words = case.wanted.words.iter();
+    let blocks = words.map(|word| &lists[*word as usize]);
+    let named = blocks.map(|block| Named {
+        list: block.list(),
+        form: block.form(),
+    });
+    named.collect()
+}
+
+fn shortest(lists: &[Named]) -> &Named {
+    let shortest = lists.iter().min_by_key(|named| named.list.elements.len());
     shortest.expect("a screen has a word")
 }
 
 /// The pages that all of the lists hold.
-fn common(lists: &[List]) -> Vec<u32> {
+fn common(lists: &[Named]) -> Vec<u32> {
     let on_all = |page: &u32| {
         let mut others = lists.iter();
-        others.all(|list| list.elements.binary_search(page).is_ok())
+        others.all(|named| named.list.elements.binary_search(page).is_ok())
     };
-    let pages = shortest(lists).elements.iter().copied();
+    let pages = shortest(lists).list.elements.iter().copied();
     pages.filter(on_all).collect()
 }
 
@@ -198,9 +218,9 @@ fn from_bound<'a>(wanted: &Wanted, pages: &'a [u32]) -> &'a [u32] {
 }
 
 /// The zeros that a first seek for this bound passes by a pointer.
-fn zeros_passed(list: &List, bound: u32) -> usize {
-    match list.shape() {
-        Some(shape) if bound < list.bound => {
+fn zeros_passed(named: &Named, bound: u32) -> usize {
+    match named.shape() {
+        Some(shape) if bound < named.list.bound => {
             let zeros = (bound >> shape.width) as usize;
             zeros - zeros % ZEROS_PER_POINTER
         }
@@ -209,9 +229,11 @@ fn zeros_passed(list: &List, bound: u32) -> usize {
 }
 
 /// All zeros of the upper run, if a zero is its last bit.
-fn zeros_below_end(list: &List) -> usize {
-    let of_shape = |shape: &Shape| list.end() as usize <= shape.zeros << shape.width;
-    list.shape().filter(of_shape).map_or(0, |shape| shape.zeros)
+fn zeros_below_end(named: &Named) -> usize {
+    let end = named.list.end() as usize;
+    let of_shape = |shape: &Shape| end <= shape.zeros << shape.width;
+    let shape = named.shape().filter(of_shape);
+    shape.map_or(0, |shape| shape.zeros)
 }
 
 /// A screen that was shown, with the lists that it is of and their common pages.
@@ -219,7 +241,7 @@ struct Shown<'a> {
     case: &'a ScreenCase,
     screened: Screened,
     seeks: u32,
-    lists: Vec<List>,
+    lists: Vec<Named>,
     common: Vec<u32>,
     term_count: usize,
 }
@@ -263,7 +285,7 @@ impl<'a> Shown<'a> {
         let left = from_bound(&self.case.wanted, &self.common).len() - found;
         let most = self.case.wanted.most;
         let full = full == 1;
-        let last = full && next == self.lists[0].bound;
+        let last = full && next == self.lists[0].list.bound;
         vec![
             (full && left > 0, ScreenSight::Full),
             (full && left == 0, ScreenSight::JustFull),
@@ -281,8 +303,8 @@ impl<'a> Shown<'a> {
         let pages_below = self.common.first().is_some_and(|page| *page < bound);
         let between = pages_below && first.is_some_and(|page| page > bound);
         let behind = bound > 0 && last == Some(&(bound - 1));
-        let has_pages = !shortest(&self.lists).elements.is_empty();
-        let limit = self.lists[0].bound;
+        let has_pages = !shortest(&self.lists).list.elements.is_empty();
+        let limit = self.lists[0].list.bound;
         vec![
             (behind, ScreenSight::EmptyBehind),
             (bound == 0 && first.is_none(), ScreenSight::EmptyFromZero),
@@ -302,8 +324,8 @@ impl<'a> Shown<'a> {
         let last = words.last().map(|word| *word as usize + 1) == Some(self.term_count);
         let several = self.term_count > 1;
         let shown = self.screened.found > 0;
-        let nowhere = shortest(&self.lists).elements.is_empty();
-        let long = |list: &List| list.elements.len() >= LONG as usize;
+        let nowhere = shortest(&self.lists).list.elements.is_empty();
+        let long = |named: &Named| named.list.elements.len() >= LONG as usize;
         vec![
             (shown && eight, ScreenSight::OfEight),
             (shown && twice, ScreenSight::WordTwice),
@@ -319,7 +341,7 @@ impl<'a> Shown<'a> {
         let by_pointer = zeros > 0;
         let at_end = by_pointer && zeros == zeros_below_end(lead);
         let shown = self.screened.found > 0;
-        let most_seeks = self.lists.len() * lead.elements.len() + 1;
+        let most_seeks = self.lists.len() * lead.list.elements.len() + 1;
         let as_many = self.seeks as usize == most_seeks;
         vec![
             (shown && by_pointer, ScreenSight::FirstSeekByPointer),

@@ -7,7 +7,7 @@ use crate::worker::Worker;
 use second::case::Kind;
 use second::compare::{Compared, Decided, Other, Side};
 use second::full_size::{FullCard, CALLS};
-use second::gen::{calls, cuts, files, screens, streams};
+use second::gen::{calls, cuts, files, limit, screens, streams};
 use second::long_closing;
 use second::stored;
 use second::tally::Tally;
@@ -74,16 +74,17 @@ impl<'a> Shared<'a> {
         self.work(number)
     }
 
-    /// The work of this number: stored edges, cards, runs, sessions, screens, then calls.
+    /// The work of this number: stored edges, cards, bitmaps at the limit, runs, sessions, screens, then calls.
     fn work(&self, number: u64) -> Option<Work> {
         let runs = match self.options.program {
             Some(_) => self.options.runs,
             None => 0,
         };
         let stored = |number| Work::One(Job::Stored(number as usize));
-        let sections: [(u64, &dyn Fn(u64) -> Work); 7] = [
+        let sections: [(u64, &dyn Fn(u64) -> Work); 8] = [
             (self.stored.len() as u64, &stored),
             (self.options.cards, &Work::Card),
+            (limit::SETS, &|number| Work::One(Job::Limit(number))),
             (runs, &|number| Work::One(Job::Run(number))),
             (cuts::SESSIONS, &|number| Work::One(Job::Cut(number))),
             (self.options.streams, &|number| {
@@ -114,6 +115,7 @@ impl<'a> Shared<'a> {
                 return Some(vec![card.call(number % CALLS)]);
             }
             Job::Long(number) => return Some(FullCard::of(seed, number).session()),
+            Job::Limit(number) => return (number < limit::SETS).then(|| limit::set(number)),
             Job::Cut(number) => {
                 let in_range = number < cuts::SESSIONS;
                 return in_range.then(|| cuts::session(seed, number));

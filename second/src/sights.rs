@@ -4,9 +4,10 @@ use crate::case::{Case, Outcome};
 use crate::gen::full_size::LONG;
 use crate::phrase_faults::{phrase_fault, Fault};
 use crate::plain::bytes::{next_part, number_at};
+use crate::plain::edition::Form;
 use crate::plain::form::{all_questions, PhraseWord, Question};
 use crate::plain::index::INDEX_HEADER;
-use crate::plain::list::{check_list, List, Shape, LIST_HEADER};
+use crate::plain::list::{check_list_of, List, Shape, LIST_HEADER};
 use crate::plain::term::{TERM_HEADER, TERM_OPENING};
 use crate::plain::{refusal, GREATEST_BOUND, GREATEST_OFFSET, GREATEST_TERMS, GREATEST_WORDS};
 
@@ -308,26 +309,46 @@ fn of_asked(lists: &[&ListBlock]) -> Vec<Sight> {
     holding(&sights).collect()
 }
 
-/// The block of a valid list.
-pub struct ListBlock<'a>(&'a [u8]);
+/// The block of a list, mostly a valid one.
+pub struct ListBlock<'a>(pub &'a [u8]);
 
 impl ListBlock<'_> {
     /// The list itself.
     pub fn list(&self) -> List {
-        check_list(self.0).expect("the list is valid")
+        let list = self.list_if(|_, _, _| true);
+        list.expect("the list is valid")
     }
 
-    fn bound(&self) -> u32 {
+    /// The list, if the block is valid and this says that its form is right for U and n.
+    pub fn list_if(&self, is_right: impl Fn(Form, u32, usize) -> bool) -> Option<List> {
+        check_list_of(self.0, &Form::ALL, is_right).ok()
+    }
+
+    /// Its form.
+    pub fn form(&self) -> Form {
+        self.form_if_known().expect("the list is valid")
+    }
+
+    /// Its form, if its version is that of one.
+    pub fn form_if_known(&self) -> Option<Form> {
+        Form::of_version(self.0[4], &Form::ALL).ok()
+    }
+
+    /// U.
+    pub fn bound(&self) -> u32 {
         number_at(self.0, 5)
     }
 
-    fn count(&self) -> u32 {
+    /// n.
+    pub fn count(&self) -> u32 {
         number_at(self.0, 9)
     }
 
+    /// The shape of its runs, if it has any.
     fn shape(&self) -> Option<Shape> {
         let count = self.count() as usize;
-        (count > 0).then(|| Shape::of(self.bound(), count))
+        let has_runs = count > 0 && self.form() == Form::Runs;
+        has_runs.then(|| Shape::of(self.bound(), count))
     }
 
     fn pointers(&self) -> usize {
@@ -374,6 +395,7 @@ mod tests {
     use crate::compare::plain_outcome;
     use crate::gen::cards::{Card, Word};
     use crate::gen::raw::RawCard;
+    use crate::plain::edition::Edition;
 
     fn shown(case: &Case) -> Vec<Sight> {
         sights(case, &plain_outcome(case))
@@ -398,13 +420,23 @@ mod tests {
         assert_eq!(written(GREATEST_BOUND + 1, Vec::new()), []);
     }
 
+    fn first_edition(pages: u32, words: Vec<Word>) -> Vec<u8> {
+        let edition = Edition::First;
+        RawCard::of(&Card {
+            edition,
+            pages,
+            words,
+        })
+        .bytes()
+    }
+
     /// What is shown by a question to a card whose words all stand on these pages.
     fn asked(pages: u32, on: &[u32], words: usize, questions: &[u32], room: usize) -> Vec<Sight> {
         let mut word = Word::nowhere();
         on.iter().for_each(|page| word.stand(*page, &[0]));
         let words = vec![word; words];
         shown(&Case::Ask {
-            card: RawCard::of(&Card { pages, words }).bytes(),
+            card: first_edition(pages, words),
             questions: questions.to_vec(),
             room: vec![0; room],
         })
@@ -439,7 +471,7 @@ mod tests {
         };
         let words = vec![word_at(&[0, 3, 255]), word_at(&[4])];
         shown(&Case::Ask {
-            card: RawCard::of(&Card { pages: 1, words }).bytes(),
+            card: first_edition(1, words),
             questions: [&[4, pairs.len() as u32], pairs].concat(),
             room: vec![0; 9],
         })

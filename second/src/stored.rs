@@ -38,8 +38,9 @@ pub fn small_changes(edges: &[(String, Stored)]) -> Vec<Case> {
             Case::CheckList { block } => {
                 cases.extend(changes(block).map(|block| Case::CheckList { block }))
             }
-            Case::CheckTerm { block } => {
-                cases.extend(changes(block).map(|block| Case::CheckTerm { block }))
+            Case::CheckTerm { version, block } => {
+                let version = *version;
+                cases.extend(changes(block).map(|block| Case::CheckTerm { version, block }))
             }
             Case::CheckIndex { card } => {
                 cases.extend(changes(card).map(|card| Case::CheckIndex { card }))

@@ -1,13 +1,15 @@
 //! Why a call of a session was refused, where one fault alone decides it.
 
+use crate::plain::edition::Edition;
 use crate::plain::stream::{Announced, Run, Stream, GOING_ON};
-use crate::plain::term::Term;
 use crate::plain::{refusal, GREATEST_BOUND};
 use crate::stream_case::StreamCase;
 
 /// What is wrong with an announcement, a session, a run or a close.
 #[derive(Clone, Copy, Debug, PartialEq, Eq)]
 pub enum Fault {
+    /// The version is not known.
+    Version,
     /// N is over its limit.
     CardPages,
     /// U is over its limit.
@@ -52,6 +54,7 @@ impl Fault {
     /// The refused call and its fault, as the report names them.
     pub fn name(self) -> &'static str {
         match self {
+            Fault::Version => "announcements refused for their version alone",
             Fault::CardPages => "announcements refused for N alone",
             Fault::Bound => "announcements refused for U alone",
             Fault::PagesOverCard => "announcements refused for more pages than N alone",
@@ -98,14 +101,16 @@ fn only(faults: &[(bool, Fault)]) -> Option<Fault> {
     }
 }
 
-fn of_announcement(announced: Announced) -> [(bool, Fault); 7] {
+fn of_announcement(announced: Announced) -> [(bool, Fault); 8] {
     let Announced {
+        version,
         card_pages,
         pages,
         positions,
         bound,
     } = announced;
     [
+        (Edition::of_version(version).is_err(), Fault::Version),
         (card_pages > GREATEST_BOUND, Fault::CardPages),
         (bound > GREATEST_BOUND, Fault::Bound),
         (pages > card_pages, Fault::PagesOverCard),
@@ -128,12 +133,7 @@ fn of_session(stream: Stream) -> [(bool, Fault); 4] {
 
 fn of_run(stream: Stream, run: &Run) -> [(bool, Fault); 5] {
     let announced = stream.announced;
-    let alone = Term::from_inputs(
-        announced.card_pages,
-        &run.pages,
-        &run.counts,
-        &run.positions,
-    );
+    let alone = announced.run_alone(run);
     let pages = stream.laid as usize + run.pages.len();
     let positions = stream.filled as usize + run.positions.len();
     let past_bound = match &alone {

@@ -40,7 +40,8 @@ pub enum StreamSight {
 
 impl StreamSight {
     /// Every sight, in the order of the report.
-    pub const ALL: [StreamSight; 33] = [
+    pub const ALL: [StreamSight; 34] = [
+        StreamSight::Refused(Fault::Version),
         StreamSight::Refused(Fault::CardPages),
         StreamSight::Refused(Fault::Bound),
         StreamSight::Refused(Fault::PagesOverCard),

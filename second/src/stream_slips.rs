@@ -4,6 +4,10 @@ use crate::case::Case;
 use crate::compare::Side;
 use crate::gen::{cuts, streams};
 use crate::host_calls::Plain;
+use crate::plain::bitmap::BITS_PER_NUMBER;
+use crate::plain::bits::bytes_to_run;
+use crate::plain::bytes::push_number;
+use crate::plain::edition::Edition;
 use crate::plain::refusal;
 use crate::plain::stream::{Announced, Run, Stream, Streamed, GOING_ON};
 use crate::slips;
@@ -27,9 +31,16 @@ enum Slip {
     ReadsPostingsBeforeTheRoom,
     TakesAnyMark,
     TakesAnyBase,
+    TakesAnyVersion,
+    ToldBehindTheAnnouncement,
+    LaysByTheFirst,
+    LeavesNumbersOut,
+    NumbersBeforeTheClose,
+    NumbersCountTheirOwnPage,
+    LastNumberIsAnnounced,
 }
 
-const SLIPS: [Slip; 13] = [
+const SLIPS: [Slip; 20] = [
     Slip::ComparesNoSeam,
     Slip::LeavesABadBlock,
     Slip::EndsInAShortRoom,
@@ -43,6 +54,13 @@ const SLIPS: [Slip; 13] = [
     Slip::ReadsPostingsBeforeTheRoom,
     Slip::TakesAnyMark,
     Slip::TakesAnyBase,
+    Slip::TakesAnyVersion,
+    Slip::ToldBehindTheAnnouncement,
+    Slip::LaysByTheFirst,
+    Slip::LeavesNumbersOut,
+    Slip::NumbersBeforeTheClose,
+    Slip::NumbersCountTheirOwnPage,
+    Slip::LastNumberIsAnnounced,
 ];
 
 impl Slip {
@@ -58,7 +76,43 @@ impl Slip {
             Slip::TakesAnyBase if stream.base > stream.announced.bound => {
                 Stream { base: 0, ..stream }
             }
+            Slip::LaysByTheFirst if stream.announced.bitmap().is_some() => Stream {
+                announced: of_version(Edition::First.version(), stream.announced),
+                ..stream
+            },
             _ => stream,
+        }
+    }
+
+    /// What the slip makes of the numbers of a bitmap in a room that a call has succeeded in.
+    fn change_numbers(self, announced: Announced, before: &[u8], room: &mut [u8]) {
+        let Some(map) = announced.bitmap() else {
+            return;
+        };
+        let numbers = announced.card_pages as usize / BITS_PER_NUMBER as usize;
+        let start = map.start - 4 * numbers;
+        let bits = bytes_to_run(&room[map.clone()]);
+        let bits = &bits[..announced.card_pages as usize];
+        let ones_in = |end: usize| bits[..end].iter().filter(|bit| **bit).count() as u32;
+        let mut written = Vec::new();
+        for number in 1..=numbers {
+            let end = number * BITS_PER_NUMBER as usize;
+            let right = ones_in(end);
+            let is_last = end == bits.len();
+            push_number(
+                &mut written,
+                match self {
+                    Slip::NumbersCountTheirOwnPage => ones_in(bits.len().min(end + 1)),
+                    Slip::LastNumberIsAnnounced if is_last => announced.pages,
+                    _ => right,
+                },
+            );
+        }
+        match self {
+            Slip::LeavesNumbersOut => {
+                room[start..map.start].copy_from_slice(&before[start..map.start])
+            }
+            _ => room[start..map.start].copy_from_slice(&written),
         }
     }
 
@@ -66,6 +120,14 @@ impl Slip {
         let length = stream.announced.block_length().unwrap_or(0);
         let given = Plain.put_postings(stream, run, &mut vec![0; length]);
         given.refusal == refusal::INPUT
+    }
+}
+
+/// The same announcement for an index of another version.
+fn of_version(version: u32, announced: Announced) -> Announced {
+    Announced {
+        version,
+        ..announced
     }
 }
 
@@ -81,6 +143,14 @@ fn whole(stream: Stream) -> Stream {
 
 impl StreamCalls for Slip {
     fn begin_term(&self, announced: Announced, room: &mut [u8]) -> Streamed {
+        let first = of_version(Edition::First.version(), announced);
+        let unknown = Edition::of_version(announced.version).is_err();
+        if *self == Slip::TakesAnyVersion && unknown {
+            return Plain.begin_term(first, room);
+        }
+        if *self == Slip::ToldBehindTheAnnouncement && first.check().is_err() {
+            return Plain.begin_term(first, room);
+        }
         let given = Plain.begin_term(announced, room);
         let length = announced.block_length().unwrap_or(0);
         match (self, given.refusal) {
@@ -117,17 +187,32 @@ impl StreamCalls for Slip {
                 }
             }
             (Slip::PointsBeforeTheClose, 0) => drop(Plain.end_term(whole(stream), room)),
+            (Slip::NumbersBeforeTheClose, 0) => {
+                self.change_numbers(stream.announced, &before, room);
+            }
+            (Slip::LaysByTheFirst, 0 | refusal::ROOM) => {
+                let announced = stream.announced;
+                let stream = Stream {
+                    announced,
+                    ..given.stream
+                };
+                return Streamed { stream, ..given };
+            }
             _ => {}
         }
         given
     }
 
     fn end_term(&self, stream: Stream, room: &mut [u8]) -> Streamed {
+        let before = room.to_vec();
         let totals_pass = *self == Slip::TakesAnyTotals && stream.goes_on();
         let given = match totals_pass {
             true => Plain.end_term(whole(stream), room),
             false => Plain.end_term(stream, room),
         };
+        if given.refusal == 0 {
+            self.change_numbers(stream.announced, &before, room);
+        }
         let keeps_session = *self == Slip::GoesOnAfterTheClose && given.refusal == 0;
         Streamed {
             stream: if keeps_session { stream } else { given.stream },

@@ -1,7 +1,7 @@
 //! The lines of case files that only the calls of a session have.
 //!
-//! A session is the line `stream` with its nine numbers in their order: mark, N, pages, positions, U, laid, filled,
-//! page, base.
+//! A session is the line `stream` with its ten numbers in their order: mark, version, N, pages, positions, U, laid,
+//! filled, page, base.
 
 use crate::case::{Kind, Outcome};
 use crate::plain::stream::{Announced, Run, Stream};
@@ -14,6 +14,7 @@ pub fn read_stream_case(kind: Kind, fields: &Fields) -> Result<StreamCase, Strin
     Ok(match kind {
         Kind::BeginTerm => StreamCase::Begin {
             announced: Announced {
+                version: fields.number("version")?,
                 card_pages: fields.number("n")?,
                 pages: fields.number("pages")?,
                 positions: fields.number("positions")?,
@@ -51,13 +52,14 @@ fn read_stream(fields: &Fields) -> Result<Stream, String> {
     let numbers = fields.numbers("stream")?.try_into();
     numbers
         .map(Stream::of_numbers)
-        .map_err(|_| "`stream` takes nine numbers".to_string())
+        .map_err(|_| "`stream` takes ten numbers".to_string())
 }
 
 /// Writes the inputs of a call of a session.
 pub fn put_stream_case(text: &mut String, case: &StreamCase) {
     match case {
         StreamCase::Begin { announced, .. } => {
+            put_number(text, "version", announced.version);
             put_number(text, "n", announced.card_pages);
             put_number(text, "pages", announced.pages);
             put_number(text, "positions", announced.positions);

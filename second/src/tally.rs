@@ -1,6 +1,7 @@
 //! The count of what has been compared and seen.
 
 use crate::case::{Case, Kind, Outcome};
+use crate::form_sights::{form_sights, FormSight};
 use crate::gen::lists::GREATEST_WIDTH;
 use crate::plain::list::Shape;
 use crate::screen_sights::{screen_sights, ScreenSight};
@@ -19,6 +20,7 @@ pub struct Tally {
     sights: [u64; Sight::ALL.len()],
     stream_sights: [u64; StreamSight::ALL.len()],
     screen_sights: [u64; ScreenSight::ALL.len()],
+    form_sights: [u64; FormSight::COUNT],
 }
 
 impl Default for Tally {
@@ -36,6 +38,7 @@ impl Tally {
             sights: [times; Sight::ALL.len()],
             stream_sights: [times; StreamSight::ALL.len()],
             screen_sights: [times; ScreenSight::ALL.len()],
+            form_sights: [times; FormSight::COUNT],
         }
     }
 
@@ -57,6 +60,9 @@ impl Tally {
         for sight in screen_sights(case, plain) {
             self.screen_sights[sight.place()] += 1;
         }
+        for sight in form_sights(case, plain) {
+            self.form_sights[sight.place()] += 1;
+        }
     }
 
     /// Counts a comparison by its kind alone.
@@ -73,6 +79,7 @@ impl Tally {
         add_each(&mut self.sights, &other.sights);
         add_each(&mut self.stream_sights, &other.stream_sights);
         add_each(&mut self.screen_sights, &other.screen_sights);
+        add_each(&mut self.form_sights, &other.form_sights);
     }
 
     /// How often each sight was seen, by its name.
@@ -80,9 +87,12 @@ impl Tally {
         let names = Sight::ALL.into_iter().map(Sight::name);
         let stream_names = StreamSight::ALL.into_iter().map(StreamSight::name);
         let screen_names = ScreenSight::ALL.into_iter().map(ScreenSight::name);
+        let form_names = FormSight::all().into_iter().map(|(_, name)| name.into());
         let names = names.chain(stream_names).chain(screen_names);
+        let names = names.chain(form_names);
         let times = self.sights.iter().chain(&self.stream_sights);
-        let times = times.chain(&self.screen_sights).copied();
+        let times = times.chain(&self.screen_sights).chain(&self.form_sights);
+        let times = times.copied();
         names.zip(times).collect()
     }
 
@@ -204,6 +214,15 @@ mod tests {
             let mut tally = Tally::of_each(1);
             tally.screen_sights[sight.place()] = 0;
             assert_eq!(tally.unseen(true), [sight.name()]);
+        }
+    }
+
+    #[test]
+    fn a_tally_without_one_sight_of_forms_lacks_it() {
+        for (sight, name) in FormSight::all() {
+            let mut tally = Tally::of_each(1);
+            tally.form_sights[sight.place()] = 0;
+            assert_eq!(tally.unseen(true), [name]);
         }
     }
 

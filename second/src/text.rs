@@ -172,25 +172,15 @@ fn read_inputs(kind: Kind, fields: &Fields) -> Result<Case, String> {
         Kind::CheckList => Case::CheckList {
             block: fields.bytes("block")?,
         },
-        Kind::WriteTerm => Case::WriteTerm {
-            card_pages: fields.number("n")?,
-            pages: fields.numbers("pages")?,
-            counts: fields.numbers("counts")?,
-            positions: fields.numbers("positions")?,
-            room: fields.bytes("room")?,
-        },
+        Kind::WriteTerm => read_write_term(fields)?,
         Kind::BeginTerm | Kind::PutPostings | Kind::EndTerm => {
             Case::Stream(read_stream_case(kind, fields)?)
         }
         Kind::CheckTerm => Case::CheckTerm {
+            version: fields.number("version")?,
             block: fields.bytes("block")?,
         },
-        Kind::CloseIndex => Case::CloseIndex {
-            buffer: fields.bytes("buffer")?,
-            used: fields.number("used")?,
-            card_pages: fields.number("n")?,
-            term_count: fields.number("t")?,
-        },
+        Kind::CloseIndex => read_close_index(fields)?,
         Kind::CheckIndex => Case::CheckIndex {
             card: fields.bytes("card")?,
         },
@@ -204,6 +194,27 @@ fn read_inputs(kind: Kind, fields: &Fields) -> Result<Case, String> {
             card: fields.file("card")?,
             questions: fields.file("questions")?,
         },
+    })
+}
+
+fn read_write_term(fields: &Fields) -> Result<Case, String> {
+    Ok(Case::WriteTerm {
+        version: fields.number("version")?,
+        card_pages: fields.number("n")?,
+        pages: fields.numbers("pages")?,
+        counts: fields.numbers("counts")?,
+        positions: fields.numbers("positions")?,
+        room: fields.bytes("room")?,
+    })
+}
+
+fn read_close_index(fields: &Fields) -> Result<Case, String> {
+    Ok(Case::CloseIndex {
+        buffer: fields.bytes("buffer")?,
+        used: fields.number("used")?,
+        version: fields.number("version")?,
+        card_pages: fields.number("n")?,
+        term_count: fields.number("t")?,
     })
 }
 
@@ -248,34 +259,13 @@ pub fn case_text(case: &Case) -> String {
             put_numbers(&mut text, "list", list);
             put_bytes(&mut text, "room", room);
         }
-        Case::CheckList { block } | Case::CheckTerm { block } => {
-            put_bytes(&mut text, "block", block)
+        Case::CheckList { block } => put_bytes(&mut text, "block", block),
+        Case::CheckTerm { version, block } => {
+            put_number(&mut text, "version", *version);
+            put_bytes(&mut text, "block", block);
         }
-        Case::WriteTerm {
-            card_pages,
-            pages,
-            counts,
-            positions,
-            room,
-        } => {
-            put_number(&mut text, "n", *card_pages);
-            put_numbers(&mut text, "pages", pages);
-            put_numbers(&mut text, "counts", counts);
-            put_numbers(&mut text, "positions", positions);
-            put_bytes(&mut text, "room", room);
-        }
+        Case::WriteTerm { .. } | Case::CloseIndex { .. } => put_edition_case(&mut text, case),
         Case::Stream(case) => put_stream_case(&mut text, case),
-        Case::CloseIndex {
-            buffer,
-            used,
-            card_pages,
-            term_count,
-        } => {
-            put_bytes(&mut text, "buffer", buffer);
-            put_number(&mut text, "used", *used);
-            put_number(&mut text, "n", *card_pages);
-            put_number(&mut text, "t", *term_count);
-        }
         Case::CheckIndex { card } => put_bytes(&mut text, "card", card),
         Case::Ask {
             card,
@@ -293,6 +283,41 @@ pub fn case_text(case: &Case) -> String {
         }
     }
     text
+}
+
+/// Writes the inputs of the writer of a term, or of a closing.
+fn put_edition_case(text: &mut String, case: &Case) {
+    match case {
+        Case::WriteTerm {
+            version,
+            card_pages,
+            pages,
+            counts,
+            positions,
+            room,
+        } => {
+            put_number(text, "version", *version);
+            put_number(text, "n", *card_pages);
+            put_numbers(text, "pages", pages);
+            put_numbers(text, "counts", counts);
+            put_numbers(text, "positions", positions);
+            put_bytes(text, "room", room);
+        }
+        Case::CloseIndex {
+            buffer,
+            used,
+            version,
+            card_pages,
+            term_count,
+        } => {
+            put_bytes(text, "buffer", buffer);
+            put_number(text, "used", *used);
+            put_number(text, "version", *version);
+            put_number(text, "n", *card_pages);
+            put_number(text, "t", *term_count);
+        }
+        _ => {}
+    }
 }
 
 /// Writes an outcome in the form it is read in.

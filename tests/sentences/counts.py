@@ -1,7 +1,7 @@
 """Sentences about counts and cursors in all crates: where they are made, moved, kept, summed up and told."""
 from reading import flow, tree
 from reading.compare import compared
-from sentences.names import FRESH, LOOK, LOOKING, LOOP, SCREEN, SEEK, SEEK_IN, SHOWING
+from sentences.names import FRESH, LOOK, LOOKING, LOOP, RANK, RANK_IN, SCREEN, SEEK, SEEK_IN, SHOWING
 
 # every place at which a field `seeks` or `looks` is read or given
 COUNTS = {
@@ -16,13 +16,13 @@ COUNTING = ["walklaws::Cursor", "querylaws::Listed"]
 # those, the query and what seeks hand on with it, with the places at which they are made
 MADE = {
     "walklaws::Cursor": [FRESH, SEEK],
-    "walklaws::Moved": [SEEK],
     "querylaws::Query": ["querylaws::Query::new"],
     "query::InHand": [LOOP],
     "querylaws::Turn": ["query::turn_of", "query::list_common"],
     "querylaws::Listed": ["rows::totals"],
 }
-# every place from which a function is called that looks, that makes, moves or sums up cursors, or that answers by them
+# every place from which a function is called that looks, that makes, moves or sums up cursors, that answers by them, or
+# that reads words for a rank
 CALLS = {
     LOOK: LOOKING,
     SEEK: [SEEK_IN],
@@ -41,12 +41,12 @@ CALLS = {
     SCREEN: [SHOWING],
     "panel::put_screen": [SHOWING],
     SHOWING: ["jundefola::jf_screen"],
+    # a rank is worked out behind the seeks, where kind 2 tells it or a phrase needs it
+    RANK: [RANK_IN],
+    RANK_IN: ["kinds::by_bound", "starts::page_starts", "trying::turn_next"],
 }
-# what `seek_in` is given and gives back: the query, and the cursor in hand; it is given no rank
+# what `seek_in` is given and gives back: the query, and the cursor in hand
 IN_HAND = ("q", "hand")
-NO_RANK = ("rank", "0")
-# what it puts in place of what it was given, and the fields of what the seek gave back that this is
-PUT = {"hand": "cursor", "rank": "rank"}
 TURNS = (tree.If, tree.Match, tree.Loop, tree.For, tree.Leave)
 # functions that take each of their steps once
 STRAIGHT = [SEEK, SEEK_IN]
@@ -77,8 +77,8 @@ def made_where_named(program):
 
 
 def called_where_named(program):
-    """In all crates the look, the seek, and what makes, moves or sums up cursors, is called only at the places of the
-    table."""
+    """In all crates the look, the seek, what makes, moves or sums up cursors, and what reads words for a rank are
+    called only at the places of the table."""
     found = {}
     for f in program.functions.values():
         for callee, _ in program.calls(f):
@@ -94,8 +94,8 @@ def steps_once(program):
 
 
 def cursor_kept(program):
-    """`seek_in` gives the cursor in hand to the seek, and puts in its place the cursor that the seek gave back, with
-    its rank; it changes nothing else."""
+    """`seek_in` gives the cursor in hand to the seek, and puts in its place the cursor that the seek gave back; it
+    changes nothing else."""
     f = program.function(SEEK_IN)
     changes = tree.every(tree.Assign, f.body)
     seeks = [call for callee, call in program.calls(f) if callee == SEEK]
@@ -105,7 +105,7 @@ def cursor_kept(program):
     cursor = [p.type for p in program.function(SEEK).parameters].index("Cursor")
     back, given = str(f.body.value), str(seeks[0].arguments[cursor])
     told = [(change.sign, str(change.target), flow.origin(program, f, change.value)) for change in changes]
-    if told != [("=", f"{back}.{place}", f"{SEEK}().{field}") for place, field in PUT.items()]:
+    if told != [("=", f"{back}.{IN_HAND[1]}", f"{SEEK}()")]:
         yield f"{f.path}: what the seek gave back is put by {', '.join(f'`{change}`' for change in changes)}"
     if given != f"{back}.{IN_HAND[1]}":
         yield f"{f.path}: the seek is given `{given}`, and `{back}` is given back"
@@ -154,7 +154,7 @@ def between_wrong(program, f, store, changes):
             yield f"{f.path}: `{step}` between a seek and the storing of its cursor"
     given = [[(node.name, str(node.value)) for node in tree.every(tree.Given, step)] for step in steps
              if flow.origin(program, f, getattr(step, "value", step)) == f"{SEEK_IN}()"]
-    if given != [[*zip(IN_HAND, (flow.root(store.target), steps[0].name)), NO_RANK]]:
+    if given != [[*zip(IN_HAND, (flow.root(store.target), steps[0].name))]]:
         yield f"{f.path}: the seek in that round is not given the query and the cursor of `{store.target}`"
 
 

@@ -2,21 +2,26 @@
 those that they list."""
 
 # the crates of a seek: its cursor, its looks and its steps
-OF_SEEK = ["walklaws", "looks", "starting", "passing", "landing", "seek"]
+OF_SEEK = ["walklaws", "looks", "starting", "passing", "landing", "mapseek", "seek"]
 # what other crates may call of them
 SEEK = "seek::seek"
 FRESH = "walklaws::Cursor::new"
-# what hands out a word of the upper run and counts it, and what alone calls it
+# what hands out a word of the upper run or of a bitmap and counts it, and what alone calls it
 LOOK = "looks::look"
-LOOKING = ["looks::next_word", "passing::pass"]
+LOOKING = ["looks::next_word", "passing::pass", "mapseek::find_in_map"]
 # what reads words of the lower run
 LOW_PART = "landing::low_part"
 # the function of another crate that a seek hands the list's bytes to
 POINTER = "reading::pointer_at"
 
-# the crates whose functions read the bytes that they are given, and the one of them that reads a word
+# the crates whose functions read the bytes that they are given, the one of them that reads a word, and the function
+# besides those that reads a number which a block stores
 READING = ["numbers", "runs"]
 RUN_WORD = "runs::run_word"
+NUMBER_IN = "reading::number_in"
+# what reads a bitmap's words for a rank, and what alone calls it
+RANK = "maprank::rank_at"
+RANK_IN = "rows::rank_in"
 
 # the name of the table's type, what gives the table, and what each function asks of the one that it is lent
 TABLE = "Table"

@@ -3,8 +3,8 @@ from typing import NamedTuple
 
 from reading import flow, tree
 from reading.compare import compared
-from sentences.names import ANSWERS, IS_TABLE, KIND_3, KINDS, LOOK, LOW_PART, PLACES, READING, RUN_WORD, SCREEN
-from sentences.names import SHOWING, SHOWN_BY, TABLE
+from sentences.names import ANSWERS, IS_TABLE, KIND_3, KINDS, LOOK, LOW_PART, NUMBER_IN, PLACES, POINTER, READING
+from sentences.names import RUN_WORD, SCREEN, SHOWING, SHOWN_BY, TABLE
 from sentences.written import WRITTEN
 
 
@@ -29,15 +29,15 @@ READS = {
         ["numbers::read_u32(part_of(card, places, i), LIST_N_AT)"], "n in a list's header",
         "⌜ (i < 8) × PlaceOk (now card) (now places) i ⌝"),
     "reading::shape_at": Read(
-        ["numbers::read_u32(block, LIST_U_AT)", "numbers::read_u32(block, LIST_N_AT)"], "U and n in a list's header",
-        "⌜ listRefusal (now block) ≡ Accepted ⌝"),
-    "reading::pointer_in": Read(
-        ["numbers::read_u32(block, POINTER_ZERO_AT + POINTER_SIZE * i)"], "pointer number i",
-        "⌜ Open (now block) (shapeIn (now block)) × (i ≤ pointersIn (shapeIn (now block))) ⌝"),
+        ["numbers::read_u32(block, LIST_U_AT)", "numbers::read_u32(block, LIST_N_AT)", "block[VERSION_AT]"],
+        "U, n and the version in a list's header", "⌜ FormValid (formAt (now block)) (now block) ⌝"),
+    NUMBER_IN: Read(
+        ["numbers::read_u32(block, POINTER_ZERO_AT + POINTER_SIZE * i)"], "the number that is asked for"),
+    POINTER: Read(["number_in(block, i)"], "pointer number i", "⌜ Open (now block) g × (i ≤ pointersIn g) ⌝"),
     LOW_PART: Read(
         ["runs::run_word(&s[g.lower..g.upper], 0, rank * g.w / 64)",
          "runs::run_word(&s[g.lower..g.upper], 0, rank * g.w / 64 + 1)"], "words of the lower run"),
-    LOOK: Read(["runs::run_word(s, upper, k)"], "the word of the upper run that is counted"),
+    LOOK: Read(["runs::run_word(s, upper, k)"], "the word of the upper run or of the bitmap that is counted"),
 }
 
 
@@ -70,9 +70,12 @@ def bytes_are_followed(program):
 
 
 def reads_in(program, f):
-    """The reads of bytes in a function: a byte, or a call of the crates that read bytes which is given some."""
+    """The reads of bytes in a function: a byte, or a call which is given some, of the crates that read bytes or of what
+    reads a stored number."""
+    def reads(callee):
+        return callee == NUMBER_IN or callee.split("::")[0] in READING
     return [use.node for use in flow.Bytes(program, f).uses() if use.what == "byte"
-            or use.what == "handed" and program.callee(f, use.node).split("::")[0] in READING]
+            or use.what == "handed" and reads(program.callee(f, use.node))]
 
 
 def reads_found(program):

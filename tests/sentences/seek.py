@@ -1,9 +1,11 @@
-"""Sentences about the seek's crates: who reads the upper run there, and what becomes of the one counter of looks."""
+"""Sentences about the seek's crates: who reads the upper run or the bitmap there, and what becomes of the one counter
+of looks."""
 from reading import flow, tree
 from sentences.names import FRESH, LOOK, LOW_PART, OF_SEEK, POINTER, RUN_WORD, SEEK, of_seek
 
 NUMBERS = {
     "walklaws::Cursor": {"mark": "u32", "bit": "u32", "seeks": "u32", "looks": "u32"},
+    "walklaws::Landing": {"mark": "u32", "bit": "u32"},
     "shape::Shape": dict.fromkeys(["u", "n", "w", "bits", "lower", "upper", "end"], "usize"),
 }
 # what other crates call of the seek's
@@ -12,7 +14,8 @@ COUNTER = "&mut u32"
 
 
 def numbers_alone(program):
-    """A cursor is four numbers and a shape seven, and no struct of any crate holds bytes or a reference."""
+    """A cursor is four numbers, where a search ends two of them, and a shape seven, so that a seek hands back no rank;
+    and no struct of any crate holds bytes or a reference."""
     for name, fields in NUMBERS.items():
         if program.structs.get(name) != fields:
             yield f"{name}: its fields are not {', '.join(fields)}"
@@ -115,9 +118,8 @@ def seek_lends_one_counter(program):
     around = [str(node) for node, _ in flow.mentions(name, f.body)]
     if sorted(around) != [f"&mut {name}", f"looks: {name}"]:
         yield f"{f.path}: the counter stands in {', '.join(f'`{text}`' for text in around)}"
-    moved = flow.followed(f.body.value, flow.named(f))
-    cursors = [node.value for node in getattr(moved, "given", []) if node.name == "cursor"]
-    if [f"looks: {name}" in map(str, getattr(cursor, "given", [])) for cursor in cursors] != [True]:
+    cursor = flow.followed(f.body.value, flow.named(f))
+    if f.returns != "Cursor" or f"looks: {name}" not in map(str, getattr(cursor, "given", [])):
         yield f"{f.path}: what it gives back is not the cursor with that count"
 
 

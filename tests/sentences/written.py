@@ -27,7 +27,7 @@ pub fn totals(q: Query, found: usize) -> Listed {
 PAGES = """
 pub fn list_common(table: &Table, card: &[u8], shapes: &[u32], k: usize, room: &mut [u32]) -> Listed {
     let q = Query::new();
-    let mut s = Turn { q, mark: 0, rank: 0, found: 0 };
+    let mut s = Turn { q, mark: 0, found: 0 };
     if 0 < room.len() {
         s = batch(table, card, shapes, q, k, 0, room);
     }
@@ -102,14 +102,29 @@ pub fn blocks_from(s: &[u8], from: usize, k: usize) -> &[u8] {
     rest
 }
 """
-TEXTS = {"looks": LOOK, "rows": SUMS, "query": PAGES, "bycommon": TOLD, "panel": SHOWN, "parts": WALK}
+# the words that are read for a rank and not counted: from the number stored before a page up to the page's own word
+RANKED = """
+pub fn rank_at(s: &[u8], g: Shape, page: usize) -> usize {
+    let i = page / 256;
+    let last = page / 64;
+    let mut rank = reading::number_in(s, i);
+    let mut k = 4 * i;
+    while k < last {
+        rank += u64::count_ones(runs::run_word(s, g.upper, k)) as usize;
+        k += 1;
+    }
+    rank + fields::ones_below(runs::run_word(s, g.upper, last), page % 64) as usize
+}
+"""
+TEXTS = {"looks": LOOK, "rows": SUMS, "query": PAGES, "bycommon": TOLD, "panel": SHOWN, "parts": WALK,
+         "maprank": RANKED}
 WRITTEN = {f.path: f for crate, text in TEXTS.items() for f in read(crate, text).functions.values()}
 
 
 def stands_as_written(program):
-    """What hands out a word and adds a look, what sums up the counts, what tells them, and the walk over the lengths
-    of blocks stand word for word as the test has them: a look is one word, counts are summed plainly and told as they
-    are."""
+    """What hands out a word and adds a look, what sums up the counts, what tells them, the walk over the lengths of
+    blocks, and what reads words for a rank stand word for word as the test has them: a look is one word, counts are
+    summed plainly and told as they are, and a rank takes at most four words and no look."""
     for path, written in WRITTEN.items():
         found = program.function(path)
         if str(found) != str(written):

@@ -2,8 +2,9 @@
 
 use crate::card::{check_index, find_terms};
 use crate::check::TERM_OPENING;
-use crate::cursor::{Cursor, NONE};
+use crate::cursor::{is_bitmap, Cursor, NONE};
 use crate::phrase::{starts, Places};
+use crate::shape::known;
 use crate::words::Words;
 use crate::{refusal, Asked};
 
@@ -91,19 +92,27 @@ unsafe fn answer(card: *const u8, kind: u32, numbers: &[u32], room: &mut [u32]) 
     }
 }
 
-/// A fresh cursor on the pages of a term.
+/// The block of the pages of a term.
 #[inline(always)]
-unsafe fn pages(card: *const u8, term: u32) -> Cursor {
+unsafe fn pages(card: *const u8, term: u32) -> *const u8 {
     let mut found = [card; 8];
     find_terms(card, &[term], &mut found);
-    Cursor::on(found[0].add(TERM_OPENING))
+    found[0].add(TERM_OPENING)
 }
 
 /// An answer that begins with the count of the numbers behind it.
 type Short = [u32; 3];
 
 #[inline(always)]
-unsafe fn page_at(mut cursor: Cursor, rank: u32) -> Short {
+unsafe fn page_at(block: *const u8, rank: u32) -> Short {
+    if is_bitmap(block) {
+        let cursor = Cursor::on_bitmap(block);
+        return match rank >= cursor.n {
+            true => [0; 3],
+            false => [1, cursor.page_in_bitmap(rank), 0],
+        };
+    }
+    let mut cursor = Cursor::on_runs(block);
     if rank >= cursor.n {
         return [0; 3];
     }
@@ -113,10 +122,18 @@ unsafe fn page_at(mut cursor: Cursor, rank: u32) -> Short {
 
 /// The first page at or above the bound and its rank, or the number of pages, which then all lie below it.
 #[inline(always)]
-unsafe fn page_from(mut cursor: Cursor, bound: u32) -> Short {
-    match cursor.seek(bound, &mut 0) {
+unsafe fn page_from(block: *const u8, bound: u32) -> Short {
+    match is_bitmap(block) {
+        true => page_sought::<{ known::BITMAPS }>(Cursor::on_bitmap(block), bound),
+        false => page_sought::<{ known::RUNS }>(Cursor::on_runs(block), bound),
+    }
+}
+
+#[inline(always)]
+unsafe fn page_sought<const KNOWN: u8>(mut cursor: Cursor, bound: u32) -> Short {
+    match cursor.seek::<KNOWN>(bound, &mut 0) {
         NONE => [1, cursor.n, 0],
-        page => [2, page, cursor.place.passed - 1],
+        page => [2, page, cursor.rank::<KNOWN>()],
     }
 }
 
@@ -133,7 +150,7 @@ unsafe fn common(card: *const u8, numbers: &[u32], room: &mut [u32]) -> Option<u
         return None;
     }
     if let [term] = numbers {
-        return all_pages(pages(card, *term), room);
+        return all_pages(Cursor::on(pages(card, *term)), room);
     }
     let words = Words::open(card, numbers);
     if room.len() - 3 < words.most() && room.len() - 3 < count_common(&words) {
@@ -234,17 +251,20 @@ unsafe fn go_over_phrase(phrase: &Phrase, mut each: impl FnMut(u32, u32)) {
         *place = Places::of(words.terms[i], phrase.offsets[words.order[i]]);
     }
     if words.count == 1 {
-        let word = &mut places[0];
-        words.go_over(|page, lead, _| each(page, word.count(lead.place.passed - 1)));
+        let (word, mut rank) = (&mut places[0], 0);
+        words.go_over(|page, _, _| {
+            each(page, word.count(rank));
+            rank += 1;
+        });
         return;
     }
     let places = &mut places[..words.count];
     words.go_over(|page, lead, others| {
-        let mut ranks = [lead.place.passed - 1; 8];
-        for (rank, other) in ranks[1..].iter_mut().zip(others) {
-            *rank = other.place.passed - 1;
-        }
-        match starts(places, &ranks) {
+        let rank_of = |i: usize| match i {
+            0 => lead.rank::<{ known::NOTHING }>(),
+            _ => others.get_unchecked(i - 1).rank::<{ known::NOTHING }>(),
+        };
+        match starts(places, rank_of) {
             0 => {}
             found => each(page, found),
         }

@@ -30,10 +30,32 @@ pub unsafe fn put_word(run: *mut u8, k: usize, value: u64) {
 /// In byte j, the ones of bytes 0 to j.
 #[inline(always)]
 pub fn sums(x: u64) -> u64 {
-    let pairs = x - ((x >> 1) & 0x5555_5555_5555_5555);
-    let fours = (pairs & 0x3333_3333_3333_3333) + ((pairs >> 2) & 0x3333_3333_3333_3333);
+    let fours = counts_of_fours(x);
     let bytes = (fours + (fours >> 4)) & 0x0F0F_0F0F_0F0F_0F0F;
     bytes.wrapping_mul(BYTE_ONES)
+}
+
+/// The ones of four words.
+#[inline(always)]
+pub fn ones_in([a, b, c, d]: [u64; 4]) -> u32 {
+    let bytes = counts_of_bytes(counts_of_fours(a) + counts_of_fours(b))
+        + counts_of_bytes(counts_of_fours(c) + counts_of_fours(d));
+    // A sum of 256 does not fit in a byte.
+    let pairs = (bytes & 0x00FF_00FF_00FF_00FF) + ((bytes >> 8) & 0x00FF_00FF_00FF_00FF);
+    (pairs.wrapping_mul(0x0001_0001_0001_0001) >> 48) as u32
+}
+
+/// In each four bits, their ones.
+#[inline(always)]
+fn counts_of_fours(x: u64) -> u64 {
+    let pairs = x - ((x >> 1) & 0x5555_5555_5555_5555);
+    (pairs & 0x3333_3333_3333_3333) + ((pairs >> 2) & 0x3333_3333_3333_3333)
+}
+
+/// In each byte, the sum of its two counts of fours.
+#[inline(always)]
+fn counts_of_bytes(fours: u64) -> u64 {
+    (fours & 0x0F0F_0F0F_0F0F_0F0F) + ((fours >> 4) & 0x0F0F_0F0F_0F0F_0F0F)
 }
 
 /// The place of one number j, from 0, of a word that has more, given its sums.

@@ -3,7 +3,7 @@
 use crate::bits::{number, put_number};
 use crate::check::{check_opening, check_term, next_part, TERM_HEADER};
 use crate::refusal;
-use crate::shape::GREATEST_BOUND;
+use crate::shape::{is_edition, GREATEST_BOUND};
 
 /// Bytes before a card's first term.
 pub const CARD_HEADER: usize = 11;
@@ -12,20 +12,23 @@ const GREATEST_TERMS: u32 = 4_096;
 
 /// Checks a card; gives T.
 pub fn check_index(card: &[u8]) -> Result<u32, u32> {
-    check_opening(card, CARD_HEADER)?;
+    let edition = u32::from(check_opening(card, CARD_HEADER)?);
+    if !is_edition(edition) {
+        return Err(refusal::VERSION);
+    }
     let pages = unsafe { number(card.as_ptr().add(5)) };
     let terms = u32::from(u16::from_be_bytes([card[9], card[10]]));
     if pages > GREATEST_BOUND || terms > GREATEST_TERMS {
         return Err(refusal::LIMIT);
     }
-    check_terms(&card[CARD_HEADER..], pages, terms)?;
+    check_terms(edition, &card[CARD_HEADER..], pages, terms)?;
     Ok(terms)
 }
 
-/// Checks the terms of a card.
-fn check_terms(mut rest: &[u8], pages: u32, terms: u32) -> Result<(), u32> {
+/// Checks the terms of a card of an edition.
+fn check_terms(edition: u32, mut rest: &[u8], pages: u32, terms: u32) -> Result<(), u32> {
     for _ in 0..terms {
-        if check_term(next_part(&mut rest, TERM_HEADER)?)? != pages {
+        if check_term(edition, next_part(&mut rest, TERM_HEADER)?)? != pages {
             return Err(refusal::PARTS);
         }
     }
@@ -35,22 +38,31 @@ fn check_terms(mut rest: &[u8], pages: u32, terms: u32) -> Result<(), u32> {
     }
 }
 
-/// Closes an index in its buffer; gives its length.
-pub fn close_index(buffer: &mut [u8], used: usize, pages: u32, terms: u32) -> Result<usize, u32> {
+/// Closes an index of an edition in its buffer; gives its length.
+pub fn close_index(
+    buffer: &mut [u8],
+    used: usize,
+    edition: u32,
+    pages: u32,
+    terms: u32,
+) -> Result<usize, u32> {
     if used > buffer.len() {
         return Err(refusal::ROOM);
     }
     if used < CARD_HEADER {
         return Err(refusal::SHORT);
     }
+    if !is_edition(edition) {
+        return Err(refusal::VERSION);
+    }
     if used > u32::MAX as usize || pages > GREATEST_BOUND || terms > GREATEST_TERMS {
         return Err(refusal::LIMIT);
     }
-    check_terms(&buffer[CARD_HEADER..used], pages, terms)?;
+    check_terms(edition, &buffer[CARD_HEADER..used], pages, terms)?;
     let at = buffer.as_mut_ptr();
     unsafe {
         put_number(at, used as u32);
-        *at.add(4) = 1;
+        *at.add(4) = edition as u8;
         put_number(at.add(5), pages);
     }
     buffer[9..CARD_HEADER].copy_from_slice(&(terms as u16).to_be_bytes());

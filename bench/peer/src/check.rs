@@ -1,8 +1,9 @@
 //! The checks of lists and terms, in place.
 
+use crate::bitmap::is_valid_bitmap;
 use crate::bits::{number, select, sums, word};
 use crate::refusal;
-use crate::shape::{Shape, GREATEST_BOUND, LIST_HEADER};
+use crate::shape::{is_edition, Form, Shape, GREATEST_BOUND, LIST_HEADER, TERM_VERSION};
 
 /// Bytes of a term's header and of the three headers in it.
 pub const TERM_HEADER: usize = 44;
@@ -10,18 +11,18 @@ pub const TERM_HEADER: usize = 44;
 /// Bytes before a term's first list.
 pub const TERM_OPENING: usize = 5;
 
-/// What a container asks of an accepted list.
+/// What a container asks of accepted runs.
 #[derive(Clone, Copy)]
-pub struct Facts {
-    pub u: u32,
-    pub n: u32,
+struct Facts {
+    u: u32,
+    n: u32,
     /// The last element plus 1, or 0.
-    pub end: u32,
+    end: u32,
 }
 
-/// Bytes, stated length and version of a block with this header.
+/// Bytes and stated length of a block with this header; gives its version.
 #[inline(always)]
-pub fn check_opening(block: &[u8], header: usize) -> Result<(), u32> {
+pub fn check_opening(block: &[u8], header: usize) -> Result<u8, u32> {
     if block.len() < header {
         return Err(refusal::SHORT);
     }
@@ -29,10 +30,7 @@ pub fn check_opening(block: &[u8], header: usize) -> Result<(), u32> {
     if stated as usize != block.len() {
         return Err(refusal::LENGTH);
     }
-    if block[4] != 1 {
-        return Err(refusal::VERSION);
-    }
-    Ok(())
+    Ok(block[4])
 }
 
 /// Cuts the next part off what remains of a container.
@@ -50,27 +48,42 @@ pub fn next_part<'a>(rest: &mut &'a [u8], header: usize) -> Result<&'a [u8], u32
     Ok(part)
 }
 
-/// Checks a list block.
-pub fn check_list(block: &[u8]) -> Result<Facts, u32> {
-    check_opening(block, LIST_HEADER)?;
+/// Checks a list block that stands alone, which is of the old form.
+pub fn check_list(block: &[u8]) -> Result<(), u32> {
+    if check_opening(block, LIST_HEADER)? != Form::Runs as u8 {
+        return Err(refusal::VERSION);
+    }
+    let (u, n) = bounds(block)?;
+    check_as_runs(block, u, n).map(|_| ())
+}
+
+/// U and n of a block with a header, if they can be.
+#[inline(always)]
+fn bounds(block: &[u8]) -> Result<(u32, u32), u32> {
     let at = block.as_ptr();
     let (u, n) = unsafe { (number(at.add(5)), number(at.add(9))) };
     if u > GREATEST_BOUND {
         return Err(refusal::LIMIT);
     }
-    if n > u {
-        return Err(refusal::LAYOUT);
+    match n > u {
+        true => Err(refusal::LAYOUT),
+        false => Ok((u, n)),
     }
+}
+
+/// Checks a block that is to be runs, behind its n.
+fn check_as_runs(block: &[u8], u: u32, n: u32) -> Result<Facts, u32> {
     if n == 0 {
         return match block.len() {
             LIST_HEADER => Ok(Facts { u, n, end: 0 }),
             _ => Err(refusal::LAYOUT),
         };
     }
-    let shape = Shape::of(u, n);
+    let shape = Shape::of_runs(u, n);
     if block.len() != shape.size() {
         return Err(refusal::LAYOUT);
     }
+    let at = block.as_ptr();
     let end = unsafe {
         match shape.width {
             0 => check_upper(at, &shape),
@@ -78,6 +91,46 @@ pub fn check_list(block: &[u8]) -> Result<Facts, u32> {
         }
     };
     end.map(|end| Facts { u, n, end }).ok_or(refusal::RUNS)
+}
+
+/// Checks a block that is to be a bitmap, behind its n.
+fn check_as_bitmap(block: &[u8], u: u32, n: u32) -> Result<(), u32> {
+    let shape = Shape::of_bitmap(u, n);
+    if block.len() != shape.size() {
+        return Err(refusal::LAYOUT);
+    }
+    let valid = unsafe { is_valid_bitmap(block.as_ptr(), &shape) };
+    valid.then_some(()).ok_or(refusal::RUNS)
+}
+
+/// The form that a list block in a term tells.
+#[inline(always)]
+fn told_form(block: &[u8]) -> Result<Form, u32> {
+    Form::told_by(check_opening(block, LIST_HEADER)?).ok_or(refusal::VERSION)
+}
+
+/// Checks the pages of a term in an edition; gives U and n.
+fn check_pages(edition: u32, block: &[u8]) -> Result<(u32, u32), u32> {
+    let form = told_form(block)?;
+    let (u, n) = bounds(block)?;
+    if form != Form::of_pages(edition, u, n) {
+        return Err(refusal::VERSION);
+    }
+    match form {
+        Form::Runs => check_as_runs(block, u, n).map(|_| ())?,
+        Form::Bitmap => check_as_bitmap(block, u, n)?,
+    }
+    Ok((u, n))
+}
+
+/// Checks the counts or the positions of a term.
+fn check_numbers(block: &[u8]) -> Result<Facts, u32> {
+    let form = told_form(block)?;
+    let (u, n) = bounds(block)?;
+    match form {
+        Form::Runs => check_as_runs(block, u, n),
+        Form::Bitmap => Err(refusal::VERSION),
+    }
 }
 
 /// Checks runs and pointers of a block without low fields; gives the last element plus 1. Such a list rises where no
@@ -232,19 +285,22 @@ unsafe fn last_element(lower: *const u8, upper: *const u8, shape: &Shape) -> u32
     high << shape.width | ((first | second) & ((1 << shape.width) - 1)) as u32
 }
 
-/// Checks a term block; gives its pages' U.
-pub fn check_term(block: &[u8]) -> Result<u32, u32> {
-    check_opening(block, TERM_HEADER)?;
+/// Checks a term block of an edition; gives its pages' U.
+pub fn check_term(edition: u32, block: &[u8]) -> Result<u32, u32> {
+    let version = check_opening(block, TERM_HEADER)?;
+    if version != TERM_VERSION || !is_edition(edition) {
+        return Err(refusal::VERSION);
+    }
     let mut rest = &block[TERM_OPENING..];
-    let pages = check_list(next_part(&mut rest, LIST_HEADER)?)?;
-    let counts = check_list(next_part(&mut rest, LIST_HEADER)?)?;
-    let positions = check_list(next_part(&mut rest, LIST_HEADER)?)?;
+    let (pages_u, pages_n) = check_pages(edition, next_part(&mut rest, LIST_HEADER)?)?;
+    let counts = check_numbers(next_part(&mut rest, LIST_HEADER)?)?;
+    let positions = check_numbers(next_part(&mut rest, LIST_HEADER)?)?;
     if !rest.is_empty() {
         return Err(refusal::LAYOUT);
     }
-    let agree = counts.n == pages.n
+    let agree = counts.n == pages_n
         && counts.u == counts.end
         && positions.n == counts.u
         && positions.u == positions.end;
-    agree.then_some(pages.u).ok_or(refusal::PARTS)
+    agree.then_some(pages_u).ok_or(refusal::PARTS)
 }

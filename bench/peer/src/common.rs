@@ -23,9 +23,9 @@ pub fn lead_of(cursors: &[Cursor]) -> usize {
 }
 
 /// Goes over the common pages at or above the bound in rising order, with fresh cursors, until it is told to stop; each
-/// page is told with the lead's and the others' cursors on it.
+/// page is told with the lead's and the others' cursors on it. KNOWN is what is known of all lists.
 #[inline(always)]
-pub unsafe fn common_pages(
+pub unsafe fn common_pages<const KNOWN: u8>(
     mut lead: Cursor,
     others: &mut [Cursor],
     bound: u32,
@@ -33,19 +33,20 @@ pub unsafe fn common_pages(
 ) -> Effort {
     let mut effort = Effort { seeks: 1, looks: 0 };
     let mut page = match bound {
-        0 => lead.next(&mut effort.looks),
-        _ => lead.seek(bound, &mut effort.looks),
+        0 => lead.next::<KNOWN>(&mut effort.looks),
+        _ => lead.seek::<KNOWN>(bound, &mut effort.looks),
     };
     'pages: while page != NONE {
         for i in 0..others.len() {
             effort.seeks += 1;
-            let found = others.get_unchecked_mut(i).seek(page, &mut effort.looks);
+            let other = others.get_unchecked_mut(i);
+            let found = other.seek::<KNOWN>(page, &mut effort.looks);
             if found != page {
                 if found == NONE {
                     break 'pages;
                 }
                 effort.seeks += 1;
-                page = lead.seek(found, &mut effort.looks);
+                page = lead.seek::<KNOWN>(found, &mut effort.looks);
                 continue 'pages;
             }
         }
@@ -53,7 +54,7 @@ pub unsafe fn common_pages(
             break;
         }
         effort.seeks += 1;
-        page = lead.next(&mut effort.looks);
+        page = lead.next::<KNOWN>(&mut effort.looks);
     }
     effort
 }

@@ -1,7 +1,8 @@
 //! A cursor on an accepted list: seeks by the step rule, and moves by rank.
 
+use crate::bitmap::Bitmap;
 use crate::bits::{number, select, sums, word};
-use crate::shape::{Shape, LIST_HEADER};
+use crate::shape::{known, Form, Shape, LIST_HEADER};
 
 /// What a seek gives where it finds no element.
 pub const NONE: u32 = u32::MAX;
@@ -15,7 +16,7 @@ const WALKED: u32 = 2;
 /// Ranks that are passed word by word before pointers are read.
 const NEAR: u32 = 256;
 
-/// Where a cursor stands.
+/// Where a cursor stands; on a bitmap, whose bits are its pages, without zeros and rank.
 #[derive(Clone, Copy)]
 pub struct Place {
     /// The ones of the current word that lie behind the current element.
@@ -30,6 +31,12 @@ pub struct Place {
     pub passed: u32,
 }
 
+/// Whether an accepted list block is a bitmap.
+#[inline(always)]
+pub unsafe fn is_bitmap(block: *const u8) -> bool {
+    *block.add(4) == Form::Bitmap as u8
+}
+
 /// A zero of the upper run.
 struct Zero {
     /// The word it lies in.
@@ -40,13 +47,14 @@ struct Zero {
     bits_up_to: u32,
 }
 
-/// A cursor on a list.
+/// A cursor on a list; a bitmap's bits are its upper run, and its counts its pointers.
 #[derive(Clone, Copy)]
 pub struct Cursor {
     upper: *const u8,
     lower: *const u8,
     /// Where pointer number 0 would lie.
     pointers: *const u8,
+    form: Form,
     /// U, 0 for an empty list.
     u: u32,
     pub n: u32,
@@ -62,6 +70,7 @@ impl Cursor {
         upper: std::ptr::null(),
         lower: std::ptr::null(),
         pointers: std::ptr::null(),
+        form: Form::Runs,
         u: 0,
         n: 0,
         width: 0,
@@ -79,18 +88,39 @@ impl Cursor {
     /// A fresh cursor on an accepted list block.
     #[inline(always)]
     pub unsafe fn on(block: *const u8) -> Cursor {
-        let (u, n) = (number(block.add(5)), number(block.add(9)));
-        if n == 0 {
-            return Cursor::NOWHERE;
+        match is_bitmap(block) {
+            true => Cursor::on_bitmap(block),
+            false => Cursor::on_runs(block),
         }
-        let shape = Shape::of(u, n);
+    }
+
+    /// A fresh cursor on an accepted block of runs.
+    #[inline(always)]
+    pub unsafe fn on_runs(block: *const u8) -> Cursor {
+        let (u, n) = (number(block.add(5)), number(block.add(9)));
+        match n {
+            0 => Cursor::NOWHERE,
+            _ => Cursor::of_shape(block, &Shape::of_runs(u, n)),
+        }
+    }
+
+    /// A fresh cursor on an accepted bitmap.
+    #[inline(always)]
+    pub unsafe fn on_bitmap(block: *const u8) -> Cursor {
+        let (u, n) = (number(block.add(5)), number(block.add(9)));
+        Cursor::of_shape(block, &Shape::of_bitmap(u, n))
+    }
+
+    #[inline(always)]
+    unsafe fn of_shape(block: *const u8, shape: &Shape) -> Cursor {
         let upper = block.add(shape.upper_at());
         let mut cursor = Cursor {
             upper,
             lower: block.add(shape.lower_at()),
             pointers: block.add(LIST_HEADER - 4),
-            u,
-            n,
+            form: shape.form,
+            u: shape.u,
+            n: shape.n,
             width: shape.width,
             bits: shape.bits,
             pointer_count: shape.pointers as u32,
@@ -104,6 +134,41 @@ impl Cursor {
     #[inline(always)]
     pub fn is_full(&self) -> bool {
         self.u == self.n
+    }
+
+    /// Whether the list is a bitmap, where that is not known beforehand.
+    #[inline(always)]
+    pub fn is_bitmap<const KNOWN: u8>(&self) -> bool {
+        match KNOWN {
+            known::RUNS => false,
+            known::BITMAPS => true,
+            _ => self.form == Form::Bitmap,
+        }
+    }
+
+    #[inline(always)]
+    fn bitmap(&self) -> Bitmap {
+        Bitmap {
+            bits: self.upper,
+            counts: self.pointers,
+            u: self.u,
+        }
+    }
+
+    /// The current element's rank.
+    #[inline(always)]
+    pub unsafe fn rank<const KNOWN: u8>(&self) -> u32 {
+        match self.is_bitmap::<KNOWN>() {
+            false => self.place.passed - 1,
+            true => self.bitmap().rank(self.place.mark - 1),
+        }
+    }
+
+    /// The page of this rank, which must be below n, for a fresh cursor on a bitmap.
+    #[inline(always)]
+    pub unsafe fn page_in_bitmap(&self, rank: u32) -> u32 {
+        let i = self.last_pointer_before::<{ known::BITMAPS }>(rank);
+        self.bitmap().one_behind(i, rank)
     }
 
     #[inline(always)]
@@ -124,12 +189,15 @@ impl Cursor {
 
     /// Seeks for b and adds the looks. A cursor that has answered none is not sought again.
     #[inline(always)]
-    pub unsafe fn seek(&mut self, b: u32, looks: &mut u32) -> u32 {
+    pub unsafe fn seek<const KNOWN: u8>(&mut self, b: u32, looks: &mut u32) -> u32 {
         if self.place.mark > b {
             return self.place.mark - 1;
         }
         if b >= self.u {
             return NONE;
+        }
+        if self.is_bitmap::<KNOWN>() {
+            return self.seek_in_bitmap(b, looks);
         }
         let h = b >> self.width;
         let (mut ones, above, mut rank, need, start);
@@ -187,6 +255,41 @@ impl Cursor {
         }
         *looks += (self.bits - 1) / 64 - first as u32 + 1;
         NONE
+    }
+
+    /// Seeks for b, which is below U and above the current element.
+    #[inline(always)]
+    unsafe fn seek_in_bitmap(&mut self, b: u32, looks: &mut u32) -> u32 {
+        let searched = self.bitmap().first_from(b);
+        *looks += searched.words;
+        match searched.ones {
+            0 => NONE,
+            ones => self.stand_in_bitmap(searched.k, ones),
+        }
+    }
+
+    /// Stands on the lowest of these ones of a bitmap's word k.
+    #[inline(always)]
+    fn stand_in_bitmap(&mut self, k: u32, ones: u64) -> u32 {
+        let page = 64 * k + ones.trailing_zeros();
+        self.place.rest = ones & (ones - 1);
+        self.place.bit = page;
+        self.place.mark = page + 1;
+        page
+    }
+
+    /// The seek for one more than the current page, or for 0 if fresh.
+    #[inline(always)]
+    unsafe fn next_in_bitmap(&mut self, looks: &mut u32) -> u32 {
+        let place = self.place;
+        if place.rest != 0 {
+            *looks += 1;
+            return self.stand_in_bitmap(place.bit >> 6, place.rest);
+        }
+        match place.mark < self.u {
+            true => self.seek_in_bitmap(place.mark, looks),
+            false => NONE,
+        }
     }
 
     /// The word and the place in it of zero number `need`, from 1, where `zeros` are those of word k.
@@ -258,7 +361,10 @@ impl Cursor {
 
     /// The seek for one more than the current element, or for 0 if fresh.
     #[inline(always)]
-    pub unsafe fn next(&mut self, looks: &mut u32) -> u32 {
+    pub unsafe fn next<const KNOWN: u8>(&mut self, looks: &mut u32) -> u32 {
+        if self.is_bitmap::<KNOWN>() {
+            return self.next_in_bitmap(looks);
+        }
         let place = self.place;
         if place.passed >= self.n {
             return self.seek_at_the_end(looks);
@@ -277,7 +383,7 @@ impl Cursor {
     #[inline(never)]
     unsafe fn seek_at_the_end(&mut self, looks: &mut u32) -> u32 {
         let bound = self.place.mark;
-        self.seek(bound, looks)
+        self.seek::<{ known::RUNS }>(bound, looks)
     }
 
     /// Moves to the next element, which there must be; gives its word's number.
@@ -324,7 +430,7 @@ impl Cursor {
         let mut ones = self.place.rest;
         let mut passed = self.place.passed;
         if rank - passed > NEAR {
-            let zeros = self.last_pointer_before(rank);
+            let zeros = self.last_pointer_before::<{ known::RUNS }>(rank);
             if zeros > self.place.high / 256 {
                 let start = self.pointer(zeros);
                 k = start >> 6;
@@ -343,10 +449,19 @@ impl Cursor {
         self.stand(k, ones & (u64::MAX << place), rank);
     }
 
+    /// The elements before pointer number i, which is at least 1.
+    #[inline(always)]
+    unsafe fn elements_before<const KNOWN: u8>(&self, i: u32) -> u32 {
+        match self.is_bitmap::<KNOWN>() {
+            false => self.pointer(i) - 256 * i,
+            true => self.pointer(i),
+        }
+    }
+
     /// The greatest pointer number with at most `rank` elements before it, at or behind the current place: guessed
     /// as if ranks were spread evenly, then corrected in steps that double, then halved.
-    unsafe fn last_pointer_before(&self, rank: u32) -> u32 {
-        let is_before = |i: u32| self.pointer(i) - 256 * i <= rank;
+    unsafe fn last_pointer_before<const KNOWN: u8>(&self, rank: u32) -> u32 {
+        let is_before = |i: u32| self.elements_before::<KNOWN>(i) <= rank;
         let current = self.place.high / 256;
         let share = rank as f32 / self.n as f32;
         let guess = (share * self.pointer_count as f32) as u32;
@@ -381,11 +496,14 @@ impl Cursor {
     /// Lists every element into a room of n numbers, from a fresh cursor; gives the looks of a seek for 0, a seek
     /// for one more than each element, and one that finds none.
     pub unsafe fn list_all(&mut self, room: *mut u32) -> u32 {
+        if self.is_bitmap::<{ known::NOTHING }>() {
+            return self.bitmap().list_all(self.n, room);
+        }
         let mut looks = match self.width {
             0 => self.list::<false>(room),
             _ => self.list::<true>(room),
         };
-        self.next(&mut looks);
+        self.next::<{ known::RUNS }>(&mut looks);
         looks
     }
 

@@ -1,9 +1,10 @@
-//! The peer of the benchmark: document 01's format written by hand to be fast, without proofs.
+//! The peer of the benchmark: the format of both editions written by hand to be fast, without proofs.
 //!
 //! It answers and refuses exactly as the library does, allocates nothing in a call, and builds no directory of a
 //! card. It shares no code with the library. The calls are those of include/jundefola.h with the prefix `peer_`.
 
 mod ask;
+mod bitmap;
 mod bits;
 mod card;
 mod check;
@@ -75,6 +76,8 @@ pub struct Screened {
 pub struct Stream {
     /// 1 in a session that goes on.
     pub mark: u32,
+    /// The edition of the index, as announced.
+    pub version: u32,
     /// The pages of the card, as announced.
     pub n: u32,
     /// The pages announced.
@@ -158,6 +161,7 @@ pub unsafe extern "C" fn peer_check_list(block: *const u8, block_len: usize) -> 
 /// Each address comes with its number of elements, and a room overlaps nothing.
 #[no_mangle]
 pub unsafe extern "C" fn peer_write_term(
+    version: u32,
     n: u32,
     pages: *const u32,
     pages_len: usize,
@@ -173,13 +177,14 @@ pub unsafe extern "C" fn peer_write_term(
         counts: lent(counts, counts_len),
         positions: lent(positions, positions_len),
     };
-    term::write_term(n, &word, lent_room(room, room_len)).into()
+    term::write_term(version, n, &word, lent_room(room, room_len)).into()
 }
 
 /// # Safety
 /// The address comes with its number of bytes.
 #[no_mangle]
 pub unsafe extern "C" fn peer_begin_term(
+    version: u32,
     n: u32,
     pages: u32,
     positions: u32,
@@ -187,7 +192,14 @@ pub unsafe extern "C" fn peer_begin_term(
     room: *mut u8,
     room_len: usize,
 ) -> Streamed {
-    stream::begin_term(n, pages, positions, u, lent_room(room, room_len))
+    let announced = stream::Announced {
+        version,
+        n,
+        pages,
+        positions,
+        u,
+    };
+    stream::begin_term(&announced, lent_room(room, room_len))
 }
 
 /// # Safety
@@ -222,8 +234,8 @@ pub unsafe extern "C" fn peer_end_term(stream: Stream, room: *mut u8, room_len: 
 /// # Safety
 /// The address comes with its number of bytes.
 #[no_mangle]
-pub unsafe extern "C" fn peer_check_term(block: *const u8, block_len: usize) -> u32 {
-    number(check::check_term(lent(block, block_len)))
+pub unsafe extern "C" fn peer_check_term(version: u32, block: *const u8, block_len: usize) -> u32 {
+    number(check::check_term(version, lent(block, block_len)))
 }
 
 /// # Safety
@@ -233,10 +245,11 @@ pub unsafe extern "C" fn peer_close_index(
     buffer: *mut u8,
     buffer_len: usize,
     used: usize,
+    version: u32,
     n: u32,
     t: u32,
 ) -> Written {
-    card::close_index(lent_room(buffer, buffer_len), used, n, t).into()
+    card::close_index(lent_room(buffer, buffer_len), used, version, n, t).into()
 }
 
 /// # Safety

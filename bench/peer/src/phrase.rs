@@ -3,6 +3,7 @@
 use crate::bits::number;
 use crate::check::TERM_OPENING;
 use crate::cursor::{Cursor, Place, NONE};
+use crate::shape::known;
 
 /// Positions that are tried in turn before one is sought.
 const TRIED_IN_TURN: u32 = 8;
@@ -38,9 +39,9 @@ impl Places {
         let pages = term.add(TERM_OPENING);
         let counts = pages.add(number(pages) as usize);
         let positions = counts.add(number(counts) as usize);
-        let positions = Cursor::on(positions);
+        let positions = Cursor::on_runs(positions);
         Places {
-            counts: Cursor::on(counts),
+            counts: Cursor::on_runs(counts),
             positions,
             before: positions.place,
             offset,
@@ -103,7 +104,7 @@ impl Places {
     #[cold]
     #[inline(never)]
     unsafe fn seek_further(&mut self, bound: u32) -> u32 {
-        let element = self.positions.seek(bound, &mut 0);
+        let element = self.positions.seek::<{ known::RUNS }>(bound, &mut 0);
         if element == NONE || self.positions.place.passed > self.end {
             // Behind this page no start is sought on it.
             return NONE;
@@ -112,14 +113,16 @@ impl Places {
     }
 }
 
-/// The number of starts on a page; `words` stand in the order in which they are tried, `ranks` beside them.
-pub unsafe fn starts(words: &mut [Places], ranks: &[u32; 8]) -> u32 {
+/// The number of starts on a page; `words` stand in the order in which they are tried, and `rank_of` gives the page's
+/// rank among the pages of the word at a place.
+#[inline(always)]
+pub unsafe fn starts(words: &mut [Places], rank_of: impl Fn(usize) -> u32) -> u32 {
     let (mut found, mut start, mut ready) = (0, 0, 0);
     'starts: loop {
         for i in 0..words.len() {
             let word = words.get_unchecked_mut(i);
             if i == ready {
-                word.turn_to(*ranks.get_unchecked(i));
+                word.turn_to(rank_of(i));
                 ready += 1;
             }
             let next = word.seek(start);

@@ -1,10 +1,11 @@
 //! The writer of a term run by run: all that is kept between calls is the session's numbers and the room.
 
+use crate::bitmap::put_counts_of_bits;
 use crate::bits::{put_number, select, sums, word};
 use crate::check::TERM_OPENING;
-use crate::shape::{Shape, GREATEST_BOUND, LIST_HEADER};
+use crate::shape::{is_edition, Form, Shape, GREATEST_BOUND, LIST_HEADER, TERM_VERSION};
 use crate::term::{positions_bound, put_counts, put_positions, Word};
-use crate::write::{is_valid, Elements};
+use crate::write::{is_valid, put_header, Elements};
 use crate::{refusal, Stream, Streamed};
 
 /// The mark of a session that goes on.
@@ -12,6 +13,7 @@ const LIVE: u32 = 1;
 
 const OVER: Stream = Stream {
     mark: 0,
+    version: 0,
     n: 0,
     pages: 0,
     positions: 0,
@@ -47,9 +49,9 @@ impl Plan {
                 positions: Shape::EMPTY,
             },
             pages => Plan {
-                pages: Shape::of(stream.n, pages),
-                counts: Shape::of(stream.positions, pages),
-                positions: Shape::of(stream.u, stream.positions),
+                pages: Shape::of_pages(stream.version, stream.n, pages),
+                counts: Shape::of_runs(stream.positions, pages),
+                positions: Shape::of_runs(stream.u, stream.positions),
             },
         }
     }
@@ -69,7 +71,10 @@ impl Plan {
     /// Lays a run in stretches of elements, which are worked out first.
     unsafe fn lay_many(&self, stream: &Stream, run: &Word, at: *mut u8) {
         let mut pages = Adder::new(&self.pages, at.add(TERM_OPENING), stream.laid);
-        pages.put(run.pages);
+        match self.pages.form {
+            Form::Runs => pages.put(run.pages),
+            Form::Bitmap => pages.add_all::<false, true>(run.pages),
+        }
         pages.finish();
         let mut counts = Adder::new(&self.counts, at.add(self.counts_at()), stream.laid);
         put_counts(run.counts, stream.filled, &mut counts);
@@ -81,7 +86,8 @@ impl Plan {
     }
 
     /// Lays a run one element after the other.
-    unsafe fn lay_few(&self, stream: &Stream, run: &Word, at: *mut u8) {
+    #[inline(always)]
+    unsafe fn lay_few<const BITMAP: bool>(&self, stream: &Stream, run: &Word, at: *mut u8) {
         let mut pages = Adder::new(&self.pages, at.add(TERM_OPENING), stream.laid);
         let mut counts = Adder::new(&self.counts, at.add(self.counts_at()), stream.laid);
         let third = at.add(self.positions_at());
@@ -89,13 +95,16 @@ impl Plan {
         let (mut sum, mut base, mut rest) = (stream.filled, stream.base, run.positions);
         for (page, count) in run.pages.iter().zip(run.counts) {
             let (on_page, after) = rest.split_at(*count as usize);
-            pages.add::<true>(*page);
+            match BITMAP {
+                true => pages.add::<false, true>(*page),
+                false => pages.add::<true, false>(*page),
+            }
             sum += count;
-            counts.add::<true>(sum - 1);
+            counts.add::<true, false>(sum - 1);
             let mut last = base;
             for position in on_page {
                 last = base + position;
-                positions.add::<true>(last);
+                positions.add::<true, false>(last);
             }
             (base, rest) = (last + 1, after);
         }
@@ -108,6 +117,9 @@ impl Plan {
 /// The refusal of an announcement, its room aside.
 #[inline(always)]
 fn announcement(stream: &Stream) -> u32 {
+    if !is_edition(stream.version) {
+        return refusal::VERSION;
+    }
     if stream.n > GREATEST_BOUND || stream.u > GREATEST_BOUND {
         return refusal::LIMIT;
     }
@@ -119,10 +131,28 @@ fn announcement(stream: &Stream) -> u32 {
     }
 }
 
+/// What is announced of a term.
+pub struct Announced {
+    /// The edition of its index.
+    pub version: u32,
+    pub n: u32,
+    pub pages: u32,
+    pub positions: u32,
+    pub u: u32,
+}
+
 /// Writes the headers of a term's block, and clears the rest of it.
-pub fn begin_term(n: u32, pages: u32, positions: u32, u: u32, room: &mut [u8]) -> Streamed {
+pub fn begin_term(announced: &Announced, room: &mut [u8]) -> Streamed {
+    let Announced {
+        version,
+        n,
+        pages,
+        positions,
+        u,
+    } = *announced;
     let stream = Stream {
         mark: LIVE,
+        version,
         n,
         pages,
         positions,
@@ -142,19 +172,12 @@ pub fn begin_term(n: u32, pages: u32, positions: u32, u: u32, room: &mut [u8]) -
     unsafe {
         let at = room.as_mut_ptr();
         put_number(at, size as u32);
-        *at.add(4) = 1;
+        *at.add(4) = TERM_VERSION;
         put_header(at.add(TERM_OPENING), &plan.pages, n, pages);
         put_header(at.add(plan.counts_at()), &plan.counts, positions, pages);
         put_header(at.add(plan.positions_at()), &plan.positions, u, positions);
     }
     streamed(0, stream)
-}
-
-unsafe fn put_header(at: *mut u8, shape: &Shape, u: u32, n: u32) {
-    put_number(at, shape.size() as u32);
-    *at.add(4) = 1;
-    put_number(at.add(5), u);
-    put_number(at.add(9), n);
 }
 
 /// The block of a live session whose room is large enough, or what the call gives at once.
@@ -229,9 +252,11 @@ pub fn put_postings(stream: Stream, run: &Word, room: &mut [u8]) -> Streamed {
     };
     // Safety: the block fits in the room, and every element has its place in it.
     unsafe {
-        match run.pages.len() {
-            ..=FEW => plan.lay_few(&stream, run, room.as_mut_ptr()),
-            _ => plan.lay_many(&stream, run, room.as_mut_ptr()),
+        let at = room.as_mut_ptr();
+        match (run.pages.len(), plan.pages.form) {
+            (..=FEW, Form::Runs) => plan.lay_few::<false>(&stream, run, at),
+            (..=FEW, Form::Bitmap) => plan.lay_few::<true>(&stream, run, at),
+            _ => plan.lay_many(&stream, run, at),
         }
     }
     let next = Stream {
@@ -244,7 +269,7 @@ pub fn put_postings(stream: Stream, run: &Word, room: &mut [u8]) -> Streamed {
     streamed(0, next)
 }
 
-/// Writes the pointers, if all that was announced is there.
+/// Writes the pointers and a bitmap's counts, if all that was announced is there.
 pub fn end_term(stream: Stream, room: &mut [u8]) -> Streamed {
     let plan = match open(&stream, room) {
         Ok(plan) => plan,
@@ -258,7 +283,10 @@ pub fn end_term(stream: Stream, room: &mut [u8]) -> Streamed {
     let at = room.as_mut_ptr();
     // Safety: the block fits in the room.
     unsafe {
-        put_pointers(&plan.pages, at.add(TERM_OPENING));
+        match plan.pages.form {
+            Form::Runs => put_pointers(&plan.pages, at.add(TERM_OPENING)),
+            Form::Bitmap => put_counts_of_bits(&plan.pages, at.add(TERM_OPENING)),
+        }
         put_pointers(&plan.counts, at.add(plan.counts_at()));
         put_pointers(&plan.positions, at.add(plan.positions_at()));
     }
@@ -308,7 +336,7 @@ unsafe fn add_ones(run: *mut u8, k: usize, ones: u64) {
     at.write((u64::from_be_bytes(at.read()) | ones).to_be_bytes());
 }
 
-/// Elements on their way into the runs of a block, whose ones are added to those that stand there.
+/// Elements on their way into a block, whose ones are added to those that stand there.
 #[derive(Clone, Copy)]
 struct Adder {
     upper: *mut u8,
@@ -342,11 +370,12 @@ impl Adder {
         }
     }
 
-    /// Adds the ones of the next element; without LOW the width is known to be 0.
+    /// Adds the ones of the next element; without LOW the width is known to be 0, and in a BITMAP its bit is itself.
     #[inline(always)]
-    unsafe fn add<const LOW: bool>(&mut self, x: u32) {
+    unsafe fn add<const LOW: bool, const BITMAP: bool>(&mut self, x: u32) {
         let width = self.width & 31;
-        let bit = if LOW { x >> width } else { x } + self.rank;
+        let high = if LOW { x >> width } else { x };
+        let bit = if BITMAP { x } else { high + self.rank };
         self.rank += 1;
         let word = bit as usize / 64;
         if word != self.upper_word {
@@ -369,10 +398,10 @@ impl Adder {
 
     /// Adds elements, with all that is under way at hand.
     #[inline(always)]
-    unsafe fn add_all<const LOW: bool>(&mut self, elements: &[u32]) {
+    unsafe fn add_all<const LOW: bool, const BITMAP: bool>(&mut self, elements: &[u32]) {
         let mut own = *self;
         for x in elements {
-            own.add::<LOW>(*x);
+            own.add::<LOW, BITMAP>(*x);
         }
         *self = own;
     }
@@ -390,8 +419,8 @@ impl Adder {
 impl Elements for Adder {
     unsafe fn put(&mut self, elements: &[u32]) {
         match self.width {
-            0 => self.add_all::<false>(elements),
-            _ => self.add_all::<true>(elements),
+            0 => self.add_all::<false, false>(elements),
+            _ => self.add_all::<true, false>(elements),
         }
     }
 }

@@ -1,10 +1,11 @@
 //! The writer of a term.
 
+use crate::bitmap::write_bitmap;
 use crate::bits::put_number;
 use crate::check::TERM_OPENING;
 use crate::refusal;
-use crate::shape::GREATEST_BOUND;
-use crate::write::{block_size, falls, is_valid, Elements, Writer};
+use crate::shape::{is_edition, Form, Shape, GREATEST_BOUND, TERM_VERSION};
+use crate::write::{falls, is_valid, runs_size, Elements, Writer};
 use std::mem::MaybeUninit;
 
 /// What the writer is lent of one word.
@@ -14,8 +15,11 @@ pub struct Word<'a> {
     pub positions: &'a [u32],
 }
 
-/// Writes a term's block and gives its length.
-pub fn write_term(n: u32, word: &Word, room: &mut [u8]) -> Result<usize, u32> {
+/// Writes a term's block in an edition and gives its length.
+pub fn write_term(edition: u32, n: u32, word: &Word, room: &mut [u8]) -> Result<usize, u32> {
+    if !is_edition(edition) {
+        return Err(refusal::VERSION);
+    }
     if n > GREATEST_BOUND {
         return Err(refusal::LIMIT);
     }
@@ -28,21 +32,20 @@ pub fn write_term(n: u32, word: &Word, room: &mut [u8]) -> Result<usize, u32> {
     }
     let positions_u = positions_u as u32;
     let (pages_n, positions_n) = (word.pages.len() as u32, word.positions.len() as u32);
+    let shape = Shape::of_pages(edition, n, pages_n);
     let size = TERM_OPENING
-        + block_size(n, pages_n)
-        + block_size(positions_n, pages_n)
-        + block_size(positions_u, positions_n);
+        + shape.size()
+        + runs_size(positions_n, pages_n)
+        + runs_size(positions_u, positions_n);
     if size > room.len() {
         return Err(refusal::ROOM);
     }
     unsafe {
         let mut at = room.as_mut_ptr();
         put_number(at, size as u32);
-        *at.add(4) = 1;
+        *at.add(4) = TERM_VERSION;
         at = at.add(TERM_OPENING);
-        let mut pages = Writer::new(n, pages_n, at);
-        pages.put(word.pages);
-        at = at.add(pages.finish());
+        at = at.add(write_pages(shape.form, n, word.pages, at));
         let mut counts = Writer::new(positions_n, pages_n, at);
         put_counts(word.counts, 0, &mut counts);
         at = at.add(counts.finish());
@@ -51,6 +54,18 @@ pub fn write_term(n: u32, word: &Word, room: &mut [u8]) -> Result<usize, u32> {
         positions.finish();
     }
     Ok(size)
+}
+
+/// Writes the block of the pages in this form; gives its size.
+unsafe fn write_pages(form: Form, n: u32, pages: &[u32], room: *mut u8) -> usize {
+    match form {
+        Form::Runs => {
+            let mut writer = Writer::new(n, pages.len() as u32, room);
+            writer.put(pages);
+            writer.finish()
+        }
+        Form::Bitmap => write_bitmap(n, pages, room),
+    }
 }
 
 /// The positions' U, if counts and positions are valid.

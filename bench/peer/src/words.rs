@@ -4,6 +4,7 @@ use crate::card::find_terms;
 use crate::check::TERM_OPENING;
 use crate::common::{common_pages, lead_of, Effort};
 use crate::cursor::Cursor;
+use crate::shape::known;
 use std::ops::ControlFlow;
 
 /// The words of a question: where they lie, and a cursor on the pages of each, the lead's first.
@@ -56,7 +57,16 @@ impl Words {
         bound: u32,
         each: impl FnMut(u32, &Cursor, &[Cursor]) -> ControlFlow<()>,
     ) -> Effort {
-        let mut others = self.cursors;
-        common_pages(self.cursors[0], &mut others[1..self.count], bound, each)
+        let (lead, mut others) = (self.cursors[0], self.cursors);
+        let others = &mut others[1..self.count];
+        let is_bitmap = |cursor: &Cursor| cursor.is_bitmap::<{ known::NOTHING }>();
+        // Of lists below the same U one that is not shorter than a bitmap is a bitmap too.
+        if is_bitmap(&lead) {
+            common_pages::<{ known::BITMAPS }>(lead, others, bound, each)
+        } else if others.iter().any(is_bitmap) {
+            common_pages::<{ known::NOTHING }>(lead, others, bound, each)
+        } else {
+            common_pages::<{ known::RUNS }>(lead, others, bound, each)
+        }
     }
 }

@@ -34,13 +34,22 @@ pub fn is_valid(u: u32, list: &[u32]) -> bool {
     list.last().is_none_or(|last| *last < u) && is_rising(list)
 }
 
-/// The bytes of the block of n elements below u.
+/// The bytes of the runs of n elements below u.
 #[inline(always)]
-pub fn block_size(u: u32, n: u32) -> usize {
+pub fn runs_size(u: u32, n: u32) -> usize {
     match n {
         0 => LIST_HEADER,
-        _ => Shape::of(u, n).size(),
+        _ => Shape::of_runs(u, n).size(),
     }
+}
+
+/// Writes the header of a block of n elements below u, which has this geometry.
+#[inline(always)]
+pub unsafe fn put_header(at: *mut u8, shape: &Shape, u: u32, n: u32) {
+    put_number(at, shape.size() as u32);
+    *at.add(4) = shape.form as u8;
+    put_number(at.add(5), u);
+    put_number(at.add(9), n);
 }
 
 /// Writes a list's block and gives its length.
@@ -52,7 +61,7 @@ pub fn write_list(u: u32, list: &[u32], room: &mut [u8]) -> Result<usize, u32> {
         return Err(refusal::LISTS);
     }
     let n = list.len() as u32;
-    if block_size(u, n) > room.len() {
+    if runs_size(u, n) > room.len() {
         return Err(refusal::ROOM);
     }
     unsafe {
@@ -71,7 +80,7 @@ pub trait Elements {
     unsafe fn put(&mut self, elements: &[u32]);
 }
 
-/// A block under way, in a room that is large enough.
+/// A block of runs under way, in a room that is large enough.
 ///
 /// The upper run is cleared at the start, so that only words with ones are stored.
 pub struct Writer {
@@ -103,18 +112,14 @@ impl Writer {
     pub unsafe fn new(u: u32, n: u32, room: *mut u8) -> Writer {
         let shape = match n {
             0 => Shape::EMPTY,
-            _ => Shape::of(u, n),
+            _ => Shape::of_runs(u, n),
         };
-        let size = shape.size();
-        put_number(room, size as u32);
-        *room.add(4) = 1;
-        put_number(room.add(5), u);
-        put_number(room.add(9), n);
+        put_header(room, &shape, u, n);
         let upper = room.add(shape.upper_at());
         upper.write_bytes(0, 8 * shape.upper_words);
         Writer {
             room,
-            size,
+            size: shape.size(),
             upper,
             lower: room.add(shape.lower_at()),
             width: shape.width,

@@ -1,10 +1,11 @@
-//! The peer on lists that are longer than the second program's generator makes: long runs of neighbours, far jumps,
-//! phrases over many positions, and screens, against the second program's reading of the same card.
+//! The peer on lists that are longer than the second program's generator makes, in both editions: long runs of
+//! neighbours, far jumps, phrases over many positions, and screens, against the second program's reading of the card.
 
 use jundefola_peer::{peer_ask, peer_check_index, peer_close_index, peer_screen, peer_write_term};
 use second::gen::phrases::{apart, in_a_row, of_pairs};
 use second::gen::random::Random;
 use second::plain::ask::reply;
+use second::plain::edition::Edition;
 use second::plain::index::check_index;
 use second::plain::screen::Wanted;
 use second::plain::term::Term;
@@ -54,10 +55,11 @@ fn word(random: &mut Random, pages: Vec<u32>, most: u32) -> Word {
     word
 }
 
-fn term_block(card_pages: u32, word: &Word) -> Vec<u8> {
+fn term_block(edition: Edition, card_pages: u32, word: &Word) -> Vec<u8> {
     let mut room = vec![0xA5; 200 + 8 * word.pages.len() + 4 * word.positions.len()];
     let written = unsafe {
         peer_write_term(
+            edition.version(),
             card_pages,
             word.pages.as_ptr(),
             word.pages.len(),
@@ -71,18 +73,24 @@ fn term_block(card_pages: u32, word: &Word) -> Vec<u8> {
     };
     assert_eq!(written.refusal, 0);
     room.truncate(written.length);
-    let plain = Term::from_inputs(card_pages, &word.pages, &word.counts, &word.positions);
+    let Word {
+        pages,
+        counts,
+        positions,
+    } = word;
+    let plain = Term::from_inputs(edition, card_pages, pages, counts, positions);
     assert_eq!(plain.map(|term| term.block()), Ok(room.clone()));
     room
 }
 
-fn card_of(card_pages: u32, words: &[Word]) -> Vec<u8> {
+fn card_of(edition: Edition, card_pages: u32, words: &[Word]) -> Vec<u8> {
     let mut card = vec![0; CARD_HEADER];
     words
         .iter()
-        .for_each(|word| card.extend(term_block(card_pages, word)));
-    let (length, terms) = (card.len(), words.len() as u32);
-    let closed = unsafe { peer_close_index(card.as_mut_ptr(), length, length, card_pages, terms) };
+        .for_each(|word| card.extend(term_block(edition, card_pages, word)));
+    let (at, length, terms) = (card.as_mut_ptr(), card.len(), words.len() as u32);
+    let version = edition.version();
+    let closed = unsafe { peer_close_index(at, length, length, version, card_pages, terms) };
     assert_eq!((closed.refusal, closed.length), (0, length));
     assert!(check_index(&card).is_ok());
     card
@@ -180,10 +188,12 @@ fn compare_cards(card_pages: u32, run: u32, gap: u32, most: usize, positions: u3
             })
             .collect();
         words.push(Word::default());
-        let card = card_of(card_pages, &words);
-        assert_eq!(unsafe { peer_check_index(card.as_ptr(), card.len()) }, 0);
-        compare(&card, &questions(&mut random, card_pages, &words));
-        compare_screens(&mut random, &card, card_pages);
+        for edition in Edition::ALL {
+            let card = card_of(edition, card_pages, &words);
+            assert_eq!(unsafe { peer_check_index(card.as_ptr(), card.len()) }, 0);
+            compare(&card, &questions(&mut random, card_pages, &words));
+            compare_screens(&mut random, &card, card_pages);
+        }
     }
 }
 

@@ -5,7 +5,7 @@ use second::case::{Case, Kind};
 use second::compare::{Compared, Decided, Other, Side};
 use second::full_size::FullCard;
 use second::gen::full_size::SHAPES;
-use second::gen::{calls, cuts, files, screens, streams};
+use second::gen::{calls, cuts, files, limit, screens, streams};
 use second::host_calls::{Asked, HostCalls, Written};
 use second::long_closing;
 use second::plain::screen::{Screened, Wanted};
@@ -54,6 +54,7 @@ impl HostCalls for Peer {
 
     fn write_term(
         &self,
+        version: u32,
         card_pages: u32,
         pages: &[u32],
         counts: &[u32],
@@ -63,6 +64,7 @@ impl HostCalls for Peer {
         let (at, size) = (room_address(room), room.len());
         written(unsafe {
             peer::peer_write_term(
+                version,
                 card_pages,
                 address(pages),
                 pages.len(),
@@ -76,13 +78,20 @@ impl HostCalls for Peer {
         })
     }
 
-    fn check_term(&self, block: &[u8]) -> u32 {
-        unsafe { peer::peer_check_term(address(block), block.len()) }
+    fn check_term(&self, version: u32, block: &[u8]) -> u32 {
+        unsafe { peer::peer_check_term(version, address(block), block.len()) }
     }
 
-    fn close_index(&self, buffer: &mut [u8], used: usize, pages: u32, terms: u32) -> Written {
+    fn close_index(
+        &self,
+        buffer: &mut [u8],
+        used: usize,
+        version: u32,
+        pages: u32,
+        terms: u32,
+    ) -> Written {
         let (at, size) = (room_address(buffer), buffer.len());
-        written(unsafe { peer::peer_close_index(at, size, used, pages, terms) })
+        written(unsafe { peer::peer_close_index(at, size, used, version, pages, terms) })
     }
 
     fn check_index(&self, card: &[u8]) -> u32 {
@@ -136,9 +145,10 @@ impl ScreenCalls for Peer {
 
 /// A session in the peer's own struct.
 fn peer_stream(stream: Stream) -> peer::Stream {
-    let [mark, n, pages, positions, u, laid, filled, page, base] = stream.numbers();
+    let [mark, version, n, pages, positions, u, laid, filled, page, base] = stream.numbers();
     peer::Stream {
         mark,
+        version,
         n,
         pages,
         positions,
@@ -157,6 +167,7 @@ fn streamed(given: peer::Streamed) -> Streamed {
         length: given.length,
         stream: Stream::of_numbers([
             stream.mark,
+            stream.version,
             stream.n,
             stream.pages,
             stream.positions,
@@ -173,12 +184,15 @@ impl StreamCalls for Peer {
     fn begin_term(&self, announced: Announced, room: &mut [u8]) -> Streamed {
         let (at, size) = (room_address(room), room.len());
         let Announced {
+            version,
             card_pages,
             pages,
             positions,
             bound,
         } = announced;
-        streamed(unsafe { peer::peer_begin_term(card_pages, pages, positions, bound, at, size) })
+        streamed(unsafe {
+            peer::peer_begin_term(version, card_pages, pages, positions, bound, at, size)
+        })
     }
 
     fn put_postings(&self, stream: Stream, run: &Run, room: &mut [u8]) -> Streamed {
@@ -259,6 +273,12 @@ fn compare_full_size(tally: &mut Tally, seed: u64) {
     }
 }
 
+/// Calls with bitmaps of the greatest U.
+fn compare_limit(tally: &mut Tally) {
+    let sets = (0..limit::SETS).flat_map(limit::set);
+    compare_decided(tally, &peer_side("limit"), sets);
+}
+
 /// Words cut in every way, and sessions at random.
 fn compare_sessions(tally: &mut Tally, seed: u64) {
     let cuts = (0..cuts::SESSIONS).flat_map(|number| cuts::session(seed, number));
@@ -292,6 +312,7 @@ fn seeded_calls_and_runs_are_answered_alike() {
     let runs = (0..asked_for("PEER_RUNS", 500)).map(|i| files::run(seed, i));
     let mut tally = compare_all("seeded", calls.chain(runs).map(Stored::seeded));
     compare_full_size(&mut tally, seed);
+    compare_limit(&mut tally);
     compare_sessions(&mut tally, seed);
     compare_screens(&mut tally, seed);
     if let Some(differences) = long_closing::compare(&Peer, &mut tally) {

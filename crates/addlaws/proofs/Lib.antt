@@ -7,3 +7,5 @@ pub mod AddedLaws
 pub mod MoreLaws
 pub mod BothLaws
 pub mod OneLaws
+pub mod MapLaws
+pub mod PageLaws

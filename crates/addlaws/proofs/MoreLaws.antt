@@ -1,5 +1,6 @@
 -- Laws of elements laid into a block in place in parts, one behind the other: words that get ones twice,
--- the numbers of the two runs, what the parts leave in the block, and the lists of a word that are laid so.
+-- the numbers of the two runs and of a bitmap, what the parts leave in the block, and the lists of a word that are laid
+-- so.
 use mathlib.Core.Bool.{true, _&&_}
 use mathlib.Core.Path.{_≡_, refl, sym, ap, ap₂, _∙_}
 use mathlib.Core.List.{List, [], _∷_, _++_, append-assoc, append-nil}
@@ -16,7 +17,7 @@ use lib.Seq.{length-take-le, take-all, take-length, take-add, take-at, drop-at}
 use lib.Seq.{take-append-add, drop-append-add}
 use Rattle.rules.specs.Bytes.{Bytes, be, beAt}
 use Rattle.rules.specs.Runs.{wordsFor}
-use Rattle.rules.specs.List.{rising, width, zeros, lower, upper, lowerAt, upperAt, size}
+use Rattle.rules.specs.List.{rising, width, zeros, lower, upper, lowerAt, upperAt, size, mapOf}
 use Rattle.rules.specs.Term.{total, sums, next, raised, placed, positive, inOrderByPage}
 use Rattle.rules.specs.InPlace.{from, withOnes, added}
 use Rattle.laws.proofs.ByteLaws.{length-be, read-be, be-read, bytes-be, bytes-drop}
@@ -24,6 +25,7 @@ use Rattle.laws.proofs.BitLaws.{bits-none}
 use Rattle.listlaws.specs.Sound.{climbs, least}
 use Rattle.listlaws.proofs.RisingLaws.{and-parts, rising-parts, rising-append, rising-climbs}
 use Rattle.listlaws.proofs.UpperLaws.{upper-below, upper-ones}
+use Rattle.maplaws.proofs.NumberLaws.{map-nil, map-append, map-below, map-lt}
 use Rattle.termlaws.proofs.OrderLaws.{order-rising}
 use Rattle.termlaws.proofs.SumLaws.{sums-order, next-sums}
 use Rattle.termlaws.proofs.PlaceLaws.{placed-order}
@@ -209,6 +211,16 @@ module _ (w : ℕ) where
           let p = rises-apart U y xs ys r in
           or-above (upper w i xs) (upper w k (y ∷ ys)) (y / 2 ^ w + k) (upper-lt y i xs (p .0))
           (bits-none (upper w k (y ∷ ys)) (y / 2 ^ w + k) (upper-below w U (least 0 xs) y ys k (p .1)))
+
+-- ---- the bitmap's number
+
+pub map-or : (U : ℕ) (xs ys : List ℕ) → rising 0 U (xs ++ ys) ≡ true → bitOr (mapOf xs) (mapOf ys) ≡ mapOf (xs ++ ys)
+map-or U xs [] r = rw (map-nil, append-nil) (or-zero-r (mapOf xs))
+map-or U xs (y ∷ ys) r =
+    let p = rises-apart U y xs ys r in
+    or-above (mapOf xs) (mapOf (y ∷ ys)) y (map-lt 0 y xs (p .0))
+    (bits-none (mapOf (y ∷ ys)) y (map-below (least 0 xs) U y ys (p .1)))
+    ∙ sym (map-append xs (y ∷ ys))
 
 -- ---- elements laid
 

@@ -21,7 +21,7 @@ pub raised-one : (x : ℕ) → raised x (0 ∷ []) ≡ x ∷ []
 unfolding raised
 raised-one x = ap (λ (y : ℕ). y ∷ []) (add-zero x)
 
-rising-one : (x U : ℕ) → x < U → rising 0 U (x ∷ []) ≡ true
+pub rising-one : (x U : ℕ) → x < U → rising 0 U (x ∷ []) ≡ true
 unfolding rising
 rising-one x U h = rw (le-leb 0 x (omega arith), lt-ltb x U h)
 

@@ -30,7 +30,8 @@ pub fn add_sums(block: &mut [u8], g: Shape, from: usize, before: usize, counts: 
     }
 }
 
-// Lays the elements that the positions of all pages give, from number `from` on, where `start` is the first page's base.
+// Lays the elements that the positions of all pages give, from number `from` on, where `start` is the first page's
+// base.
 pub fn add_places(
     block: &mut [u8],
     g: Shape,
@@ -44,7 +45,8 @@ pub fn add_places(
         × (inOrderByPage (now counts) (now positions) ≡ true)
         × (next start (placed start (now counts) (now positions)) ≤ g .u) ⌝ }
     ensures { λ _. ⌜ now (block .exit)
-        ≡ added (g .u) (g .n) from (placed start (now (counts .entry)) (now (positions .entry))) (now (block .entry)) ⌝ }
+        ≡ added (g .u) (g .n) from (placed start (now (counts .entry)) (now (positions .entry)))
+        (now (block .entry)) ⌝ }
 {
     let mut at = stretches::first_spot(counts, start);
     while at.done < positions.len() {

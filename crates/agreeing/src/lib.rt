@@ -1,6 +1,8 @@
 // Whether the three lists of a term agree.
 
 ghost use mathlib.Core.Path.{_≡_};
+ghost use Prim.Native.Nat.{_≤_};
+ghost use lib.ListN.{length};
 ghost use Rattle.rules.specs.declared.Refusal.the-variants.{Accepted};
 ghost use Rattle.rules.specs.ReadList.{decode, listRefusal};
 ghost use Rattle.rules.specs.Term.{next};
@@ -22,7 +24,7 @@ fn next_of(list: &[u8]) -> usize
 
 // Whether the three lists of a term disagree.
 pub fn disagree(pages: &[u8], counts: &[u8], positions: &[u8]) -> bool
-    requires { ⌜ (listRefusal (now pages) ≡ Accepted) × (listRefusal (now counts) ≡ Accepted)
+    requires { ⌜ (13 ≤ length (now pages)) × (listRefusal (now counts) ≡ Accepted)
         × (listRefusal (now positions) ≡ Accepted) ⌝ }
     ensures { λ r. ⌜ r ≡ disagreeing (now (pages .entry)) (now (counts .entry)) (now (positions .entry)) ⌝ }
 {

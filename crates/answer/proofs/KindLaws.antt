@@ -4,7 +4,7 @@ use mathlib.Core.List.{List}
 use Prim.Native.Nat.{ℕ}
 use borrow.Author.Tests.{ne-eqb}
 use lib.ListN.{getD}
-use Rattle.rules.specs.Index.{indexN}
+use Rattle.rules.specs.Index.{indexV, indexN}
 use Rattle.rules.specs.Questions.{answer, pagesIn, listsIn, phraseIn, byRank, byBound, byCommon, byPhrase}
 
 module _ (s : List ℕ) (kind : ℕ) (args : List ℕ) where
@@ -16,7 +16,7 @@ module _ (s : List ℕ) (kind : ℕ) (args : List ℕ) where
   unfolding answer
   answer-bound e = rw e
 
-  pub answer-common : kind ≡ 3 → answer s kind args ≡ byCommon (indexN s) (listsIn s args)
+  pub answer-common : kind ≡ 3 → answer s kind args ≡ byCommon (indexV s) (indexN s) (listsIn s args)
   unfolding answer
   answer-common e = rw e
 

@@ -1,10 +1,9 @@
 // The announcement of a word: the host's call. All headers are written, and the rest of the block is cleared.
 
 ghost use mathlib.Core.Path.{_≡_};
-ghost use Rattle.rules.specs.Write.{laid};
-ghost use Rattle.rules.specs.Stream.{announced};
+ghost use Rattle.rules.specs.Stream.{opened};
 ghost use Rattle.rules.specs.Promises.{TermBegun};
-ghost use Rattle.sessionlaws.specs.Layout.{Housed};
+ghost use Rattle.sessionlaws.specs.Layout.{Roomed, FramesPut};
 use rules::LISTS_AT;
 use rules::Refusal;
 use rules::Stream;
@@ -15,9 +14,8 @@ use sessionlaws::Layout;
 
 // Writes the block of which no element is laid.
 fn put_frames(room: &mut [u8], g: Layout)
-    requires { ⌜ Housed g (now room) ⌝ }
-    ensures { λ _. ⌜ now (room .exit) ≡ laid
-        (announced (g .pages .u) (g .pages .n) (g .positions .n) (g .positions .u)) (now (room .entry)) ⌝ }
+    requires { ⌜ Roomed g (now room) ⌝ }
+    ensures { λ _. ⌜ FramesPut g (now (room .entry)) (now (room .exit)) ⌝ }
 {
     let second = g.second;
     let third = g.third;
@@ -29,15 +27,48 @@ fn put_frames(room: &mut [u8], g: Layout)
     filling::put_header(&mut room[third..], g.positions);
 }
 
-// Announces a word on so many pages below n, with so many positions, whose elements end at u.
-pub fn begin_term(n: u32, pages: u32, positions: u32, u: u32, room: &mut [u8]) -> Streamed
-    ensures { λ r. ⌜ TermBegun n pages positions u (now (room .entry)) r (now (room .exit)) ⌝ }
+// The session that an announcement opens.
+fn opened(version: u32, n: u32, pages: u32, positions: u32, u: u32) -> Stream
+    ensures { λ r. ⌜ r ≡ opened version n pages positions u ⌝ }
 {
-    let refusal = sessions::announce(n as usize, pages as usize, positions as usize, u as usize);
+    Stream {
+        mark: 1,
+        version,
+        n,
+        pages,
+        positions,
+        u,
+        laid: 0,
+        filled: 0,
+        page: 0,
+        base: 0,
+    }
+}
+
+// Announces a word on so many pages below n, with so many positions, whose elements end at u, for an index of that
+// version.
+pub fn begin_term(
+    version: u32,
+    n: u32,
+    pages: u32,
+    positions: u32,
+    u: u32,
+    room: &mut [u8],
+) -> Streamed
+    ensures { λ r. ⌜ TermBegun version n pages positions u (now (room .entry)) r (now (room .exit)) ⌝ }
+{
+    let refusal = sessions::announce(
+        version,
+        n as usize,
+        pages as usize,
+        positions as usize,
+        u as usize,
+    );
     if !parts::passed(refusal) {
         return sessions::ended(refusal, 0);
     }
-    let g = sessions::layout(n as usize, pages as usize, positions as usize, u as usize);
+    let first = shape::pages_shape(version, n as usize, pages as usize);
+    let g = sessions::layout(first, positions as usize, u as usize);
     if room.len() < g.size {
         return sessions::ended(Refusal::Room, 0);
     }
@@ -45,16 +76,6 @@ pub fn begin_term(n: u32, pages: u32, positions: u32, u: u32, room: &mut [u8]) -
     Streamed {
         refusal: Refusal::Accepted,
         size: 0,
-        stream: Stream {
-            mark: 1,
-            n,
-            pages,
-            positions,
-            u,
-            laid: 0,
-            filled: 0,
-            page: 0,
-            base: 0,
-        },
+        stream: opened(version, n, pages, positions, u),
     }
 }

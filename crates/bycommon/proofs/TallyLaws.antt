@@ -6,7 +6,7 @@ use native.Mathlib.Omega.{arith}
 use borrow.Rule.Slice.PartMut.{midOf, putMid}
 use lib.ListN.{length, take, drop, set, length-drop}
 use Rattle.rules.specs.Write.{laid}
-use Rattle.rules.specs.Index.{indexN}
+use Rattle.rules.specs.Index.{indexV, indexN}
 use Rattle.rules.specs.Common.{Tally}
 use Rattle.rules.specs.Questions.{listsIn, numbered, byCommon}
 use Rattle.commonlaws.proofs.CommonLaws.{common-listed}
@@ -46,9 +46,10 @@ put-tally t room ys n a b h e f g k =
 -- ---- the words' lists, opened
 
 module _ (s ts r : List ℕ) (o : OpenedPages s ts r) where
-  pub opened-answer : tallied (wholeIn s r (length ts)) ≡ byCommon (indexN s) (listsIn s ts)
+  pub opened-answer : tallied (wholeIn s r (length ts)) ≡ byCommon (indexV s) (indexN s) (listsIn s ts)
   unfolding tallied byCommon
-  opened-answer = rw (opened-whole s ts r o, common-listed (indexN s) (listsIn s ts) (opened-some s ts r o) (o .rise))
+  opened-answer =
+      rw (opened-whole s ts r o, common-listed (indexV s) (indexN s) (listsIn s ts) (opened-some s ts r o) (o .rise))
 
 pub length-tallied : (t : Tally) → length (tallied t) ≡ length (t .listed) + 3
 unfolding tallied numbered

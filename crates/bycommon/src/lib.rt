@@ -5,7 +5,7 @@ ghost use mathlib.Core.Bool.{true};
 ghost use Prim.Native.Nat.{_+_, _≤_};
 ghost use lib.ListN.{length};
 ghost use Rattle.rules.specs.declared.Refusal.the-variants.{Accepted};
-ghost use Rattle.rules.specs.Index.{indexN, indexT, indexRefusal};
+ghost use Rattle.rules.specs.Index.{indexV, indexN, indexT, indexRefusal};
 ghost use Rattle.rules.specs.Questions.{listsIn, byCommon, wordsGood};
 ghost use Rattle.bytetable.specs.Places.{PlacesOfOnes};
 ghost use Rattle.questions.specs.Wrote.{Wrote};
@@ -34,7 +34,8 @@ pub fn by_common(table: &Table, card: &[u8], terms: &[u32], room: &mut [u32]) ->
     requires { ⌜ (indexRefusal (now card) ≡ Accepted) × (wordsGood (indexT (now card)) (now terms) ≡ true)
         × PlacesOfOnes (now table) ⌝ }
     ensures { λ r. ⌜ Wrote
-        (byCommon (indexN (now (card .entry))) (listsIn (now (card .entry)) (now (terms .entry))))
+        (byCommon (indexV (now (card .entry))) (indexN (now (card .entry)))
+        (listsIn (now (card .entry)) (now (terms .entry))))
         (now (room .entry)) r (now (room .exit)) ⌝ }
 {
     let k = terms.len();

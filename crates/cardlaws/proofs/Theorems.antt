@@ -10,7 +10,7 @@ use Rattle.rules.specs.Bytes.{Bytes}
 use Rattle.rules.specs.Limits.{indexHeader}
 use Rattle.rules.specs.Term.{Word, termBlock}
 use Rattle.rules.specs.ReadTerm.{readWord}
-use Rattle.rules.specs.Index.{card, validCard, indexN, indexT, termPart, wordOf}
+use Rattle.rules.specs.Index.{card, validCard, indexV, indexN, indexT, termPart, wordOf}
 use Rattle.rules.specs.Index.{wordsOf, indexRefusal, closeRefusal, closeIndex}
 use Rattle.laws.proofs.ByteLaws.{bytes-drop}
 use Rattle.laws.proofs.PartLaws.{bytes-part}
@@ -20,55 +20,55 @@ use Rattle.cardlaws.specs.Cards.{termAt, TermIn, Closed}
 use Rattle.cardlaws.proofs.PassedLaws.{card-valid, valid-card, passed-accepted}
 use Rattle.cardlaws.proofs.PassedLaws.{accepted-passed, accepted-closable}
 use Rattle.cardlaws.proofs.WalkLaws.{term-in, termAt-within, termAt-end}
-use Rattle.cardlaws.proofs.CardLaws.{card-N, card-passed, card-part, card-word}
+use Rattle.cardlaws.proofs.CardLaws.{card-V, card-N, card-passed, card-part, card-word}
 use Rattle.cardlaws.proofs.CardLaws.{card-words, read-valid, read-card}
 use Rattle.cardlaws.proofs.CloseLaws.{closed-is, finished-same}
 
 -- ---- a card and its bytes
 
 -- The block of a valid card is accepted.
-pub card-accepted : (N : ℕ) (ts : List Word) → validCard N ts ≡ true → indexRefusal (card N ts) ≡ Accepted
-card-accepted N ts v = passed-accepted (card N ts) (card-passed N ts (card-valid N ts v))
+pub card-accepted : (ver N : ℕ) (ts : List Word) → validCard ver N ts ≡ true → indexRefusal (card ver N ts) ≡ Accepted
+card-accepted ver N ts v = passed-accepted (card ver N ts) (card-passed ver N ts (card-valid ver N ts v))
 
--- A block is that of one valid card alone: its bytes tell N and the words.
-pub card-tells : (s : List ℕ) (N : ℕ) (ts : List Word) → validCard N ts ≡ true → s ≡ card N ts
-    → (N ≡ indexN s) × (ts ≡ wordsOf s)
-card-tells s N ts v e =
-    let w = card-valid N ts v in
-    (sym (ap indexN e ∙ card-N N ts w), sym (ap wordsOf e ∙ card-words N ts w))
+-- A block is that of one valid card alone: its bytes tell the version, N and the words.
+pub card-tells : (s : List ℕ) (ver N : ℕ) (ts : List Word) → validCard ver N ts ≡ true → s ≡ card ver N ts
+    → (ver ≡ indexV s) × (N ≡ indexN s) × (ts ≡ wordsOf s)
+card-tells s ver N ts v e =
+    let w = card-valid ver N ts v in
+    (sym (ap indexV e ∙ card-V ver N ts w), sym (ap indexN e ∙ card-N ver N ts w), sym (ap wordsOf e ∙ card-words ver N ts w))
 
 -- Two valid cards with one block are one.
-pub card-unique : (N M : ℕ) (ts us : List Word) → validCard N ts ≡ true → validCard M us ≡ true → card N ts ≡ card M us
-    → (N ≡ M) × (ts ≡ us)
-card-unique N M ts us v w e =
-    let a = card-tells (card N ts) N ts v refl in
-    let b = card-tells (card N ts) M us w e in
-    (a .0 ∙ sym (b .0), a .1 ∙ sym (b .1))
+pub card-unique : (ver z N M : ℕ) (ts us : List Word) → validCard ver N ts ≡ true → validCard z M us ≡ true
+    → card ver N ts ≡ card z M us → (ver ≡ z) × (N ≡ M) × (ts ≡ us)
+card-unique ver z N M ts us v w e =
+    let a = card-tells (card ver N ts) ver N ts v refl in
+    let b = card-tells (card ver N ts) z M us w e in
+    (a .0 ∙ sym (b .0), a .1 ∙ sym (b .1), a .2 ∙ sym (b .2))
 
 -- Accepted bytes are the block of the valid card that is read of them.
 pub accepted-card : (s : List ℕ) → Bytes s → indexRefusal s ≡ Accepted
-    → (validCard (indexN s) (wordsOf s) ≡ true) × (s ≡ card (indexN s) (wordsOf s))
+    → (validCard (indexV s) (indexN s) (wordsOf s) ≡ true) × (s ≡ card (indexV s) (indexN s) (wordsOf s))
 accepted-card s b a =
     let p = accepted-passed s a in
-    (valid-card (indexN s) (wordsOf s) (read-valid s b p), read-card s b p)
+    (valid-card (indexV s) (indexN s) (wordsOf s) (read-valid s b p), read-card s b p)
 
 -- Accepted are the blocks of valid cards, and nothing else.
 pub accepted-iff : (s : List ℕ) → Bytes s
-    → (indexRefusal s ≡ Accepted) ↔ ((N : ℕ) × (ts : List Word) × (validCard N ts ≡ true) × (s ≡ card N ts))
+    → (indexRefusal s ≡ Accepted) ↔ ((ver : ℕ) × (N : ℕ) × (ts : List Word) × (validCard ver N ts ≡ true) × (s ≡ card ver N ts))
 accepted-iff s b = (
-  λ a. (indexN s, wordsOf s, accepted-card s b a .0, accepted-card s b a .1),
-  λ p. ap indexRefusal (p .3) ∙ card-accepted (p .0) (p .1) (p .2),
+  λ a. (indexV s, indexN s, wordsOf s, accepted-card s b a .0, accepted-card s b a .1),
+  λ p. ap indexRefusal (p .4) ∙ card-accepted (p .0) (p .1) (p .2) (p .3),
 )
 
 -- Term number t of a card's bytes is the block of its word number t.
-pub card-term : (N : ℕ) (ts : List Word) → validCard N ts ≡ true → (d : Word) (t : ℕ) → t < length ts
-    → termPart t (card N ts) ≡ termBlock N (getD ts t d)
-card-term N ts v d t h = card-part N ts (card-valid N ts v) d t h
+pub card-term : (ver N : ℕ) (ts : List Word) → validCard ver N ts ≡ true → (d : Word) (t : ℕ) → t < length ts
+    → termPart t (card ver N ts) ≡ termBlock ver N (getD ts t d)
+card-term ver N ts v d t h = card-part ver N ts (card-valid ver N ts v) d t h
 
 -- Word number t that is read of a card's bytes is its word number t.
-pub card-wordOf : (N : ℕ) (ts : List Word) → validCard N ts ≡ true → (d : Word) (t : ℕ) → t < length ts
-    → wordOf t (card N ts) ≡ getD ts t d
-card-wordOf N ts v d t h = card-word N ts (card-valid N ts v) d t h
+pub card-wordOf : (ver N : ℕ) (ts : List Word) → validCard ver N ts ≡ true → (d : Word) (t : ℕ) → t < length ts
+    → wordOf t (card ver N ts) ≡ getD ts t d
+card-wordOf ver N ts v d t h = card-word ver N ts (card-valid ver N ts v) d t h
 
 -- ---- the terms of an accepted index
 
@@ -85,11 +85,11 @@ pub accepted-within : (s : List ℕ) → indexRefusal s ≡ Accepted → (t : �
 accepted-within s a t h = termAt-within s (accepted-passed s a) t h
 
 -- The word of each term is writable for the index's N.
-pub accepted-word : (s : List ℕ) → indexRefusal s ≡ Accepted → (t : ℕ) → t < indexT s → Writable (indexN s) (wordOf t s)
+pub accepted-word : (s : List ℕ) → indexRefusal s ≡ Accepted → (t : ℕ) → t < indexT s → Writable (indexV s) (indexN s) (wordOf t s)
 unfolding wordOf
 accepted-word s a t h =
     let i = accepted-term s a t h in
-    rw (i .same-N) at (accepted-writable (termPart t s) (i .accepts))
+    rw (i .same-N) at (accepted-writable (indexV s) (termPart t s) (i .accepts))
 
 -- The bytes of each term are bytes.
 pub bytes-term : (s : List ℕ) → Bytes s → (t : ℕ) → Bytes (termPart t s)
@@ -98,23 +98,23 @@ bytes-term s b t = bytes-part t (drop indexHeader s) (bytes-drop indexHeader s b
 
 -- Each term is the block of its word.
 pub accepted-part : (s : List ℕ) → Bytes s → indexRefusal s ≡ Accepted → (t : ℕ) → t < indexT s
-    → termPart t s ≡ termBlock (indexN s) (wordOf t s)
+    → termPart t s ≡ termBlock (indexV s) (indexN s) (wordOf t s)
 unfolding wordOf
 accepted-part s b a t h =
     let i = accepted-term s a t h in
-    accepted-block (termPart t s) (bytes-term s b t) (i .accepts)
-    ∙ ap (λ (n : ℕ). termBlock n (readWord (termPart t s))) (i .same-N)
+    accepted-block (indexV s) (termPart t s) (bytes-term s b t) (i .accepts)
+    ∙ ap (λ (n : ℕ). termBlock (indexV s) n (readWord (termPart t s))) (i .same-N)
 
 -- ---- closing
 
 -- What closing accepts becomes an accepted index of that N and T with the terms that lay there.
-pub closing : (buffer : List ℕ) (used N T : ℕ) → closeRefusal buffer used N T ≡ Accepted → Closed buffer used N T
-closing buffer used N T e = closed-is buffer used N T (accepted-closable buffer used N T e)
+pub closing : (buffer : List ℕ) (used ver N T : ℕ) → closeRefusal buffer used ver N T ≡ Accepted → Closed buffer used ver N T
+closing buffer used ver N T e = closed-is buffer used ver N T (accepted-closable buffer used ver N T e)
 
 -- Closing a finished index again changes nothing.
 pub closing-again : (buffer : List ℕ) (used : ℕ) → Bytes buffer → used ≤ length buffer
     → indexRefusal (take used buffer) ≡ Accepted
-    → closeIndex buffer used (indexN (take used buffer)) (indexT (take used buffer)) ≡ record {
+    → closeIndex buffer used (indexV (take used buffer)) (indexN (take used buffer)) (indexT (take used buffer)) ≡ record {
       refusal = Accepted;
       size = used;
       room = buffer;

@@ -16,7 +16,7 @@ use Rattle.rules.specs.ReadList.{listU}
 use Rattle.rules.specs.Term.{Word, termBlock}
 use Rattle.rules.specs.Parts.{after, part}
 use Rattle.rules.specs.ReadTerm.{pagesOf, readWord, termRefusal}
-use Rattle.rules.specs.Index.{terms, validWords, indexN, indexT, termPart, wordOf, wordsFrom, termsRefusal}
+use Rattle.rules.specs.Index.{terms, validWords, indexV, indexN, indexT, termPart, wordOf, wordsFrom, termsRefusal}
 use Rattle.laws.specs.Blocks.{blockAt, Inside}
 use Rattle.laws.proofs.ByteLaws.{bytes-drop}
 use Rattle.laws.proofs.PartLaws.{after-at, inside-lies, inside-parts, after-suc, part-after, bytes-part}
@@ -27,49 +27,49 @@ use Rattle.cardlaws.proofs.TermsLaws.{terms-first, terms-none, words-co
 
 -- ---- every block passes
 
-pub record Found (N k : ℕ) (l : List ℕ) : Type 0 where
-  pub passes : Inside termHeader termRefusal (after k l)
-  pub accepts : termRefusal (part k l) ≡ Accepted
+pub record Found (ver N k : ℕ) (l : List ℕ) : Type 0 where
+  pub passes : Inside termHeader (termRefusal ver) (after k l)
+  pub accepts : termRefusal ver (part k l) ≡ Accepted
   pub same-N : listU (pagesOf (part k l)) ≡ N
 
-first-found : (T N k : ℕ) (l : List ℕ) → termsRefusal (suc T) N (after k l) ≡ Accepted
-    → Found N k l × (termsRefusal T N (after (suc k) l) ≡ Accepted)
+first-found : (ver T N k : ℕ) (l : List ℕ) → termsRefusal ver (suc T) N (after k l) ≡ Accepted
+    → Found ver N k l × (termsRefusal ver T N (after (suc k) l) ≡ Accepted)
 unfolding part
-first-found T N k l e =
-    let f = terms-first T N (after k l) e in
-    let i = inside-parts termHeader termRefusal (after k l) (f .passes) in
+first-found ver T N k l e =
+    let f = terms-first ver T N (after k l) e in
+    let i = inside-parts termHeader (termRefusal ver) (after k l) (f .passes) in
     (record { passes = i; accepts = i .passes; same-N = f .same-N }, rw (after-suc k l) (f .rest))
 
-pub found : (T N k : ℕ) (l : List ℕ) → termsRefusal T N (after k l) ≡ Accepted → (t : ℕ) → t < T → Found N (k + t) l
-found zero N k l e t h = absurd (omega arith)
-found (suc T) N k l e zero h = rw (add-zero k) (first-found T N k l e .0)
-found (suc T) N k l e (suc t) h =
+pub found : (ver T N k : ℕ) (l : List ℕ) → termsRefusal ver T N (after k l) ≡ Accepted → (t : ℕ) → t < T → Found ver N (k + t) l
+found ver zero N k l e t h = absurd (omega arith)
+found ver (suc T) N k l e zero h = rw (add-zero k) (first-found ver T N k l e .0)
+found ver (suc T) N k l e (suc t) h =
     let m : k + suc t ≡ suc k + t = omega arith in
-    rw m (found T N (suc k) l (first-found T N k l e .1) t (omega arith))
+    rw m (found ver T N (suc k) l (first-found ver T N k l e .1) t (omega arith))
 
 -- nothing is left behind the last of them
-pub found-end : (T N k : ℕ) (l : List ℕ) → termsRefusal T N (after k l) ≡ Accepted → after (k + T) l ≡ []
-found-end zero N k l e = rw (add-zero k) (terms-none N (after k l) e)
-found-end (suc T) N k l e =
+pub found-end : (ver T N k : ℕ) (l : List ℕ) → termsRefusal ver T N (after k l) ≡ Accepted → after (k + T) l ≡ []
+found-end ver zero N k l e = rw (add-zero k) (terms-none ver N (after k l) e)
+found-end ver (suc T) N k l e =
     let m : k + suc T ≡ suc k + T = omega arith in
-    rw m (found-end T N (suc k) l (first-found T N k l e .1))
+    rw m (found-end ver T N (suc k) l (first-found ver T N k l e .1))
 
 -- ---- in an index that passes
 
 module _ (s : List ℕ) (p : Passed s) where
-  passes-all : termsRefusal (indexT s) (indexN s) (after 0 (drop indexHeader s)) ≡ Accepted
+  passes-all : termsRefusal (indexV s) (indexT s) (indexN s) (after 0 (drop indexHeader s)) ≡ Accepted
   unfolding after
   passes-all = p .terms-pass
 
   pub term-in : (t : ℕ) → t < indexT s → TermIn t s
   unfolding termPart
   term-in t h =
-      let f : Found (indexN s) t (drop indexHeader s) =
-      rw (zero-add t) at (found (indexT s) (indexN s) 0 (drop indexHeader s) passes-all t h) in
+      let f : Found (indexV s) (indexN s) t (drop indexHeader s) =
+      rw (zero-add t) at (found (indexV s) (indexT s) (indexN s) 0 (drop indexHeader s) passes-all t h) in
       record {
         accepts = f .accepts;
         same-N = f .same-N;
-        lies = inside-lies termHeader termRefusal indexHeader s t (lit< tt) (f .passes);
+        lies = inside-lies termHeader (termRefusal (indexV s)) indexHeader s t (lit< tt) (f .passes);
       }
 
   pub termAt-within : (t : ℕ) → t ≤ indexT s → termAt t s ≤ length s
@@ -80,7 +80,7 @@ module _ (s : List ℕ) (p : Passed s) where
   pub termAt-end : termAt (indexT s) s ≡ length s
   termAt-end =
       let e : after (indexT s) (drop indexHeader s) ≡ [] =
-      rw (zero-add (indexT s)) at (found-end (indexT s) (indexN s) 0 (drop indexHeader s) passes-all) in
+      rw (zero-add (indexT s)) at (found-end (indexV s) (indexT s) (indexN s) 0 (drop indexHeader s) passes-all) in
       let d : length (drop (termAt (indexT s) s) s) ≡ 0 = ap length (sym (after-at indexHeader s (indexT s)) ∙ e) in
       omega (arith, termAt-within (indexT s) (omega arith), sym (length-drop (termAt (indexT s) s) s) ∙ d)
 
@@ -99,25 +99,25 @@ getD-words (suc c) t s d (suc i) h =
     let e : t + 1 + i ≡ t + suc i = omega arith in
     getD-words c (t + 1) s d i (omega arith) ∙ ap (λ (k : ℕ). wordOf k s) e
 
-module _ (N : ℕ) (s : List ℕ) where
+module _ (ver N : ℕ) (s : List ℕ) where
   abbrev l : List ℕ
   l = drop indexHeader s
 
-  pub words-valid : (T k : ℕ) → termsRefusal T N (after k l) ≡ Accepted → validWords N (wordsFrom T k s) ≡ true
+  pub words-valid : (T k : ℕ) → termsRefusal ver T N (after k l) ≡ Accepted → validWords N (wordsFrom T k s) ≡ true
   unfolding wordsFrom validWords wordOf termPart
   words-valid zero k e = refl
   words-valid (suc T) k e =
-      let f = first-found T N k l e in
-      let w : Writable N (readWord (part k l)) = rw (f .0 .same-N) at (accepted-writable (part k l) (f .0 .accepts)) in
-      words-cons N (readWord (part k l)) (wordsFrom T (k + 1) s) w (rw (add-one k) (words-valid T (suc k) (f .1)))
+      let f = first-found ver T N k l e in
+      let w : Writable ver N (readWord (part k l)) = rw (f .0 .same-N) at (accepted-writable ver (part k l) (f .0 .accepts)) in
+      words-cons ver N (readWord (part k l)) (wordsFrom T (k + 1) s) w (rw (add-one k) (words-valid T (suc k) (f .1)))
 
-  pub terms-read : Bytes s → (T k : ℕ) → termsRefusal T N (after k l) ≡ Accepted → after k l ≡ terms N (wordsFrom T k s)
+  pub terms-read : Bytes s → (T k : ℕ) → termsRefusal ver T N (after k l) ≡ Accepted → after k l ≡ terms ver N (wordsFrom T k s)
   unfolding wordsFrom terms wordOf termPart
-  terms-read b zero k e = terms-none N (after k l) e
+  terms-read b zero k e = terms-none ver N (after k l) e
   terms-read b (suc T) k e =
-      let f = first-found T N k l e in
-      let p : part k l ≡ termBlock N (readWord (part k l)) =
-      accepted-block (part k l) (bytes-part k l (bytes-drop indexHeader s b)) (f .0 .accepts)
-      ∙ ap (λ (n : ℕ). termBlock n (readWord (part k l))) (f .0 .same-N) in
+      let f = first-found ver T N k l e in
+      let p : part k l ≡ termBlock ver N (readWord (part k l)) =
+      accepted-block ver (part k l) (bytes-part k l (bytes-drop indexHeader s b)) (f .0 .accepts)
+      ∙ ap (λ (n : ℕ). termBlock ver n (readWord (part k l))) (f .0 .same-N) in
       sym (part-after k l) ∙ ap₂ (λ (x y : List ℕ). x ++ y) p (terms-read b T (suc k) (f .1)
-      ∙ ap (λ (n : ℕ). terms N (wordsFrom T n s)) (sym (add-one k)))
+      ∙ ap (λ (n : ℕ). terms ver N (wordsFrom T n s)) (sym (add-one k)))

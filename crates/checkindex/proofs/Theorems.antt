@@ -14,5 +14,5 @@ use Rattle.cardlaws.proofs.Theorems.{accepted-iff}
 
 -- The check accepts the cards of some N and words, and nothing else.
 pub check-accepts : (s : List ℕ) → Bytes s → (r : Refusal) → IndexChecked s r
-    → (r ≡ Accepted) ↔ ((N : ℕ) × (ts : List Word) × (validCard N ts ≡ true) × (s ≡ card N ts))
+    → (r ≡ Accepted) ↔ ((v : ℕ) × (N : ℕ) × (ts : List Word) × (validCard v N ts ≡ true) × (s ≡ card v N ts))
 check-accepts s b r e = (λ a. accepted-iff s b .0 (sym e ∙ a), λ p. e ∙ accepted-iff s b .1 p)

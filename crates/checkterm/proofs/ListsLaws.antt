@@ -1,6 +1,6 @@
 -- Laws of the three lists of a term as they are checked:
 -- each answer, what is left where all have passed, and the term's refusal.
-use mathlib.Core.Bool.{cond}
+use mathlib.Core.Bool.{cond, not}
 use mathlib.Core.Path.{_≡_, refl, sym, ap, _∙_}
 use mathlib.Core.List.{List}
 use Prim.Native.Nat.{ℕ, zero, suc, _+_, _≤_, _<_}
@@ -9,49 +9,63 @@ use borrow.Author.Tests.{lt-ltb, le-ltb}
 use lib.Dec.{lit<}
 use lib.ListN.{length, drop, length-append}
 use Rattle.rules.specs.declared.Refusal.{Refusal}
-use Rattle.rules.specs.declared.Refusal.the-variants.{Accepted, Layout, Parts}
+use Rattle.rules.specs.declared.Refusal.the-variants.{Accepted, Version, Layout, Parts}
 use Rattle.rules.specs.Refusal.{andThen}
-use Rattle.rules.specs.Limits.{listHeader, termHeader}
-use Rattle.rules.specs.ReadList.{stated, listRefusal}
+use Rattle.rules.specs.Limits.{version, lastEdition, upTo, listHeader, termHeader}
+use Rattle.rules.specs.ReadList.{stated, listU, listN, listRefusal, partRefusal}
 use Rattle.rules.specs.Parts.{after, part, inside}
 use Rattle.rules.specs.ReadTerm.{listsOf, pagesOf, countsOf, positionsOf, disagree, termRefusal}
 use Rattle.laws.proofs.RefusalLaws.{andThen-next, andThen-assoc, andThen-both}
 use Rattle.laws.proofs.HeadLaws.{head-then}
 use Rattle.laws.proofs.PartLaws.{part-after, inside-parts, inside-lies}
+use Rattle.listlaws.proofs.RefusalLaws.{form-first, part-alone}
 use Rattle.parts.specs.Places.{headRefusal, Walkable}
 use Rattle.agreeing.specs.Agreeing.{disagreeing}
-use Rattle.checkterm.specs.Lists.{listsRefusal, restRefusal, ListsIn}
+use Rattle.checkterm.specs.Lists.{listVersion, listsRefusal, restRefusal, ListsIn}
 
 -- ---- one list more, and none
 
-pub lists-more : (n m : ℕ) (s : List ℕ) → n ≡ suc m
-    → listsRefusal n s ≡ andThen (inside listHeader listRefusal s) (listsRefusal m (drop (stated s) s))
+pub lists-more : (v n m : ℕ) (s : List ℕ) → n ≡ suc m
+    → listsRefusal v n s ≡ andThen (inside listHeader (partRefusal v) s) (listsRefusal version m (drop (stated s) s))
 unfolding listsRefusal
-lists-more n m s e = rw e
+lists-more v n m s e = rw e
 
-pub lists-none : (n : ℕ) (s : List ℕ) → n ≡ 0 → listsRefusal n s ≡ Accepted
+pub lists-none : (v n : ℕ) (s : List ℕ) → n ≡ 0 → listsRefusal v n s ≡ Accepted
 unfolding listsRefusal
-lists-none n s e = rw e
+lists-none v n s e = rw e
 
 -- ---- all have passed
 
-lists-inside : (n : ℕ) (s : List ℕ) → listsRefusal n s ≡ Accepted → (k : ℕ) → k < n
-    → inside listHeader listRefusal (after k s) ≡ Accepted
+version-stays : (k : ℕ) → listVersion version k ≡ version
+version-stays zero = refl
+version-stays (suc k) = refl
+
+lists-inside : (v n : ℕ) (s : List ℕ) → listsRefusal v n s ≡ Accepted → (k : ℕ) → k < n
+    → inside listHeader (partRefusal (listVersion v k)) (after k s) ≡ Accepted
 unfolding listsRefusal after
-lists-inside zero s e k h = absurd (omega arith)
-lists-inside (suc n) s e zero h =
-    andThen-both (inside listHeader listRefusal s) (listsRefusal n (drop (stated s) s)) e .0
-lists-inside (suc n) s e (suc k) h = lists-inside n (drop (stated s) s)
-    (andThen-both (inside listHeader listRefusal s) (listsRefusal n (drop (stated s) s)) e .1) k (omega arith)
+lists-inside v zero s e k h = absurd (omega arith)
+lists-inside v (suc n) s e zero h =
+    andThen-both (inside listHeader (partRefusal v) s) (listsRefusal version n (drop (stated s) s)) e .0
+lists-inside v (suc n) s e (suc k) h =
+    let i = lists-inside version n (drop (stated s) s)
+    (andThen-both (inside listHeader (partRefusal v) s) (listsRefusal version n (drop (stated s) s)) e .1) k (omega arith) in
+    ap (λ (u : ℕ). inside listHeader (partRefusal u) (after k (drop (stated s) s))) (sym (version-stays k)) ∙ i
 
-pub lists-in : (s : List ℕ) → listsRefusal 3 (listsOf s) ≡ Accepted → ListsIn s
+pub lists-in : (v : ℕ) (s : List ℕ) → listsRefusal v 3 (listsOf s) ≡ Accepted → ListsIn v s
 unfolding listsOf part
-lists-in s e k h =
-    let i = inside-parts listHeader listRefusal (after k (drop 5 s)) (lists-inside 3 (drop 5 s) e k h) in
-    record { accepts = i .passes; lies = inside-lies listHeader listRefusal 5 s k (lit< tt) i }
+lists-in v s e k h =
+    let u : ℕ = listVersion v k in
+    let i = inside-parts listHeader (partRefusal u) (after k (drop 5 s)) (lists-inside v 3 (drop 5 s) e k h) in
+    record { accepts = i .passes; lies = inside-lies listHeader (partRefusal u) 5 s k (lit< tt) i }
 
-pub lists-walk : (s : List ℕ) → ListsIn s → (k : ℕ) → k < 3 → Walkable 5 k s
-lists-walk s l k h i m =
+-- counts and positions are lists in two runs
+pub runs-in : (v : ℕ) (s : List ℕ) → ListsIn v s → (k : ℕ) → suc k < 3 → listRefusal (part (suc k) (listsOf s)) ≡ Accepted
+runs-in v s l k h =
+    let p : List ℕ = part (suc k) (listsOf s) in
+    part-alone version p (l (suc k) h .accepts) (form-first (listU p) (listN p))
+
+pub lists-walk : (v : ℕ) (s : List ℕ) → ListsIn v s → (k : ℕ) → k < 3 → Walkable 5 k s
+lists-walk v s l k h i m =
     let y = l i (omega arith) .lies in
     (omega (arith, y .holds), y .within)
 
@@ -76,20 +90,27 @@ module _ (s : List ℕ) where
   rest-none h = rw (le-ltb 0 (length (after 3 (listsOf s))) (omega (arith, left-over)))
 
 -- the lists one after the other, and then r
-abbrev lists-then : (n : ℕ) (s : List ℕ) (r : Refusal) → Refusal
-lists-then zero s r = r
-lists-then (suc n) s r = andThen (inside listHeader listRefusal s) (lists-then n (drop (stated s) s) r)
+abbrev lists-then : (v n : ℕ) (s : List ℕ) (r : Refusal) → Refusal
+lists-then v zero s r = r
+lists-then v (suc n) s r = andThen (inside listHeader (partRefusal v) s) (lists-then version n (drop (stated s) s) r)
 
-then-lists : (n : ℕ) (s : List ℕ) (r : Refusal) → lists-then n s r ≡ andThen (listsRefusal n s) r
+then-lists : (v n : ℕ) (s : List ℕ) (r : Refusal) → lists-then v n s r ≡ andThen (listsRefusal v n s) r
 unfolding listsRefusal
-then-lists zero s r = sym (andThen-next Accepted r refl)
-then-lists (suc n) s r =
-    let q : Refusal = inside listHeader listRefusal s in
-    ap (andThen q) (then-lists n (drop (stated s) s) r) ∙ sym (andThen-assoc q (listsRefusal n (drop (stated s) s)) r)
+then-lists v zero s r = sym (andThen-next Accepted r refl)
+then-lists v (suc n) s r =
+    let q : Refusal = inside listHeader (partRefusal v) s in
+    ap (andThen q) (then-lists version n (drop (stated s) s) r)
+    ∙ sym (andThen-assoc q (listsRefusal version n (drop (stated s) s)) r)
 
-pub term-then : (s : List ℕ)
-    → termRefusal s ≡ andThen (headRefusal termHeader s) (andThen (listsRefusal 3 (listsOf s)) (restRefusal s))
+-- the tests behind the version that is told
+abbrev pub told : ℕ → List ℕ → Refusal
+told v s = andThen (listsRefusal v 3 (listsOf s)) (restRefusal s)
+
+pub term-then : (v : ℕ) (s : List ℕ) → termRefusal v s
+    ≡ andThen (headRefusal termHeader version s) (cond (not (upTo lastEdition v)) Version (told v s))
 unfolding termRefusal after
-term-then s =
-    head-then termHeader s (lists-then 3 (listsOf s) (restRefusal s))
-    ∙ ap (andThen (headRefusal termHeader s)) (then-lists 3 (listsOf s) (restRefusal s))
+term-then v s =
+    head-then termHeader version s
+    (cond (not (upTo lastEdition v)) Version (lists-then v 3 (listsOf s) (restRefusal s)))
+    ∙ ap (λ (r : Refusal). andThen (headRefusal termHeader version s) (cond (not (upTo lastEdition v)) Version r))
+    (then-lists v 3 (listsOf s) (restRefusal s))

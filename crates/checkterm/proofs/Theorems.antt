@@ -12,6 +12,6 @@ use Rattle.termlaws.specs.Words.{Writable}
 use Rattle.termlaws.proofs.Theorems.{accepted-iff}
 
 -- The check accepts the blocks of writable words, and nothing else.
-pub check-accepts : (s : List ℕ) → Bytes s → (r : Refusal) → TermChecked s r
-    → (r ≡ Accepted) ↔ ((N : ℕ) × (t : Word) × Writable N t × (s ≡ termBlock N t))
-check-accepts s b r e = (λ a. accepted-iff s b .0 (sym e ∙ a), λ p. e ∙ accepted-iff s b .1 p)
+pub check-accepts : (v : ℕ) (s : List ℕ) → Bytes s → (r : Refusal) → TermChecked v s r
+    → (r ≡ Accepted) ↔ ((N : ℕ) × (t : Word) × Writable v N t × (s ≡ termBlock v N t))
+check-accepts v s b r e = (λ a. accepted-iff v s b .0 (sym e ∙ a), λ p. e ∙ accepted-iff v s b .1 p)

@@ -7,42 +7,43 @@ use native.Mathlib.Decide.{decLt}
 use native.Mathlib.Omega.{arith}
 use borrow.Author.Tests.{lt-ltb, le-ltb}
 use lib.ListN.{length, getD}
-use Rattle.rules.specs.Seek.{Found, none, page, Sought, seek}
-use Rattle.rules.specs.Common.{Reader, Ended, agreed, exhausted, larger, Round, before, stopped, agree}
+use Rattle.rules.specs.Seek.{Found, none, page, Sought}
+use Rattle.rules.specs.Common.{Reader, Ended, agreed, exhausted, larger, Round, seekBy, movedBy, before, stopped, agree}
 use Rattle.rules.specs.Plain.{firstFrom, member, inAll}
 use Rattle.seeklaws.specs.Cursors.{firstAt}
 use Rattle.seeklaws.proofs.FirstLaws.{firstAt-at}
 use Rattle.seeklaws.proofs.SeekLaws.{seek-first, seek-placed, seek-behind, behind-more, cursorAt-on}
 use Rattle.seeklaws.proofs.LookLaws.{looks-step}
-use Rattle.commonlaws.specs.Readers.{pagesOf, Ready, AllReady, OnPage, AllOnPage, reachedBy, moved}
+use Rattle.commonlaws.specs.Readers.{pagesOf, Ready, AllReady, OnPage, AllOnPage, reachedBy, wordsOf, moved}
 use Rattle.commonlaws.proofs.SharedLaws.{member-at, first-page, first-none, member-gap}
 
 -- ---- one reader
 
 module _ (U b : ℕ) (r : Reader) (k : Ready U b r) where
   pub moved-ready : (d : ℕ) → b ≤ d → Ready U d (moved U b r)
-  unfolding moved
+  unfolding moved seekBy movedBy
   moved-ready d h = record {
     rises = k .rises;
-    placed = seek-placed U (r .pages) (k .rises) (r .cursor) b (k .placed);
-    behind = seek-behind U (r .pages) (k .rises) (r .cursor) b d (k .placed) (k .behind) h;
+    placed = seek-placed (r .form) U (r .pages) (k .rises) (r .cursor) b (k .placed);
+    behind = seek-behind (r .form) U (r .pages) (k .rises) (r .cursor) b d (k .placed) (k .behind) h;
   }
 
-  pub seek-plain : seek U (r .pages) (r .cursor) b .found ≡ firstFrom b 0 (r .pages)
-  seek-plain = seek-first U (r .pages) (k .rises) (r .cursor) b (k .placed) (k .behind) .found
+  pub seek-plain : seekBy U r b .found ≡ firstFrom b 0 (r .pages)
+  unfolding seekBy
+  seek-plain = seek-first (r .form) U (r .pages) (k .rises) (r .cursor) b (k .placed) (k .behind) .found
 
   -- a seek that finds page d: no page of the list is between b and d
-  module _ (d i : ℕ) (e : seek U (r .pages) (r .cursor) b .found ≡ page d i) where
+  module _ (d i : ℕ) (e : seekBy U r b .found ≡ page d i) where
     pub sought-first : (firstAt b (r .pages) ≡ i) × (i < length (r .pages)) × (getD (r .pages) i 0 ≡ d)
     sought-first = first-page b (r .pages) d i (sym seek-plain ∙ e)
 
     pub sought-on : OnPage d (moved U b r)
-    unfolding moved
+    unfolding moved seekBy movedBy
     sought-on =
         let f = sought-first in
         record {
           rank = i;
-          stands = seek-first U (r .pages) (k .rises) (r .cursor) b (k .placed) (k .behind) .cursor
+          stands = seek-first (r .form) U (r .pages) (k .rises) (r .cursor) b (k .placed) (k .behind) .cursor
               ∙ rw (f .0) (cursorAt-on (r .pages) i (f .1));
           within = f .1;
           there = f .2;
@@ -58,7 +59,7 @@ module _ (U b : ℕ) (r : Reader) (k : Ready U b r) where
         let f = sought-first in
         member-gap U (r .pages) (k .rises) b x h (λ g. rw (f .0, f .2) l)
 
-  pub sought-none : (m : ℕ) → seek U (r .pages) (r .cursor) b .found ≡ none m → (x : ℕ) → b ≤ x
+  pub sought-none : (m : ℕ) → seekBy U r b .found ≡ none m → (x : ℕ) → b ≤ x
       → member x (r .pages) ≡ false
   sought-none m e x h =
       let f = first-none b (r .pages) m (sym seek-plain ∙ e) in
@@ -79,6 +80,7 @@ allReady-more U b d (r ∷ rs) k h = (ready-more U b d r (k .0) h, allReady-more
 
 pub record Kept (U c : ℕ) (rs : List Reader) (r : Round) : Type 0 where
   pub pages : pagesOf (r .readers) ≡ pagesOf rs
+  pub words : wordsOf U (r .readers) ≡ wordsOf U rs
   pub ready : (d : ℕ) → c ≤ d → AllReady U d (r .readers)
   pub seeks : r .seeks ≤ length rs
   pub looks : r .looks + reachedBy U rs ≤ reachedBy U (r .readers) + r .seeks
@@ -87,39 +89,41 @@ pub stopped-kept : (U c : ℕ) (rs : List Reader) (e : Ended) → AllReady U c r
 unfolding stopped
 stopped-kept U c rs e k = record {
   pages = refl;
+  words = refl;
   ready = λ d h. allReady-more U c d rs k h;
   seeks = omega arith;
   looks = omega arith;
 }
 
 before-kept : (U c : ℕ) (r : Reader) (rs : List Reader) (n : Round) → Ready U c r → Kept U c rs n
-    → Kept U c (r ∷ rs) (before (r .pages) (seek U (r .pages) (r .cursor) c) n)
-unfolding before pagesOf reachedBy moved
+    → Kept U c (r ∷ rs) (before r (seekBy U r c) n)
+unfolding before pagesOf wordsOf reachedBy moved seekBy movedBy
 before-kept U c r rs n k m = record {
   pages = ap (λ (l : List (List ℕ)). r .pages ∷ l) (m .pages);
+  words = omega (arith, m .words);
   ready = λ d h. (moved-ready U c r k d h, m .ready d h);
   seeks = omega (arith, m .seeks);
-  looks = omega (arith, m .looks, looks-step U (r .pages) (k .rises) (r .cursor) c (k .placed));
+  looks = omega (arith, m .looks, looks-step (r .form) U (r .pages) (k .rises) (r .cursor) c (k .placed));
 }
 
 -- ---- the three ways on from a seek
 
 module _ (U c : ℕ) (r : Reader) (rs : List Reader) where
   abbrev this : Sought
-  this = seek U (r .pages) (r .cursor) c
+  this = seekBy U r c
 
-  pub agree-none : (m : ℕ) → this .found ≡ none m → agree U c (r ∷ rs) ≡ before (r .pages) this (stopped exhausted rs)
-  unfolding agree before
+  pub agree-none : (m : ℕ) → this .found ≡ none m → agree U c (r ∷ rs) ≡ before r this (stopped exhausted rs)
+  unfolding agree before movedBy
   agree-none m e = rw (e, agree)
 
   pub agree-larger : (d i : ℕ) → this .found ≡ page d i → c < d
-      → agree U c (r ∷ rs) ≡ before (r .pages) this (stopped (larger d) rs)
-  unfolding agree before
+      → agree U c (r ∷ rs) ≡ before r this (stopped (larger d) rs)
+  unfolding agree before movedBy
   agree-larger d i e h = rw (e, agree, lt-ltb c d h)
 
   pub agree-same : (d i : ℕ) → this .found ≡ page d i → d ≤ c
-      → agree U c (r ∷ rs) ≡ before (r .pages) this (agree U c rs)
-  unfolding agree before
+      → agree U c (r ∷ rs) ≡ before r this (agree U c rs)
+  unfolding agree before movedBy
   agree-same d i e h = rw (e, agree, le-ltb c d h)
 
 -- the readers, seeks and looks of a round of the others
@@ -128,7 +132,7 @@ unfolding agree
 agree-kept U c [] k = stopped-kept U c [] agreed tt
 agree-kept U c (r ∷ rs) k = go (agree-kept U c rs (k .1)) (this U c r rs .found) refl
   where
-    stops : (e : Ended) → Kept U c (r ∷ rs) (before (r .pages) (this U c r rs) (stopped e rs))
+    stops : (e : Ended) → Kept U c (r ∷ rs) (before r (this U c r rs) (stopped e rs))
     stops e = before-kept U c r rs (stopped e rs) (k .0) (stopped-kept U c rs e (k .1))
 
     go : Kept U c rs (agree U c rs) → (f : Found) → this U c r rs .found ≡ f → Kept U c (r ∷ rs) (agree U c (r ∷ rs))
@@ -157,12 +161,12 @@ rest-lack x l ls e = rw e (and-false (member x l))
 -- the first reader is on page c, and the rest says so much
 says-before : (U c : ℕ) (r : Reader) (ls : List (List ℕ)) (n : Round) → OnPage c (moved U c r)
     → Says c ls (n .readers) (n .ended)
-    → Says c (r .pages ∷ ls) (before (r .pages) (seek U (r .pages) (r .cursor) c) n .readers) (n .ended)
-unfolding before moved
+    → Says c (r .pages ∷ ls) (before r (seekBy U r c) n .readers) (n .ended)
+unfolding before moved movedBy
 says-before U c r ls n o s = go (n .ended) s
   where
     go : (e : Ended) → Says c ls (n .readers) e
-        → Says c (r .pages ∷ ls) (before (r .pages) (seek U (r .pages) (r .cursor) c) n .readers) e
+        → Says c (r .pages ∷ ls) (before r (seekBy U r c) n .readers) e
     go agreed s = (o, s)
     go exhausted s = λ x h. rest-lack x (r .pages) ls (s x h)
     go (larger d) s = (s .0, λ x h l. rest-lack x (r .pages) ls (s .1 x h l))

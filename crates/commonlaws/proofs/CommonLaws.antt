@@ -11,13 +11,14 @@ use borrow.Author.Tests.{le-leb, lt-ltb}
 use lib.Dec.{eqb}
 use lib.ListN.{length, getD, take}
 use lib.Seq.{take-all}
-use Rattle.rules.specs.List.{rising}
-use Rattle.rules.specs.Seek.{fresh, none, Sought, gone, move, seek}
-use Rattle.rules.specs.Common.{readersOf, counted, nothing, rounds, leadPages, otherPages, commonFrom, common}
+use Rattle.rules.specs.List.{rising, Form, formOf}
+use Rattle.rules.specs.Seek.{fresh, none, Sought, upperWords, gone, move, seek}
+use Rattle.rules.specs.Common.{reader, readersOf, seekBy, counted, nothing, rounds, leadPages, otherPages}
+use Rattle.rules.specs.Common.{commonFrom, common}
 use Rattle.rules.specs.Plain.{atLeast, member, inAll, sharedBy, commonPages}
 use Rattle.listlaws.proofs.RisingLaws.{rising-parts}
 use Rattle.seeklaws.proofs.SeekLaws.{behind-fresh}
-use Rattle.commonlaws.specs.Readers.{pagesOf, Rise, Ready, AllReady, reachedBy, wordsOf}
+use Rattle.commonlaws.specs.Readers.{pagesOf, Rise, Ready, AllReady, reachedBy, wordsOf, wordsIn}
 use Rattle.commonlaws.specs.Readers.{sharedFrom, leftIn}
 use Rattle.commonlaws.specs.Next.{roundsTo, freshLead, freshOthers}
 use Rattle.commonlaws.specs.Outcomes.{Tallied}
@@ -119,53 +120,64 @@ pick-common U (l ∷ ls) p rest h k r =
 
 -- ---- fresh readers
 
-pub fresh-ready : (U b : ℕ) (l : List ℕ) → rising 0 U l ≡ true → Ready U b (record { pages = l; cursor = fresh })
-fresh-ready U b l r = record { rises = r; placed = tt; behind = behind-fresh U l r b }
+pub fresh-ready : (f : Form) (U b : ℕ) (l : List ℕ) → rising 0 U l ≡ true
+    → Ready U b (record { form = f; pages = l; cursor = fresh })
+fresh-ready f U b l r = record { rises = r; placed = tt; behind = behind-fresh U l r b }
 
-pub readers-ready : (U b : ℕ) (ls : List (List ℕ)) → Rise U ls → AllReady U b (readersOf ls)
+reader-ready : (v U b : ℕ) (l : List ℕ) → rising 0 U l ≡ true → Ready U b (reader v U l)
+unfolding reader
+reader-ready v U b l r = fresh-ready (formOf v U (length l)) U b l r
+
+pub readers-ready : (v U b : ℕ) (ls : List (List ℕ)) → Rise U ls → AllReady U b (readersOf v U ls)
 unfolding readersOf
-readers-ready U b [] r = tt
-readers-ready U b (l ∷ ls) r = (fresh-ready U b l (r .0), readers-ready U b ls (r .1))
+readers-ready v U b [] r = tt
+readers-ready v U b (l ∷ ls) r = (reader-ready v U b l (r .0), readers-ready v U b ls (r .1))
 
-pub readers-pages : (ls : List (List ℕ)) → pagesOf (readersOf ls) ≡ ls
-unfolding readersOf pagesOf
-readers-pages [] = refl
-readers-pages (l ∷ ls) = ap (λ (r : List (List ℕ)). l ∷ r) (readers-pages ls)
+pub readers-pages : (v U : ℕ) (ls : List (List ℕ)) → pagesOf (readersOf v U ls) ≡ ls
+unfolding reader readersOf pagesOf
+readers-pages v U [] = refl
+readers-pages v U (l ∷ ls) = ap (λ (r : List (List ℕ)). l ∷ r) (readers-pages v U ls)
 
-pub common-from : (U : ℕ) (ls : List (List ℕ)) (b r : ℕ)
-    → commonFrom U ls b r ≡ roundsTo U (freshLead ls) (freshOthers ls) b r
-unfolding commonFrom roundsTo freshLead freshOthers
-common-from U ls b r = refl
+pub readers-words : (v U : ℕ) (ls : List (List ℕ)) → wordsOf U (readersOf v U ls) ≡ wordsIn v U ls
+unfolding reader readersOf wordsOf wordsIn
+readers-words v U [] = refl
+readers-words v U (l ∷ ls) = ap (λ (n : ℕ). upperWords (formOf v U (length l)) U l + n) (readers-words v U ls)
 
-seek-past : (U : ℕ) (xs : List ℕ) (b : ℕ) → U ≤ b → seek U xs fresh b ≡ gone xs 0
+pub common-from : (v U : ℕ) (ls : List (List ℕ)) (b r : ℕ)
+    → commonFrom v U ls b r ≡ roundsTo U (freshLead v U ls) (freshOthers v U ls) b r
+unfolding commonFrom roundsTo freshLead freshOthers reader
+common-from v U ls b r = refl
+
+seek-past : (f : Form) (U : ℕ) (xs : List ℕ) (b : ℕ) → U ≤ b → seek f U xs fresh b ≡ gone xs 0
 unfolding seek move
-seek-past U xs b h = rw (le-leb U b h, or-true (eqb (length xs) 0))
+seek-past f U xs b h = rw (le-leb U b h, or-true (eqb (length xs) 0))
 
 -- from U on there is one seek, with no looks
-pub past-all : (U : ℕ) (ls : List (List ℕ)) (b n : ℕ) → U ≤ b
-    → commonFrom U ls b (suc n) ≡ record { seeks = 1; looks = 0; listed = [] }
-unfolding commonFrom rounds counted nothing gone
-past-all U ls b n h =
+pub past-all : (v U : ℕ) (ls : List (List ℕ)) (b n : ℕ) → U ≤ b
+    → commonFrom v U ls b (suc n) ≡ record { seeks = 1; looks = 0; listed = [] }
+unfolding commonFrom rounds reader seekBy counted nothing gone
+past-all v U ls b n h =
     let m : ℕ = length (leadPages ls) in
+    let f : Form = formOf v U m in
     let e : m + 1 ≡ suc m = omega arith in
-    let s = seek-past U (leadPages ls) b h in
-    let f : seek U (leadPages ls) fresh b .found ≡ none m = ap (λ (x : Sought). x .found) s in
-    let l : seek U (leadPages ls) fresh b .looks ≡ 0 = ap (λ (x : Sought). x .looks) s in
-    rw (e, rounds, f, rounds) (ap (λ (k : ℕ). counted 1 k [] nothing) l)
+    let s = seek-past f U (leadPages ls) b h in
+    let g : seek f U (leadPages ls) fresh b .found ≡ none m = ap (λ (x : Sought). x .found) s in
+    let l : seek f U (leadPages ls) fresh b .looks ≡ 0 = ap (λ (x : Sought). x .looks) s in
+    rw (e, rounds, g, rounds) (ap (λ (k : ℕ). counted 1 k [] nothing) l)
 
 -- ---- the rule on the lists ls, from a bound on until r pages are listed
 
-module _ (U : ℕ) (ls : List (List ℕ)) (some : 0 < length ls) (r : Rise U ls) where
+module _ (v U : ℕ) (ls : List (List ℕ)) (some : 0 < length ls) (r : Rise U ls) where
   picked : Pick ls (leadPages ls) (otherPages ls)
   picked = lead-picked ls some
 
-  pub lead-ready : (b : ℕ) → Ready U b (freshLead ls)
+  pub lead-ready : (b : ℕ) → Ready U b (freshLead v U ls)
   unfolding freshLead
-  lead-ready b = fresh-ready U b (leadPages ls) (pick-rise U picked r .0)
+  lead-ready b = reader-ready v U b (leadPages ls) (pick-rise U picked r .0)
 
-  pub others-ready : (b : ℕ) → AllReady U b (freshOthers ls)
+  pub others-ready : (b : ℕ) → AllReady U b (freshOthers v U ls)
   unfolding freshOthers
-  others-ready b = readers-ready U b (otherPages ls) (pick-rise U picked r .1)
+  others-ready b = readers-ready v U b (otherPages ls) (pick-rise U picked r .1)
 
   -- the pages rise below U
   pub common-rises : rising 0 U (commonPages ls) ≡ true
@@ -174,36 +186,39 @@ module _ (U : ℕ) (ls : List (List ℕ)) (some : 0 < length ls) (r : Rise U ls)
       (shared-rising (otherPages ls) 0 U (leadPages ls) (pick-rise U picked r .0))
 
   module _ (b n : ℕ) where
-    tallied : Tallied U b n (freshLead ls) (freshOthers ls) (reachedBy U (freshLead ls ∷ freshOthers ls))
-        (commonFrom U ls b n)
-    tallied = rw (common-from U ls b n)
-        (rounds-tallied U (freshLead ls) (freshOthers ls) b (lead-ready b) (others-ready b) n)
+    tallied : Tallied U b n (freshLead v U ls) (freshOthers v U ls) (reachedBy U (freshLead v U ls ∷ freshOthers v U ls))
+        (commonFrom v U ls b n)
+    tallied = rw (common-from v U ls b n)
+        (rounds-tallied U (freshLead v U ls) (freshOthers v U ls) b (lead-ready b) (others-ready b) n)
 
     -- what the lead shares with the others is what all lists share
-    pub lead-shares : sharedFrom b (freshLead ls) (freshOthers ls) ≡ atLeast b (commonPages ls)
-    unfolding freshLead freshOthers
+    pub lead-shares : sharedFrom b (freshLead v U ls) (freshOthers v U ls) ≡ atLeast b (commonPages ls)
+    unfolding freshLead freshOthers reader
     lead-shares =
-        rw (readers-pages (otherPages ls)) (shared-from (otherPages ls) b (leadPages ls))
+        rw (readers-pages v U (otherPages ls)) (shared-from (otherPages ls) b (leadPages ls))
         ∙ ap (atLeast b) (pick-common U ls (leadPages ls) (otherPages ls) some picked r)
 
-    pub from-listed : commonFrom U ls b n .listed ≡ take n (atLeast b (commonPages ls))
+    pub from-listed : commonFrom v U ls b n .listed ≡ take n (atLeast b (commonPages ls))
     from-listed = tallied .listed ∙ ap (take n) lead-shares
 
     -- at most k * m + 1 for every list's length m, so for the shortest
-    pub from-seeks : (j : ℕ) → j < length ls → commonFrom U ls b n .seeks ≤ length ls * length (getD ls j []) + 1
-    unfolding freshLead freshOthers
+    pub from-seeks : (j : ℕ) → j < length ls → commonFrom v U ls b n .seeks ≤ length ls * length (getD ls j []) + 1
+    unfolding freshLead freshOthers reader
     from-seeks j h =
-        let k : 1 + length (freshOthers ls) ≡ length ls =
-        ap (λ (n : ℕ). 1 + n) (sym (length-pages (freshOthers ls)) ∙ ap length (readers-pages (otherPages ls)))
+        let k : 1 + length (freshOthers v U ls) ≡ length ls =
+        ap (λ (n : ℕ). 1 + n) (sym (length-pages (freshOthers v U ls)) ∙ ap length (readers-pages v U (otherPages ls)))
         ∙ pick-length picked in
-        let m : leftIn b (freshLead ls) ≤ length (getD ls j []) =
+        let m : leftIn b (freshLead v U ls) ≤ length (getD ls j []) =
         le-trans (from-le b (leadPages ls)) (unfold leadPages in lead-leads ls some .least j h) in
         omega (arith, rw k at (tallied .seeks), mul-le-mul-left (length ls) m)
 
+    fresh-words : wordsOf U (freshLead v U ls ∷ freshOthers v U ls) ≡ wordsIn v U ls
+    unfolding freshLead freshOthers readersOf
+    fresh-words = readers-words v U (leadPages ls ∷ otherPages ls) ∙ pick-words v U picked
+
     -- a list's words count as often as it is named
-    pub from-looks : commonFrom U ls b n .looks ≤ commonFrom U ls b n .seeks + wordsOf U ls
-    unfolding freshLead freshOthers
-    from-looks = omega (arith, rw (readers-pages (otherPages ls), pick-words U picked) at (tallied .looks))
+    pub from-looks : commonFrom v U ls b n .looks ≤ commonFrom v U ls b n .seeks + wordsIn v U ls
+    from-looks = omega (arith, fresh-words, tallied .looks)
 
   -- ---- common pages
 
@@ -212,17 +227,17 @@ module _ (U : ℕ) (ls : List (List ℕ)) (some : 0 < length ls) (r : Rise U ls)
   common-few =
       rw (← pick-common U ls (leadPages ls) (otherPages ls) some picked r) (shared-le (otherPages ls) (leadPages ls))
 
-  pub common-listed : common U ls .listed ≡ commonPages ls
+  pub common-listed : common v U ls .listed ≡ commonPages ls
   unfolding common
   common-listed =
       from-listed 0 (length (leadPages ls) + 1)
       ∙ rw (from-zero (commonPages ls))
       (take-all (length (leadPages ls) + 1) (commonPages ls) (omega (arith, common-few)))
 
-  pub common-seeks : (j : ℕ) → j < length ls → common U ls .seeks ≤ length ls * length (getD ls j []) + 1
+  pub common-seeks : (j : ℕ) → j < length ls → common v U ls .seeks ≤ length ls * length (getD ls j []) + 1
   unfolding common
   common-seeks = from-seeks 0 (length (leadPages ls) + 1)
 
-  pub common-looks : common U ls .looks ≤ common U ls .seeks + wordsOf U ls
+  pub common-looks : common v U ls .looks ≤ common v U ls .seeks + wordsIn v U ls
   unfolding common
   common-looks = from-looks 0 (length (leadPages ls) + 1)

@@ -8,7 +8,7 @@ use native.Mathlib.Numerals.{add-one}
 use native.Mathlib.Omega.{arith}
 use lib.ListN.{length}
 use Rattle.rules.specs.Seek.{Found, none, page}
-use Rattle.rules.specs.Common.{Reader, Tally, Ended, agreed, exhausted, larger}
+use Rattle.rules.specs.Common.{movedBy, Reader, Tally, Ended, agreed, exhausted, larger}
 use Rattle.rules.specs.Common.{stopped, agree, counted, nothing, rounds}
 use Rattle.commonlaws.specs.Readers.{Ready, AllReady, leftIn}
 use Rattle.commonlaws.specs.Next.{Turn, over, again, hit, Turned, turnOf, behindLead, turned}
@@ -45,11 +45,11 @@ module _ (f U : ℕ) (lead : Reader) (others : List Reader) (b : ℕ) where
       go (page c i) e = rw (turned-page U b lead others c i e) (ends (agree U c others .ended) refl)
         where
           ends : (d : Ended) → agree U c others .ended ≡ d
-              → rounds (suc f) (suc r) U lead others b ≡ roundsOn f U (behindLead (lead .pages) (this U b lead others)
+              → rounds (suc f) (suc r) U lead others b ≡ roundsOn f U (behindLead lead (this U b lead others)
               (turnOf c i (agree U c others .ended)) (agree U c others)) (suc r)
-          ends agreed q = unfold rounds roundsOn roundsBy behindLead turnOf in rw (q, e, rounds, q, rounds)
-          ends exhausted q = unfold rounds roundsOn roundsBy behindLead turnOf in rw (q, e, rounds, q, rounds)
-          ends (larger d) q = unfold rounds roundsOn roundsBy behindLead turnOf in rw (q, e, rounds, q, rounds)
+          ends agreed q = unfold rounds roundsOn roundsBy behindLead movedBy turnOf in rw (q, e, rounds, q, rounds)
+          ends exhausted q = unfold rounds roundsOn roundsBy behindLead movedBy turnOf in rw (q, e, rounds, q, rounds)
+          ends (larger d) q = unfold rounds roundsOn roundsBy behindLead movedBy turnOf in rw (q, e, rounds, q, rounds)
 
   rounds-on : (r : ℕ) → rounds (suc f) r U lead others b ≡ roundsOn f U (turned U lead others b) r
   unfolding rounds roundsOn roundsBy

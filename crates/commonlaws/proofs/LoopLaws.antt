@@ -4,8 +4,8 @@ use mathlib.Core.List.{List, [], _∷_, _++_, append-assoc, append-nil}
 use Prim.Native.Nat.{ℕ, _+_, _≤_, _<_}
 use native.Mathlib.Nat.{add-zero, add-assoc, add-comm}
 use lib.ListN.{length}
-use Rattle.rules.specs.Seek.{none, page, Sought, seek}
-use Rattle.rules.specs.Common.{Reader, Round, before, stopped, agree}
+use Rattle.rules.specs.Seek.{none, page, Sought}
+use Rattle.rules.specs.Common.{movedBy, seekBy, Reader, Round, before, stopped, agree}
 use Rattle.commonlaws.specs.Readers.{Ready, AllReady, moved}
 use Rattle.commonlaws.specs.Next.{Turn, over, again, hit, Turned, turnOf, behindLead, Next}
 use Rattle.commonlaws.specs.Next.{ending, stop, plus, nextBy, nextCommon, midTurn, midway}
@@ -30,12 +30,12 @@ nextBy-more s l go t (again d) = unfold nextBy in sym (plus-plus s l (t .seeks) 
 
 module _ (U : ℕ) (lead : Reader) (others : List Reader) (b : ℕ) (k : Ready U b lead) (a : AllReady U b others) where
   abbrev first : Sought
-  first = seek U (lead .pages) (lead .cursor) b
+  first = seekBy U lead b
 
   pub next-none : (m : ℕ) → first .found ≡ none m → nextCommon U lead others b
       ≡ plus 1 (first .looks) (stop (none (length (lead .pages))) (moved U b lead) others)
   next-none m e = next-turn U lead others b k a
-      ∙ rw (turned-none U b lead others m e) (unfold nextBy behindLead ending stopped plus stop moved in refl)
+      ∙ rw (turned-none U b lead others m e) (unfold nextBy behindLead ending stopped plus stop moved movedBy in refl)
 
   pub next-page : (c i : ℕ) → first .found ≡ page c i
       → nextCommon U lead others b ≡ plus 1 (first .looks) (midway U (moved U b lead) c i [] others)
@@ -52,7 +52,7 @@ module _ (U : ℕ) (lead : Reader) (c i : ℕ) (done : List Reader) where
 
   module _ (r : Reader) (rest : List Reader) where
     abbrev this : Sought
-    this = seek U (r .pages) (r .cursor) c
+    this = seekBy U r c
 
     pub midway-none : (m : ℕ) → this .found ≡ none m → midway U lead c i done (r ∷ rest)
         ≡ plus 1 (this .looks) (stop (none (length (lead .pages))) lead (done ++ moved U c r ∷ rest))
@@ -66,7 +66,7 @@ module _ (U : ℕ) (lead : Reader) (c i : ℕ) (done : List Reader) where
         ap (λ (n : ℕ). plus 1 n (nextCommon U lead (done ++ moved U c r ∷ rest) d)) (add-zero (this .looks)))
 
     -- a round with one seek more is a turn with one seek more
-    mid-before : (n : Round) → midTurn lead c i done (before (r .pages) this n)
+    mid-before : (n : Round) → midTurn lead c i done (before r this n)
         ≡ more 1 (this .looks) (midTurn lead c i (done ++ moved U c r ∷ []) n)
     unfolding midTurn before moved
     mid-before n = rw (append-assoc, add-comm (n .seeks) 1)

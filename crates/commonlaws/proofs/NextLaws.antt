@@ -57,8 +57,9 @@ carried-then : (U : ℕ) (lead : Reader) (others : List Reader) (lead′ : Reade
 carried-then U lead others lead′ others′ lead″ others″ s l s′ l′ c d = record {
   lead-pages = d .lead-pages ∙ c .lead-pages;
   pages = d .pages ∙ c .pages;
+  words = d .words ∙ c .words;
   paid = omega (arith, c .paid, d .paid);
-  reach = rw (c .lead-pages, c .pages) at (d .reach);
+  reach = omega (arith, c .words, d .reach);
 }
 
 -- ---- the next page

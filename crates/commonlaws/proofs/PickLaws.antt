@@ -13,7 +13,7 @@ use lib.Seq.{getD-drop, drop-drop}
 use Rattle.rules.specs.List.{rising}
 use Rattle.rules.specs.Common.{leadFrom, leadOf, leadPages, otherPages}
 use Rattle.rules.specs.Plain.{member, inAll}
-use Rattle.commonlaws.specs.Readers.{Rise, wordsOf, Leads}
+use Rattle.commonlaws.specs.Readers.{Rise, wordsIn, Leads}
 
 -- ---- the shortest list, the first of equals
 
@@ -83,10 +83,10 @@ pick-inAll x here = refl
 pick-inAll x (there {l = l} {p = p} {rest = rest} k) =
     swap (member x p) (member x l) (inAll x rest) ∙ ap (λ (b : Bool). member x l && b) (pick-inAll x k)
 
-pub pick-words : (U : ℕ) {ls rest : List (List ℕ)} {p : List ℕ} → Pick ls p rest → wordsOf U (p ∷ rest) ≡ wordsOf U ls
-unfolding wordsOf
-pick-words U here = refl
-pick-words U (there k) = omega (arith, pick-words U k)
+pub pick-words : (v U : ℕ) {ls rest : List (List ℕ)} {p : List ℕ} → Pick ls p rest → wordsIn v U (p ∷ rest) ≡ wordsIn v U ls
+unfolding wordsIn
+pick-words v U here = refl
+pick-words v U (there k) = omega (arith, pick-words v U k)
 
 pub pick-length : {ls rest : List (List ℕ)} {p : List ℕ} → Pick ls p rest → 1 + length rest ≡ length ls
 pick-length here = omega arith

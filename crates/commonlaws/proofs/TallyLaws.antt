@@ -25,7 +25,7 @@ module _ (U : ℕ) where
   carried-tally b r lead others lead′ others′ s l reach t w m = record {
     listed = rw (w .lead-pages, w .pages) at (m .listed);
     seeks = rw (w .lead-pages, same-length U lead others lead′ others′ (w .lead-pages) (w .pages)) at (m .seeks);
-    looks = rw (w .lead-pages, w .pages) at (m .looks);
+    looks = omega (arith, w .words, m .looks);
   }
 
   tally-step : (lead : Reader) (others : List Reader) (b : ℕ) → Ready U b lead → AllReady U b others
@@ -52,7 +52,7 @@ module _ (U : ℕ) where
       go e o ih zero = unfold roundsBy nothing in record {
         listed = refl;
         seeks = omega arith;
-        looks = unfold pagesOf in omega (arith, reached-words U b (lead ∷ others) (k, a));
+        looks = omega (arith, reached-words U b (lead ∷ others) (k, a));
       }
       go over o ih (suc n) = unfold roundsBy counted nothing in record {
         listed = ap (take (suc n)) (sym (o .shared));

@@ -6,8 +6,8 @@ use Prim.Native.Nat.{ℕ, _+_, _≤_, _<_}
 use native.Mathlib.Nat.{mul-le-mul-left}
 use native.Mathlib.Omega.{arith}
 use lib.ListN.{length}
-use Rattle.rules.specs.Seek.{Found, none, page, Sought, seek}
-use Rattle.rules.specs.Common.{Reader, Ended, agreed, exhausted, larger, Round, stopped, agree}
+use Rattle.rules.specs.Seek.{Found, none, page, Sought}
+use Rattle.rules.specs.Common.{seekBy, movedBy, Reader, Ended, agreed, exhausted, larger, Round, stopped, agree}
 use Rattle.rules.specs.Plain.{firstFrom, atLeast, sharedBy}
 use Rattle.seeklaws.specs.Cursors.{firstAt}
 use Rattle.seeklaws.proofs.FirstLaws.{firstAt-self, first-found, foundAt-page}
@@ -46,44 +46,46 @@ goes-later U b d lead others t (hit c i) p g h = rw (← h) (record {
   all-ready = g .all-ready (c + 1) (omega arith);
 })
 
-pub reached-words : (U d : ℕ) (rs : List Reader) → AllReady U d rs → reachedBy U rs ≤ wordsOf U (pagesOf rs)
-unfolding reachedBy wordsOf pagesOf
+pub reached-words : (U d : ℕ) (rs : List Reader) → AllReady U d rs → reachedBy U rs ≤ wordsOf U rs
+unfolding reachedBy wordsOf
 reached-words U d [] k = omega arith
 reached-words U d (r ∷ rs) k =
-    omega (arith, reached-le U (r .pages) (k .0 .rises) (r .cursor) (k .0 .placed), reached-words U d rs (k .1))
+    omega (arith, reached-le (r .form) U (r .pages) (k .0 .rises) (r .cursor) (k .0 .placed), reached-words U d rs (k .1))
 
 module _ (U b : ℕ) (lead : Reader) (others : List Reader) where
   abbrev pub this : Sought
-  this = seek U (lead .pages) (lead .cursor) b
+  this = seekBy U lead b
 
   pub turned-none : (m : ℕ) → this .found ≡ none m
-      → turned U lead others b ≡ behindLead (lead .pages) this over (stopped exhausted others)
-  unfolding turned behindLead
+      → turned U lead others b ≡ behindLead lead this over (stopped exhausted others)
+  unfolding turned behindLead movedBy
   turned-none m e = rw (e, turned)
 
   pub turned-page : (c i : ℕ) → this .found ≡ page c i
-      → turned U lead others b ≡ behindLead (lead .pages) this (turnOf c i (agree U c others .ended)) (agree U c others)
-  unfolding turned behindLead
+      → turned U lead others b ≡ behindLead lead this (turnOf c i (agree U c others .ended)) (agree U c others)
+  unfolding turned behindLead movedBy
   turned-page c i e = rw (e, turned)
 
   module _ (k : Ready U b lead) where
     behind-carried : (c : ℕ) (n : Round) → Kept U c others n
         → Carried U lead others (moved U b lead) (n .readers) (1 + n .seeks) (this .looks + n .looks)
-    unfolding moved reachedBy wordsOf
+    unfolding moved reachedBy wordsOf seekBy movedBy
     behind-carried c n m = record {
       lead-pages = refl;
       pages = m .pages;
-      paid = omega (arith, m .looks, looks-step U (lead .pages) (k .rises) (lead .cursor) b (k .placed));
+      words = omega (arith, m .words);
+      paid = omega (arith, m .looks, looks-step (lead .form) U (lead .pages) (k .rises) (lead .cursor) b (k .placed));
       reach = omega (
         arith,
-        reached-le U (lead .pages) (k .rises) (this .cursor)
-            (seek-placed U (lead .pages) (k .rises) (lead .cursor) b (k .placed)),
-        rw (m .pages) at (reached-words U c (n .readers) (m .ready c (omega arith))),
+        reached-le (lead .form) U (lead .pages) (k .rises) (this .cursor)
+            (seek-placed (lead .form) U (lead .pages) (k .rises) (lead .cursor) b (k .placed)),
+        m .words,
+        reached-words U c (n .readers) (m .ready c (omega arith)),
       );
     }
 
     none-goes : (m : ℕ) → this .found ≡ none m
-        → Goes U b lead others (behindLead (lead .pages) this over (stopped exhausted others)) over
+        → Goes U b lead others (behindLead lead this over (stopped exhausted others)) over
     unfolding behindLead stopped sharedBy
     none-goes m e = record {
       shared = ap (sharedBy (pagesOf others))
@@ -99,7 +101,7 @@ module _ (U b : ℕ) (lead : Reader) (others : List Reader) where
           rw (f .0, f .2) at (from-first 0 U (lead .pages) (k .rises) b (rw (f .0) (f .1)))
 
       page-goes : (d : Ended) → Says c (pagesOf others) (n .readers) d
-          → Goes U b lead others (behindLead (lead .pages) this (turnOf c i d) n) (turnOf c i d)
+          → Goes U b lead others (behindLead lead this (turnOf c i d) n) (turnOf c i d)
       unfolding behindLead turnOf
       page-goes exhausted s = record {
         shared = rw begins (shared-no (pagesOf others) c (atLeast (c + 1) (lead .pages)) (s c (omega arith))

@@ -15,7 +15,7 @@
 --   stop f lead others    nothing sought any more
 --   roundsTo U lead others b r  the step rule from the bound b until r pages are listed, with as many seeks of the lead
 --                         as it takes
---   freshLead ls, freshOthers ls  the readers with which the rule begins on the lists ls
+--   freshLead v U ls, freshOthers v U ls  the readers with which the rule begins on the lists ls
 --   roundsBy go t e r     what the rule tallies by a turn, until r pages are listed, where go is what it tallies from a
 --                         bound on
 --   onward U n r          a next page, listed as one of r, and the rule from the page behind it
@@ -25,9 +25,9 @@
 use mathlib.Core.List.{List, [], _∷_, _++_}
 use Prim.Native.Nat.{ℕ, zero, suc, _+_}
 use lib.ListN.{length}
-use Rattle.rules.specs.Seek.{fresh, Found, none, page, Sought, seek}
+use Rattle.rules.specs.Seek.{Found, none, page, Sought}
 use Rattle.rules.specs.Common.{Reader, Tally, Ended, agreed, exhausted, larger, Round}
-use Rattle.rules.specs.Common.{stopped, agree, readersOf, counted, nothing, rounds, leadPages, otherPages}
+use Rattle.rules.specs.Common.{stopped, agree, reader, readersOf, seekBy, movedBy, counted, nothing, rounds, leadPages, otherPages}
 use Rattle.rules.specs.Plain.{firstFrom, atLeast, sharedBy}
 
 pub data Turn : Type 0 where
@@ -48,10 +48,10 @@ turnOf c i exhausted = over
 turnOf c i (larger d) = again d
 
 -- a seek of the lead, and a round of the others behind it
-unfoldable pub behindLead : List ℕ → Sought → Turn → Round → Turned
+unfoldable pub behindLead : Reader → Sought → Turn → Round → Turned
 behindLead l s t r = record {
   turn = t;
-  lead = record { pages = l; cursor = s .cursor };
+  lead = movedBy l s;
   others = r .readers;
   seeks = 1 + r .seeks;
   looks = s .looks + r .looks;
@@ -59,10 +59,10 @@ behindLead l s t r = record {
 
 unfoldable pub turned : ℕ → Reader → List Reader → ℕ → Turned
 turned U lead others b =
-    let s : Sought = seek U (lead .pages) (lead .cursor) b in
+    let s : Sought = seekBy U lead b in
     elim (s .found) [
-      | none _ ↦ behindLead (lead .pages) s over (stopped exhausted others)
-      | page c i ↦ behindLead (lead .pages) s (turnOf c i (agree U c others .ended)) (agree U c others)
+      | none _ ↦ behindLead lead s over (stopped exhausted others)
+      | page c i ↦ behindLead lead s (turnOf c i (agree U c others .ended)) (agree U c others)
     ]
 
 pub record Next : Type 0 where
@@ -121,11 +121,11 @@ midway U lead c i done rest =
 unfoldable pub roundsTo : ℕ → Reader → List Reader → ℕ → ℕ → Tally
 roundsTo U lead others b r = rounds (length (lead .pages) + 1) r U lead others b
 
-unfoldable pub freshLead : List (List ℕ) → Reader
-freshLead ls = record { pages = leadPages ls; cursor = fresh }
+unfoldable pub freshLead : ℕ → ℕ → List (List ℕ) → Reader
+freshLead v U ls = reader v U (leadPages ls)
 
-unfoldable pub freshOthers : List (List ℕ) → List Reader
-freshOthers ls = readersOf (otherPages ls)
+unfoldable pub freshOthers : ℕ → ℕ → List (List ℕ) → List Reader
+freshOthers v U ls = readersOf v U (otherPages ls)
 
 unfoldable pub roundsBy : (ℕ → ℕ → Tally) → Turned → Turn → ℕ → Tally
 roundsBy go t e zero = nothing

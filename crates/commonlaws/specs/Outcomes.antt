@@ -22,8 +22,9 @@ pub record Carried (U : ℕ) (lead : Reader) (others : List Reader) (lead′ : R
     (seeks looks : ℕ) : Type 0 where
   pub lead-pages : lead′ .pages ≡ lead .pages
   pub pages : pagesOf others′ ≡ pagesOf others
+  pub words : wordsOf U (lead′ ∷ others′) ≡ wordsOf U (lead ∷ others)
   pub paid : looks + reachedBy U (lead ∷ others) ≤ reachedBy U (lead′ ∷ others′) + seeks
-  pub reach : reachedBy U (lead′ ∷ others′) ≤ wordsOf U (lead .pages ∷ pagesOf others)
+  pub reach : reachedBy U (lead′ ∷ others′) ≤ wordsOf U (lead ∷ others)
 
 pub record Over (b : ℕ) (lead : Reader) (others : List Reader) (seeks : ℕ) : Type 0 where
   pub shared : sharedFrom b lead others ≡ []
@@ -65,4 +66,4 @@ pub record Came (U b : ℕ) (lead : Reader) (others : List Reader) (n : Next) : 
 pub record Tallied (U b r : ℕ) (lead : Reader) (others : List Reader) (reach : ℕ) (t : Tally) : Type 0 where
   pub listed : t .listed ≡ take r (sharedFrom b lead others)
   pub seeks : t .seeks ≤ (1 + length others) * leftIn b lead + 1
-  pub looks : t .looks + reach ≤ t .seeks + wordsOf U (lead .pages ∷ pagesOf others)
+  pub looks : t .looks + reach ≤ t .seeks + wordsOf U (lead ∷ others)

@@ -9,7 +9,8 @@
 --   OnPage c r        the reader's cursor is on the element c
 --   AllOnPage c rs    each of them is
 --   reachedBy U rs    the words that the readers' cursors have reached, in all
---   wordsOf U ls      the words of the lists' upper runs, a list counted as often as it is named
+--   wordsOf U rs      the words of the readers' runs, upper runs or bitmaps, in all
+--   wordsIn v U ls    those of the lists in an index of version v, a list counted as often as it is named
 --   sharedFrom b lead others  the pages at least b that the lead shares with all others
 --   leftIn b r        how many pages at least b the reader's list has
 --   Leads ls l        list number l is the shortest, and the first of equals
@@ -18,9 +19,9 @@ use mathlib.Core.Path.{_≡_}
 use mathlib.Core.List.{List, [], _∷_}
 use Prim.Native.Nat.{ℕ, _+_, _≤_, _<_}
 use lib.ListN.{length, getD}
-use Rattle.rules.specs.List.{rising}
-use Rattle.rules.specs.Seek.{on, upperWords, seek}
-use Rattle.rules.specs.Common.{Reader}
+use Rattle.rules.specs.List.{rising, formOf}
+use Rattle.rules.specs.Seek.{on, upperWords}
+use Rattle.rules.specs.Common.{Reader, seekBy, movedBy}
 use Rattle.rules.specs.Plain.{atLeast, sharedBy}
 use Rattle.seeklaws.specs.Cursors.{Placed, Behind, reached}
 
@@ -42,7 +43,7 @@ AllReady U b [] = Unit {0}
 AllReady U b (r ∷ rs) = Ready U b r × AllReady U b rs
 
 unfoldable pub moved : ℕ → ℕ → Reader → Reader
-moved U b r = record { pages = r .pages; cursor = seek U (r .pages) (r .cursor) b .cursor }
+moved U b r = movedBy r (seekBy U r b)
 
 pub record OnPage (c : ℕ) (r : Reader) : Type 0 where
   pub rank : ℕ
@@ -56,11 +57,15 @@ AllOnPage c (r ∷ rs) = OnPage c r × AllOnPage c rs
 
 unfoldable pub reachedBy : ℕ → List Reader → ℕ
 reachedBy U [] = 0
-reachedBy U (r ∷ rs) = reached U (r .pages) (r .cursor) + reachedBy U rs
+reachedBy U (r ∷ rs) = reached (r .form) U (r .pages) (r .cursor) + reachedBy U rs
 
-unfoldable pub wordsOf : ℕ → List (List ℕ) → ℕ
+unfoldable pub wordsOf : ℕ → List Reader → ℕ
 wordsOf U [] = 0
-wordsOf U (l ∷ ls) = upperWords U l + wordsOf U ls
+wordsOf U (r ∷ rs) = upperWords (r .form) U (r .pages) + wordsOf U rs
+
+unfoldable pub wordsIn : ℕ → ℕ → List (List ℕ) → ℕ
+wordsIn v U [] = 0
+wordsIn v U (l ∷ ls) = upperWords (formOf v U (length l)) U l + wordsIn v U ls
 
 abbrev pub sharedFrom : ℕ → Reader → List Reader → List ℕ
 sharedFrom b lead others = sharedBy (pagesOf others) (atLeast b (lead .pages))

@@ -30,11 +30,11 @@ use Rattle.demands.proofs.BadLaws.{tests-bad}
 -- ---- the answers that fit
 
 module _ (a : List ℕ) (rest : List (List ℕ)) (n : ℕ) where
-  fitting-yes : length a ≤ n → fitting n (a ∷ rest) ≡ a ∷ fitting (n - length a) rest
+  pub fitting-yes : length a ≤ n → fitting n (a ∷ rest) ≡ a ∷ fitting (n - length a) rest
   unfolding fitting
   fitting-yes h = rw (le-leb (length a) n h, fitting)
 
-  fitting-no : n < length a → fitting n (a ∷ rest) ≡ []
+  pub fitting-no : n < length a → fitting n (a ∷ rest) ≡ []
   unfolding fitting
   fitting-no h = rw (lt-leb (length a) n h, fitting)
 
@@ -90,7 +90,7 @@ module _ (s qs : List ℕ) (n : ℕ) where
   unfolding reply
   reply-question a w = rw (a, w)
 
-  reply-passed : Passes → reply s qs n ≡ fitted n given
+  pub reply-passed : Passes → reply s qs n ≡ fitted n given
   unfolding reply
   reply-passed p = rw (true-accepted (indexRefusal s) (p .0), p .1)
 

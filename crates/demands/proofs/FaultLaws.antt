@@ -5,6 +5,7 @@ use mathlib.Core.Logic.{_↔_, _⊎_, inl, inr}
 use mathlib.Core.Path.{_≡_, refl, sym, ap, _∙_}
 use mathlib.Core.List.{List, [], _∷_}
 use Prim.Native.Nat.{ℕ, zero, suc, _+_, _≤_, _<_}
+use native.Mathlib.Decide.{decLt}
 use native.Mathlib.Omega.{arith}
 use borrow.Author.Tests.{ltb-true, ltb-false, leb-false, not-true, not-false}
 use lib.Dec.{ltb, leb, eqb}
@@ -13,22 +14,40 @@ use lib.Seq.{drop-drop}
 use Rattle.rules.specs.declared.Refusal.{Refusal}
 use Rattle.rules.specs.declared.Refusal.the-variants.{Room}
 use Rattle.rules.specs.Refusal.{number}
-use Rattle.rules.specs.Limits.{limit}
+use Rattle.rules.specs.Limits.{limit, lastEdition, upTo}
 use Rattle.rules.specs.List.{rising, validList, block}
 use Rattle.rules.specs.Write.{Made, refused, stored, writeList}
 use Rattle.rules.specs.Term.{Word, total, next, places, positive, inOrder, inOrderByPage, validWord, termBlock}
 use Rattle.rules.specs.Term.{writeTerm}
 use Rattle.rules.specs.Questions.{allBelow}
+use Rattle.laws.proofs.HeadLaws.{upTo-parts, upTo-known}
 use Rattle.listlaws.proofs.RisingLaws.{and-parts, and-assoc}
 use Rattle.listlaws.proofs.ValidLaws.{valid-parts, valid-from}
 use Rattle.termlaws.proofs.OrderLaws.{order-parts}
-use Rattle.demands.specs.Faults.{OutOfOrder, NotBelow, ZeroCount, onPage, PlacesDisorder}
+use Rattle.demands.specs.Faults.{Unknown, OutOfOrder, NotBelow, ZeroCount, onPage, PlacesDisorder}
 use Rattle.demands.specs.Sentences.{Sentence, _when_, First, listWriting, termWriting}
 use Rattle.demands.proofs.FirstLaws.{Tests, tests-lt, tests-differ, first-end, first-test, first-and}
 
 -- a test that finds no fault, and what it says where it finds one
 pub tests-not : (b : Bool) (P : Type 0) → (b ≡ false → P) → (b ≡ true → P → ⊥) → Tests (not b) P
 tests-not b P f g = (λ e. f (not-true b e), λ e. g (not-false b e))
+
+-- ---- a version
+
+pub tests-unknown : (last v : ℕ) → Tests (not (upTo last v)) (Unknown last v)
+tests-unknown last v = tests-not (upTo last v) (Unknown last v) outside
+    (λ e o.
+    let p = upTo-parts last v e in
+    elim o [ inl h ↦ omega (arith, h, p .0) | inr h ↦ omega (arith, h, p .1) ])
+  where
+    outside : upTo last v ≡ false → Unknown last v
+    outside e = elim (decLt v 1) [
+      | yes h ↦ inl h
+      | no h ↦ elim (decLt last v) [
+        | yes l ↦ inr l
+        | no l ↦ absurd (true≢false (sym (upTo-known last v (omega arith) (omega arith)) ∙ e))
+      ]
+    ]
 
 -- ---- a list in order, and below a bound
 
@@ -199,16 +218,17 @@ module _ (room : List ℕ) where
       (λ b. made (not (allBelow U xs)) _ _ _ _ (tests-below U xs)
       (λ c. stored-first (block U xs)))))
 
-  pub term-writing : (N : ℕ) (t : Word) → First (gives (writeTerm N t room)) (termWriting N t room)
+  pub term-writing : (v N : ℕ) (t : Word) → First (gives (writeTerm v N t room)) (termWriting v N t room)
   unfolding writeTerm validWord
-  term-writing N t =
+  term-writing v N t =
       let xs : List ℕ = t .pages in
       let cs : List ℕ = t .counts in
       let p : Bool = positive cs in
       let s : Bool = eqb (total cs) (length (t .positions)) in
       let o : Bool = inOrderByPage cs (t .positions) in
       rw (rising-both 0 N xs, ← and-assoc (inOrder 0 xs) (allBelow N xs) (p && (s && o)))
-      (made (ltb limit N) _ _ _ _ (tests-lt limit N)
+      (made (not (upTo lastEdition v)) _ _ _ _ (tests-unknown lastEdition v)
+      (λ k. made (ltb limit N) _ _ _ _ (tests-lt limit N)
       (λ a. both (eqb (length xs) (length cs)) _ _ _ _ _ (tests-differ (length xs) (length cs))
       (λ b. both (inOrder 0 xs) _ _ _ _ _ (tests-order xs)
       (λ c. both (allBelow N xs) _ _ _ _ _ (tests-below N xs)
@@ -216,4 +236,4 @@ module _ (room : List ℕ) where
       (λ e. both s _ _ _ _ _ (tests-differ (total cs) (length (t .positions)))
       (λ f. made (not o) _ _ _ _ (tests-places t)
       (λ g. made (ltb limit (next 0 (places t))) _ _ _ _ (tests-lt limit (next 0 (places t)))
-      (λ h. stored-first (termBlock N t))))))))))
+      (λ h. stored-first (termBlock v N t)))))))))))

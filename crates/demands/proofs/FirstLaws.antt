@@ -136,6 +136,11 @@ first-end = refl
 abbrev pub Tests : Bool → Type 0 → Type 0
 Tests b P = (b ≡ true → P) × (b ≡ false → P → ⊥)
 
+-- both hold
+pub tests-both : (a b : Bool) (P Q : Type 0) → Tests a P → Tests b Q → Tests (a && b) (P × Q)
+tests-both true b P Q t u = (λ e. (t .0 refl, u .0 e), λ e x. u .1 e (x .1))
+tests-both false b P Q t u = (λ e. absurd (true≢false (sym e)), λ e x. t .1 refl (x .0))
+
 pub tests-lt : (m n : ℕ) → Tests (ltb m n) (m < n)
 tests-lt m n = (ltb-true m n, λ e h. omega (arith, ltb-false m n e))
 

@@ -9,14 +9,17 @@ use lib.Seq.{length-take-le, drop-append-add, drop-drop}
 use Rattle.rules.specs.declared.Stream.{Stream}
 use Rattle.rules.specs.Bytes.{be, beAt}
 use Rattle.rules.specs.Runs.{wordsFor}
-use Rattle.rules.specs.List.{width, zeros, lower, upper, pointers, lowerAt, upperAt, size}
+use Rattle.rules.specs.List.{width, zeros, lower, upper, pointers, fours, pointer, lowerAt, upperAt, size}
+use Rattle.rules.specs.List.{mapOf, pagesBelow, mapAt, mapSize, Form, twoRuns, bitmap, formSize}
 use Rattle.rules.specs.Write.{laid}
 use Rattle.rules.specs.Term.{Word, sums, placed}
-use Rattle.rules.specs.InPlace.{from, withOnes, numberOf, added, pointed}
-use Rattle.rules.specs.Stream.{countsAt, positionsAt, streamSize, addedWord, sizeOf, pointedWord}
+use Rattle.rules.specs.InPlace.{from, withOnes, numberOf, added, pointed, mapAdded, mapNumbered}
+use Rattle.rules.specs.InPlace.{formAdded, formPointed}
+use Rattle.rules.specs.Stream.{countsAt, positionsAt, streamSize, streamForm, secondAt, thirdAt, addedWord, sizeOf}
+use Rattle.rules.specs.Stream.{pointedWord}
 use Rattle.laws.proofs.ByteLaws.{length-be}
 use Rattle.laws.proofs.RoomLaws.{length-laid, drop-laid}
-use Rattle.listlaws.proofs.AfterLaws.{length-pointers}
+use Rattle.listlaws.proofs.AfterLaws.{length-fours}
 use Rattle.demands.specs.Streams.{Kept}
 
 -- ---- changes within the first n bytes
@@ -94,21 +97,38 @@ kept-pointed U (suc m) s h =
     let Z : ℕ = zeros U w in
     let u : ℕ = numberOf (wordsFor (n + Z)) (drop (upperAt U n w) s) in
     let b : List ℕ = pointers (n + Z) u 1 (Z / 256) in
-    let l : length b ≡ 4 * (Z / 256) = length-pointers (n + Z) u 1 (Z / 256) in
+    let l : length b ≡ 4 * (Z / 256) = length-fours (pointer (n + Z) u) 1 (Z / 256) in
     kept-from 13 (4 * (Z / 256)) (size U n) (laid b) (λ d k. kept-laid (4 * (Z / 256)) b d l k) (omega arith) s h
+
+-- in either form
+kept-formed : (f : Form) (U n i : ℕ) (xs s : List ℕ) → formSize f U n ≤ length s
+    → Kept (formSize f U n) s (formAdded f U n i xs s)
+kept-formed twoRuns U n i xs s h = kept-added U n i xs s h
+kept-formed bitmap U n i xs s h = unfold mapAdded mapSize in
+    kept-from (mapAt U) (8 * wordsFor U) (mapAt U + 8 * wordsFor U) (withOnes (wordsFor U) (mapOf xs))
+    (kept-ones (wordsFor U) (mapOf xs)) (omega arith) s (unfold mapSize in h)
+
+kept-finished : (f : Form) (U n : ℕ) (s : List ℕ) → formSize f U n ≤ length s
+    → Kept (formSize f U n) s (formPointed f U n s)
+kept-finished twoRuns U n s h = kept-pointed U n s h
+kept-finished bitmap U n s h = unfold mapNumbered mapSize mapAt in
+    let u : ℕ = numberOf (wordsFor U) (drop (mapAt U) s) in
+    let b : List ℕ = fours (pagesBelow u) 1 (U / 256) in
+    kept-from 13 (4 * (U / 256)) (mapSize U) (laid b)
+    (λ d k. kept-laid (4 * (U / 256)) b d (length-fours (pagesBelow u) 1 (U / 256)) k) (omega arith) s h
 
 -- ---- a word
 
 module _ (s : Stream) where
   -- three changes, each in one of its lists
-  kept-lists : (f g h : List ℕ → List ℕ) → Inside (size (s .n) (s .pages)) f
+  kept-lists : (f g h : List ℕ → List ℕ) → Inside (formSize (streamForm s) (s .n) (s .pages)) f
       → Inside (size (s .positions) (s .pages)) g → Inside (size (s .u) (s .positions)) h
       → (room : List ℕ) → sizeOf s ≤ length room
       → Kept (sizeOf s) room
-      (from (positionsAt (s .n) (s .pages) (s .positions)) h (from (countsAt (s .n) (s .pages)) g (from 5 f room)))
-  unfolding sizeOf streamSize positionsAt countsAt
+      (from (thirdAt s) h (from (secondAt s) g (from 5 f room)))
+  unfolding sizeOf streamSize secondAt thirdAt positionsAt countsAt streamForm
   kept-lists f g h kf kg kh room l =
-      let p : ℕ = size (s .n) (s .pages) in
+      let p : ℕ = formSize (streamForm s) (s .n) (s .pages) in
       let q : ℕ = size (s .positions) (s .pages) in
       let u : ℕ = size (s .u) (s .positions) in
       let e : ℕ = 5 + p + q + u in
@@ -123,10 +143,10 @@ module _ (s : Stream) where
   unfolding addedWord
   kept-word t room l =
       kept-lists
-      (added (s .n) (s .pages) (s .laid) (t .pages))
+      (formAdded (streamForm s) (s .n) (s .pages) (s .laid) (t .pages))
       (added (s .positions) (s .pages) (s .laid) (sums (s .filled) (t .counts)))
       (added (s .u) (s .positions) (s .filled) (placed (s .base) (t .counts) (t .positions)))
-      (kept-added (s .n) (s .pages) (s .laid) (t .pages))
+      (kept-formed (streamForm s) (s .n) (s .pages) (s .laid) (t .pages))
       (kept-added (s .positions) (s .pages) (s .laid) (sums (s .filled) (t .counts)))
       (kept-added (s .u) (s .positions) (s .filled) (placed (s .base) (t .counts) (t .positions)))
       room l
@@ -134,6 +154,11 @@ module _ (s : Stream) where
   pub kept-close : (room : List ℕ) → sizeOf s ≤ length room → Kept (sizeOf s) room (pointedWord s room)
   unfolding pointedWord
   kept-close room l =
-      kept-lists (pointed (s .n) (s .pages)) (pointed (s .positions) (s .pages)) (pointed (s .u) (s .positions))
-      (kept-pointed (s .n) (s .pages)) (kept-pointed (s .positions) (s .pages)) (kept-pointed (s .u) (s .positions))
+      kept-lists
+      (formPointed (streamForm s) (s .n) (s .pages))
+      (pointed (s .positions) (s .pages))
+      (pointed (s .u) (s .positions))
+      (kept-finished (streamForm s) (s .n) (s .pages))
+      (kept-pointed (s .positions) (s .pages))
+      (kept-pointed (s .u) (s .positions))
       room l

@@ -12,9 +12,9 @@ use lib.Dec.{ltb}
 use lib.ListN.{length, getD, replicate}
 use Rattle.rules.specs.Limits.{limit}
 use Rattle.rules.specs.Runs.{wordsFor}
-use Rattle.rules.specs.List.{rising, zeros}
+use Rattle.rules.specs.List.{rising, zeros, Form, twoRuns, bitmap, formOf}
 use Rattle.rules.specs.Term.{Word}
-use Rattle.rules.specs.Index.{card, validCard, indexN, indexT, wordOf}
+use Rattle.rules.specs.Index.{card, validCard, indexV, indexN, indexT, wordOf}
 use Rattle.rules.specs.Seek.{widthOf, bitsOf, upperWords}
 use Rattle.rules.specs.Common.{Tally, leadPages, commonFrom, common}
 use Rattle.rules.specs.Plain.{commonPages}
@@ -23,10 +23,12 @@ use Rattle.rules.specs.Questions.{wordsGood, goodQuestion, replies}
 use Rattle.listlaws.proofs.RisingLaws.{and-parts, rising-length}
 use Rattle.termlaws.proofs.WordLaws.{valid-agreeing}
 use Rattle.cardlaws.proofs.PassedLaws.{card-valid}
-use Rattle.cardlaws.proofs.CardLaws.{card-N, card-T}
+use Rattle.cardlaws.proofs.CardLaws.{card-V, card-N, card-T}
 use Rattle.cardlaws.proofs.Theorems.{card-accepted, card-wordOf, accepted-word}
-use Rattle.commonlaws.specs.Readers.{Rise, wordsOf}
+use Rattle.commonlaws.specs.Readers.{Rise}
+use Rattle.commonlaws.specs.Readers as readers
 use Rattle.commonlaws.proofs.CommonLaws as laws
+use Rattle.formlaws.proofs.Theorems.{forms-from, forms-common}
 use Rattle.questions.specs.Formed.{answersTo}
 use Rattle.questions.proofs.FrontLaws.{answers-front}
 use Rattle.offsets.proofs.PairLaws.{phrase-parts}
@@ -49,21 +51,24 @@ unfolding pagesNamed
 length-lists ts [] = refl
 length-lists ts (t ∷ terms) = ap suc (length-lists ts terms)
 
-module _ (N : ℕ) (ts : List Word) (v : validCard N ts ≡ true) where
-  pub states-N : indexN (card N ts) ≡ N
-  states-N = card-N N ts (card-valid N ts v)
+module _ (ver N : ℕ) (ts : List Word) (v : validCard ver N ts ≡ true) where
+  pub states-V : indexV (card ver N ts) ≡ ver
+  states-V = card-V ver N ts (card-valid ver N ts v)
 
-  pub states-T : indexT (card N ts) ≡ length ts
-  states-T = card-T N ts (card-valid N ts v)
+  pub states-N : indexN (card ver N ts) ≡ N
+  states-N = card-N ver N ts (card-valid ver N ts v)
 
-  holds-word : (t : ℕ) → t < length ts → wordOf t (card N ts) ≡ wordAt ts t
-  holds-word t h = card-wordOf N ts v _ t h
+  pub states-T : indexT (card ver N ts) ≡ length ts
+  states-T = card-T ver N ts (card-valid ver N ts v)
 
-  holds-pages : (t : ℕ) → t < length ts → pagesIn (card N ts) t ≡ pagesAt ts t
+  holds-word : (t : ℕ) → t < length ts → wordOf t (card ver N ts) ≡ wordAt ts t
+  holds-word t h = card-wordOf ver N ts v _ t h
+
+  holds-pages : (t : ℕ) → t < length ts → pagesIn (card ver N ts) t ≡ pagesAt ts t
   unfolding pagesIn
   holds-pages t h = ap (λ (w : Word). w .pages) (holds-word t h)
 
-  holds-words : (terms : List ℕ) → allBelow (length ts) terms ≡ true → wordsIn (card N ts) terms ≡ named ts terms
+  holds-words : (terms : List ℕ) → allBelow (length ts) terms ≡ true → wordsIn (card ver N ts) terms ≡ named ts terms
   unfolding wordsIn named
   holds-words [] b = refl
   holds-words (t ∷ terms) b =
@@ -71,7 +76,7 @@ module _ (N : ℕ) (ts : List Word) (v : validCard N ts ≡ true) where
       rw (holds-word t (p .0), holds-words terms (p .1))
 
   pub holds-lists : (terms : List ℕ) → allBelow (length ts) terms ≡ true
-      → listsIn (card N ts) terms ≡ pagesNamed ts terms
+      → listsIn (card ver N ts) terms ≡ pagesNamed ts terms
   unfolding listsIn pagesNamed
   holds-lists [] b = refl
   holds-lists (t ∷ terms) b =
@@ -80,7 +85,7 @@ module _ (N : ℕ) (ts : List Word) (v : validCard N ts ≡ true) where
 
   pub pages-rise : (t : ℕ) → t < length ts → rising 0 N (pagesAt ts t) ≡ true
   pages-rise t h =
-      let w = accepted-word (card N ts) (card-accepted N ts v) t (rw states-T h) in
+      let w = accepted-word (card ver N ts) (card-accepted ver N ts v) t (rw states-T h) in
       valid-agreeing N (wordAt ts t) (rw (states-N, holds-word t h) at (w .valid)) .rises
 
   lists-rise : (terms : List ℕ) → allBelow (length ts) terms ≡ true → Rise N (pagesNamed ts terms)
@@ -93,7 +98,7 @@ module _ (N : ℕ) (ts : List Word) (v : validCard N ts ≡ true) where
   -- ---- the answers
 
   pub plain-answer : (q : Query) → goodQuestion (length ts) (q .kind) (q .numbers) ≡ true
-      → answer (card N ts) (q .kind) (q .numbers) ≡ plain N ts q
+      → answer (card ver N ts) (q .kind) (q .numbers) ≡ plain ver N ts q
   unfolding answer plain phraseIn
   plain-answer q g =
       elim (ℕ-discrete (q .kind) 1) [
@@ -101,7 +106,7 @@ module _ (N : ℕ) (ts : List Word) (v : validCard N ts ≡ true) where
         | no a ↦ elim (ℕ-discrete (q .kind) 2) [
           | yes e ↦ rw (e, holds-pages (getD (q .numbers) 0 0) (of-pair (omega arith) (omega arith)))
           | no b ↦ elim (ℕ-discrete (q .kind) 3) [
-            | yes e ↦ rw (e, states-N, holds-lists (q .numbers) (of-words e))
+            | yes e ↦ rw (e, states-V, states-N, holds-lists (q .numbers) (of-words e))
             | no c ↦
                 let f = ne-eqb (q .kind) 3 c in
                 rw (ne-eqb (q .kind) 1 a, ne-eqb (q .kind) 2 b, f, holds-words (termsOf (q .numbers)) (of-phrase a b c))
@@ -122,17 +127,18 @@ module _ (N : ℕ) (ts : List Word) (v : validCard N ts ≡ true) where
       of-pair : 0 < q .kind → q .kind < 3 → getD (q .numbers) 0 0 < length ts
       of-pair h k = pair-parts (length ts) (q .numbers) (sym (good-pair (length ts) (q .kind) (q .numbers) h k) ∙ g) .1
 
-  pub plain-answers : (qs : List Query) → Good (length ts) qs → answersTo (card N ts) (written qs) ≡ plainAll N ts qs
+  pub plain-answers : (qs : List Query) → Good (length ts) qs
+      → answersTo (card ver N ts) (written qs) ≡ plainAll ver N ts qs
   unfolding answersTo replies written plainAll
   plain-answers [] g = refl
   plain-answers (q ∷ qs) g =
-      answers-front (card N ts) (written (q ∷ qs)) (front-some q qs)
+      answers-front (card ver N ts) (written (q ∷ qs)) (front-some q qs)
       ∙ rw (front-kind q qs, front-args q qs, front-behind q qs, plain-answer q (g .0), plain-answers qs (g .1))
 
-pub length-plain : (N : ℕ) (ts : List Word) (qs : List Query) → length (plainAll N ts qs) ≡ length qs
+pub length-plain : (ver N : ℕ) (ts : List Word) (qs : List Query) → length (plainAll ver N ts qs) ≡ length qs
 unfolding plainAll
-length-plain N ts [] = refl
-length-plain N ts (q ∷ qs) = ap suc (length-plain N ts qs)
+length-plain ver N ts [] = refl
+length-plain ver N ts (q ∷ qs) = ap suc (length-plain ver N ts qs)
 
 -- one to eight words may be asked in kind 3
 pub may-ask : (T : ℕ) (terms : List ℕ) → 1 ≤ length terms → length terms ≤ 8 → allBelow T terms ≡ true
@@ -142,19 +148,21 @@ may-ask T terms some few below =
     good-words T 3 terms refl ∙ rw (le-leb 1 (length terms) some, le-leb (length terms) 8 few) below
 
 -- an answer with its number in front
-pub common-told : (N : ℕ) (ls : List (List ℕ))
-    → byCommon N ls ≡ (length (commonPages ls) + 2) ∷ (common N ls .seeks ∷ (common N ls .looks ∷ commonPages ls))
+pub common-told : (ver N : ℕ) (ls : List (List ℕ))
+    → byCommon ver N ls
+    ≡ (length (commonPages ls) + 2) ∷ (common ver N ls .seeks ∷ (common ver N ls .looks ∷ commonPages ls))
 unfolding byCommon numbered
-common-told N ls =
+common-told ver N ls =
     let e : suc (suc (length (commonPages ls))) ≡ length (commonPages ls) + 2 = omega arith in
     rw e
 
 -- ---- the counts of common pages
 
-pub upper-words : (N : ℕ) (ls : List (List ℕ)) → upperRuns N ls ≡ wordsOf N ls
-unfolding upperRuns wordsOf
-upper-words N [] = refl
-upper-words N (l ∷ ls) = ap (λ (n : ℕ). upperWords N l + n) (upper-words N ls)
+pub upper-words : (ver N : ℕ) (ls : List (List ℕ)) → upperRuns ver N ls ≡ readers.wordsIn ver N ls
+unfolding upperRuns readers.wordsIn
+upper-words ver N [] = refl
+upper-words ver N (l ∷ ls) =
+    ap (λ (n : ℕ). upperWords (formOf ver N (length l)) N l + n) (upper-words ver N ls)
 
 pub named-at : (ts : List Word) (terms : List ℕ) (j : ℕ) → j < length terms
     → getD (pagesNamed ts terms) j [] ≡ pagesAt ts (getD terms j 0)
@@ -164,23 +172,24 @@ named-at ts (t ∷ terms) zero h = refl
 named-at ts (t ∷ terms) (suc j) h = named-at ts terms j (omega arith)
 
 module _ (N : ℕ) (within : N ≤ limit) where
-  run-few : (l : List ℕ) → rising 0 N l ≡ true → upperWords N l ≤ 524289
+  run-few : (f : Form) (l : List ℕ) → rising 0 N l ≡ true → upperWords f N l ≤ 524289
   unfolding upperWords wordsFor bitsOf zeros
-  run-few [] r = omega arith
-  run-few (x ∷ xs) r =
+  run-few f [] r = omega arith
+  run-few twoRuns (x ∷ xs) r =
       omega (arith, rising-length 0 N (x ∷ xs) r (omega arith), div-le-self N (2 ^ widthOf N (x ∷ xs)))
+  run-few bitmap (x ∷ xs) r = omega (arith, within)
 
-  runs-few : (ls : List (List ℕ)) → Rise N ls → upperRuns N ls ≤ length ls * 524289
+  runs-few : (ver : ℕ) (ls : List (List ℕ)) → Rise N ls → upperRuns ver N ls ≤ length ls * 524289
   unfolding upperRuns
-  runs-few [] r = omega arith
-  runs-few (l ∷ ls) r = omega (arith, run-few l (r .0), runs-few ls (r .1))
+  runs-few ver [] r = omega arith
+  runs-few ver (l ∷ ls) r = omega (arith, run-few (formOf ver N (length l)) l (r .0), runs-few ver ls (r .1))
 
 first-below : (ts : List Word) (ns : List ℕ) → 0 < length ns → allBelow (length ts) ns ≡ true
     → getD ns 0 0 < length ts
 first-below ts [] h b = absurd (omega arith)
 first-below ts (t ∷ ns) h b = below-front (length ts) t ns b .0
 
-module _ (N : ℕ) (ts : List Word) (v : validCard N ts ≡ true) (terms : List ℕ) where
+module _ (ver N : ℕ) (ts : List Word) (v : validCard ver N ts ≡ true) (terms : List ℕ) where
   abbrev lists : List (List ℕ)
   lists = pagesNamed ts terms
 
@@ -189,58 +198,66 @@ module _ (N : ℕ) (ts : List Word) (v : validCard N ts ≡ true) (terms : List 
     named-some = rw (length-lists ts terms) some
 
     named-rise : Rise N lists
-    named-rise = lists-rise N ts v terms below
+    named-rise = lists-rise ver N ts v terms below
 
-    pub common-lists : common N lists .listed ≡ commonPages lists
-    common-lists = laws.common-listed N lists named-some named-rise
+    pub common-lists : common ver N lists .listed ≡ commonPages lists
+    common-lists = laws.common-listed ver N lists named-some named-rise
 
     pub common-rise : rising 0 N (commonPages lists) ≡ true
-    common-rise = laws.common-rises N lists named-some named-rise
+    common-rise = laws.common-rises ver N lists named-some named-rise
 
     -- ---- the counts of the rule from b on, until n pages are listed
 
     module _ (b n : ℕ) where
       abbrev tally : Tally
-      tally = commonFrom N lists b n
+      tally = commonFrom ver N lists b n
 
       pub seeks-from : (j : ℕ) → j < length terms
           → tally .seeks ≤ length terms * length (pagesAt ts (getD terms j 0)) + 1
       seeks-from j h =
           let l = length-lists ts terms in
-          let s = laws.from-seeks N lists named-some named-rise b n j (omega arith) in
+          let s = laws.from-seeks ver N lists named-some named-rise b n j (omega arith) in
           rw (l, named-at ts terms j h) at s
 
-      pub looks-from : tally .looks ≤ tally .seeks + upperRuns N lists
-      looks-from = rw (upper-words N lists) (laws.from-looks N lists named-some named-rise b n)
+      pub looks-from : tally .looks ≤ tally .seeks + upperRuns ver N lists
+      looks-from = rw (upper-words ver N lists) (laws.from-looks ver N lists named-some named-rise b n)
 
       pub fit-from : (tally .seeks < 2 ^ 32) × (tally .looks < 2 ^ 32)
       fit-from =
-          let within = card-valid N ts v .within in
+          let within = card-valid ver N ts v .within in
           let pages = pagesAt ts (getD terms 0 0) in
-          let rise = pages-rise N ts v (getD terms 0 0) (first-below ts terms some below) in
+          let rise = pages-rise ver N ts v (getD terms 0 0) (first-below ts terms some below) in
           let short : length pages ≤ limit = omega (arith, rising-length 0 N pages rise (omega arith)) in
           let m : length terms * length pages ≤ length terms * limit = mul-le-mul-left (length terms) short in
           let seeks : tally .seeks ≤ 134217729 = omega (arith, seeks-from 0 some, m) in
-          let runs = runs-few N within lists named-rise in
+          let runs = runs-few N within ver lists named-rise in
           (omega arith, omega (arith, looks-from, length-lists ts terms))
 
     -- ---- those of common pages
 
     pub seeks-most : (j : ℕ) → j < length terms
-        → common N lists .seeks ≤ length terms * length (pagesAt ts (getD terms j 0)) + 1
+        → common ver N lists .seeks ≤ length terms * length (pagesAt ts (getD terms j 0)) + 1
     unfolding common
     seeks-most = seeks-from 0 (length (leadPages lists) + 1)
 
     -- one word, k times over
     pub seeks-same : (t : ℕ) → terms ≡ replicate (length terms) t
-        → common N lists .seeks ≡ length terms * length (pagesAt ts t) + 1
+        → common ver N lists .seeks ≡ length terms * length (pagesAt ts t) + 1
     seeks-same t e =
-        common-same N lists (pagesAt ts t) named-some named-rise (named-same ts t terms e) ∙ rw (length-lists ts terms)
+        common-same N ver lists (pagesAt ts t) named-some named-rise (named-same ts t terms e)
+        ∙ rw (length-lists ts terms)
 
-    pub looks-most : common N lists .looks ≤ common N lists .seeks + upperRuns N lists
+    -- the same in an index of any other version
+    pub from-same : (z b n : ℕ) → commonFrom ver N lists b n .seeks ≡ commonFrom z N lists b n .seeks
+    from-same z b n = forms-from z ver N lists named-some named-rise b n .0
+
+    pub common-same-seeks : (z : ℕ) → common ver N lists .seeks ≡ common z N lists .seeks
+    common-same-seeks z = forms-common z ver N lists named-some named-rise .0
+
+    pub looks-most : common ver N lists .looks ≤ common ver N lists .seeks + upperRuns ver N lists
     unfolding common
     looks-most = looks-from 0 (length (leadPages lists) + 1)
 
-    pub counts-fit : (common N lists .seeks < 2 ^ 32) × (common N lists .looks < 2 ^ 32)
+    pub counts-fit : (common ver N lists .seeks < 2 ^ 32) × (common ver N lists .looks < 2 ^ 32)
     unfolding common
     counts-fit = fit-from 0 (length (leadPages lists) + 1)

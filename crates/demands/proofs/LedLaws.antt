@@ -34,48 +34,48 @@ use Rattle.demands.proofs.StreamLaws.{told-session, told-room, told-pas
 
 -- ---- under way
 
-pub begun-underway : (N P Q U : ℕ) (before : List ℕ) (r : HostStreamed) (after : List ℕ)
-    → HostTermBegun N P Q U before r after → r .refusal ≡ 0 → Underway N P Q U [] before (r .stream) after
-begun-underway N P Q U before r after p z =
-    let m : Streaming = beginTerm N P Q U before in
+pub begun-underway : (v N P Q U : ℕ) (before : List ℕ) (r : HostStreamed) (after : List ℕ)
+    → HostTermBegun v N P Q U before r after → r .refusal ≡ 0 → Underway v N P Q U [] before (r .stream) after
+begun-underway v N P Q U before r after p z =
+    let m : Streaming = beginTerm v N P Q U before in
     rw (told-session m r after p, told-room m r after p)
-    (underway-begin N P Q U before (told-passed m r after p z))
+    (underway-begin v N P Q U before (told-passed m r after p z))
 
-pub put-underway : (N P Q U : ℕ) (before : List ℕ) (us : List Word) (s : Stream) (room : List ℕ)
-    → Underway N P Q U us before s room → (t : Word) (r : HostStreamed) (after : List ℕ)
+pub put-underway : (v N P Q U : ℕ) (before : List ℕ) (us : List Word) (s : Stream) (room : List ℕ)
+    → Underway v N P Q U us before s room → (t : Word) (r : HostStreamed) (after : List ℕ)
     → HostPostingsPut s t room r after → r .refusal ≡ 0
-    → Underway N P Q U (us ++ (t ∷ [])) before (r .stream) after
-put-underway N P Q U before us s room o t r after p z =
+    → Underway v N P Q U (us ++ (t ∷ [])) before (r .stream) after
+put-underway v N P Q U before us s room o t r after p z =
     let m : Streaming = putPostings s t room in
     rw (told-session m r after p, told-room m r after p)
-    (underway-put N P Q U us before s room o t (told-passed m r after p z))
+    (underway-put v N P Q U us before s room o t (told-passed m r after p z))
 
-handed-underway : (N P Q U : ℕ) (before : List ℕ) (ts us : List Word) (s : Stream) (room : List ℕ) (s' : Stream)
-    (room' : List ℕ) → Underway N P Q U us before s room → Handed s room ts s' room'
-    → Underway N P Q U (us ++ ts) before s' room'
-handed-underway N P Q U before [] us s room s' room' o h = rw (h .0, h .1, append-nil us) o
-handed-underway N P Q U before (t ∷ ts) us s room s' room' o (r, after, p, z, h) =
-    subst (λ (l : List Word). Underway N P Q U l before s' room') (append-assoc us (t ∷ []) ts)
-    (handed-underway N P Q U before ts (us ++ (t ∷ [])) (r .stream) after s' room'
-    (put-underway N P Q U before us s room o t r after p z) h)
+handed-underway : (v N P Q U : ℕ) (before : List ℕ) (ts us : List Word) (s : Stream) (room : List ℕ) (s' : Stream)
+    (room' : List ℕ) → Underway v N P Q U us before s room → Handed s room ts s' room'
+    → Underway v N P Q U (us ++ ts) before s' room'
+handed-underway v N P Q U before [] us s room s' room' o h = rw (h .0, h .1, append-nil us) o
+handed-underway v N P Q U before (t ∷ ts) us s room s' room' o (r, after, p, z, h) =
+    subst (λ (l : List Word). Underway v N P Q U l before s' room') (append-assoc us (t ∷ []) ts)
+    (handed-underway v N P Q U before ts (us ++ (t ∷ [])) (r .stream) after s' room'
+    (put-underway v N P Q U before us s room o t r after p z) h)
 
-pub led-underway : (N P Q U : ℕ) (before : List ℕ) (ts : List Word) (s : Stream) (room : List ℕ)
-    → Led N P Q U before ts s room → Underway N P Q U ts before s room
-led-underway N P Q U before ts s room (r, after, p, z, h) =
-    handed-underway N P Q U before ts [] (r .stream) after s room (begun-underway N P Q U before r after p z) h
+pub led-underway : (v N P Q U : ℕ) (before : List ℕ) (ts : List Word) (s : Stream) (room : List ℕ)
+    → Led v N P Q U before ts s room → Underway v N P Q U ts before s room
+led-underway v N P Q U before ts s room (r, after, p, z, h) =
+    handed-underway v N P Q U before ts [] (r .stream) after s room (begun-underway v N P Q U before r after p z) h
 
 -- ---- to the end of a word
 
-module _ (N P Q U : ℕ) (before : List ℕ) (w : Word) (i : Within N P Q U w) (p : length (w .pages) ≡ P)
+module _ (v N P Q U : ℕ) (before : List ℕ) (w : Word) (i : Within N P Q U w) (p : length (w .pages) ≡ P)
     (q : length (w .positions) ≡ Q) (u : next 0 (places w) ≡ U) where
   -- the runs ts lead from the runs us to the word w
-  pub finishes : (ts us : List Word) (s : Stream) (room : List ℕ) → Underway N P Q U us before s room → Cut ts
+  pub finishes : (ts us : List Word) (s : Stream) (room : List ℕ) → Underway v N P Q U us before s room → Cut ts
       → w ≡ joined (together us) (together ts) → Finishes s room ts
   unfolding together Cut
   finishes [] us s room o c e = λ r after h.
       let f : w ≡ together us = e ∙ joined-none (together us) in
       passed-told (endTerm s room) r after h
-      (end-accepted N P Q U us before s room o (rw f at p) (rw f at q) (rw f at u))
+      (end-accepted v N P Q U us before s room o (rw f at p) (rw f at q) (rw f at u))
   finishes (t ∷ ts) us s room o c e = λ r after h.
       let a : Word = together us in
       let f : w ≡ joined (joined a t) (together ts) = e ∙ sym (joined-assoc a t (together ts)) in
@@ -86,9 +86,9 @@ module _ (N P Q U : ℕ) (before : List ℕ) (w : Word) (i : Within N P Q U w) (
       let k : total (a .counts ++ t .counts) ≡ length (a .positions ++ t .positions) =
       rw (total-append, length-append) (omega (arith, b .summed, c .1)) in
       let d = within-first N P Q U (joined a t) (together ts) (rw f at i) l k in
-      let z = passed-told (putPostings s t room) r after h (put-accepted N P Q U us before s room o t d) in (
+      let z = passed-told (putPostings s t room) r after h (put-accepted v N P Q U us before s room o t d) in (
         z,
-        finishes ts (us ++ (t ∷ [])) (r .stream) after (put-underway N P Q U before us s room o t r after h z) (c .2)
+        finishes ts (us ++ (t ∷ [])) (r .stream) after (put-underway v N P Q U before us s room o t r after h z) (c .2)
             (f ∙ ap (λ (x : Word). joined x (together ts)) (sym (together-snoc us t))),
       )
 
@@ -138,18 +138,18 @@ module _ (N P Q U : ℕ) (w : Word) where
       (tests-fails a (b && c) _ _ (tests-above (length (w .pages)) P)
       (tests-fails b c _ _ (tests-above (length (w .positions)) Q) (tests-above (next 0 (places w)) U)))
 
-module _ (N P Q U : ℕ) (ts : List Word) (before : List ℕ) (s : Stream) (room : List ℕ)
-    (o : Underway N P Q U ts before s room) where
-  pub led-size : sizeOf s ≡ streamSize N P Q U
+module _ (v N P Q U : ℕ) (ts : List Word) (before : List ℕ) (s : Stream) (room : List ℕ)
+    (o : Underway v N P Q U ts before s room) where
+  pub led-size : sizeOf s ≡ streamSize v N P Q U
   unfolding sizeOf
   led-size = rw (o .session)
 
   -- it goes on, and its block has room
   pub led-on : (NotLive s → ⊥) × (sizeOf s ≤ length room)
   led-on =
-      let l : live s ≡ true = ap live (o .session) ∙ reached-live N P Q U (together ts) (o .within) (o .announced) in
-      let b : List ℕ = partlyWord N P Q U (together ts) in
-      let n = length-word N P Q U (together ts) in
+      let l : live s ≡ true = ap live (o .session) ∙ reached-live v N P Q U (together ts) (o .within) (o .announced) in
+      let b : List ℕ = partlyWord v N P Q U (together ts) in
+      let n = length-word v N P Q U (together ts) in
       let e = length-laid b before (omega (arith, n, o .fits)) in
       (tests-live s .1 (ap not l), omega (arith, led-size, o .fits, e, ap length (o .room-is)))
 
@@ -159,10 +159,10 @@ module _ (N P Q U : ℕ) (ts : List Word) (before : List ℕ) (s : Stream) (room
       let w : Word = together ts in
       let e : follows s t ≡ isWithin N P Q U (joined w t) =
       ap (λ (x : Stream). follows x t) (o .session)
-      ∙ both-ways (follows (reached N P Q U w) t) (isWithin N P Q U (joined w t))
-      (λ f. is-within N P Q U (joined w t) (follows-within N P Q U w (o .within) t f))
-      (λ f. within-follows N P Q U w (o .within) t (within-is N P Q U (joined w t) f)) in
+      ∙ both-ways (follows (reached v N P Q U w) t) (isWithin N P Q U (joined w t))
+      (λ f. is-within N P Q U (joined w t) (follows-within v N P Q U w (o .within) t f))
+      (λ f. within-follows v N P Q U w (o .within) t (within-is N P Q U (joined w t) f)) in
       rw (e, together-snoc ts t) (tests-within N P Q U (joined w t))
 
   pub tests-close : Tests (not (complete s)) (OtherTotals P Q U (together ts))
-  tests-close = rw (o .session) (tests-complete (reached N P Q U (together ts)))
+  tests-close = rw (o .session) (tests-complete (reached v N P Q U (together ts)))

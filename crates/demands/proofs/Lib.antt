@@ -5,8 +5,9 @@ pub mod PhraseLaws
 pub mod SameLaws
 pub mod PlainLaws
 pub mod FirstLaws
-pub mod SentenceLaws
 pub mod FaultLaws
+pub mod FormLaws
+pub mod SentenceLaws
 pub mod BadLaws
 pub mod StreamFaultLaws
 pub mod StreamLaws
@@ -17,7 +18,11 @@ pub mod Demands
 pub mod Refusals
 pub mod StreamRefusals
 pub mod StreamSentences
+pub mod SizeLaws
+pub mod SameScreenLaws
 pub mod ScreenSentences
+pub mod FormSentences
 pub mod Witnesses
 pub mod StreamWitnesses
+pub mod FormWitnesses
 pub mod ScreenWitnesses

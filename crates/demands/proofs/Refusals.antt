@@ -51,9 +51,10 @@ pub list-check-first : (s : List ℕ) (r : ℕ) → HostListChecked s r ↔ Firs
 list-check-first s r = checked (listSentences s) (number (listRefusal s)) r (list-first s)
 
 -- "In a container its own 1 to 4, then each part in order with all its checks, then bytes left over (5). A term's own
--- 7 comes after its 5;"
-pub term-check-first : (s : List ℕ) (r : ℕ) → HostTermChecked s r ↔ First r (termSentences s)
-term-check-first s r = checked (termSentences s) (number (termRefusal s)) r (term-first s)
+-- 7 comes after its 5;" and of a list in it "A form in the wrong place .. is 3, given after 4 and after n above U but
+-- before the length is compared".
+pub term-check-first : (v : ℕ) (s : List ℕ) (r : ℕ) → HostTermChecked v s r ↔ First r (termSentences v s)
+term-check-first v s r = checked (termSentences v s) (number (termRefusal v s)) r (term-first v s)
 
 -- "pages U against N is tested when that term has passed. The first one found is the answer."
 pub index-check-first : (s : List ℕ) (r : ℕ) → HostIndexChecked s r ↔ First r (indexSentences s)
@@ -74,19 +75,19 @@ list-write-first U xs room r after p =
 
 -- "Writer of a term ..: 4 if N is over; 10 if lengths disagree, a page is out of order or not below N, a count is 0,
 -- the counts don't sum to the number of positions, or positions are out of order in a page; 4 if the positions' U is
--- over; 9."
-pub term-write-first : (N : ℕ) (t : Word) (room : List ℕ) (r : HostWritten) (after : List ℕ)
-    → HostTermWritten N t room r after → First (r .refusal) (termWriting N t room)
-term-write-first N t room r after p =
-    rw (is-refusal (writeTerm N t room) r after p) (term-writing room N t)
+-- over; 9." And before them, for an unknown version, 3.
+pub term-write-first : (v N : ℕ) (t : Word) (room : List ℕ) (r : HostWritten) (after : List ℕ)
+    → HostTermWritten v N t room r after → First (r .refusal) (termWriting v N t room)
+term-write-first v N t room r after p =
+    rw (is-refusal (writeTerm v N t room) r after p) (term-writing room v N t)
 
 -- "Closing an index: .. 9 if the used length is above the buffer, 1 if it is below 11, 4 if the length doesn't fit
--- four bytes or N or T is over, then the terms as in reading."
-pub close-index-first : (buffer : List ℕ) (used N T : ℕ) (r : HostWritten) (after : List ℕ)
-    → HostIndexClosed buffer used N T r after → First (r .refusal) (closing buffer used N T)
-close-index-first buffer used N T r after p =
-    let e = is-refusal (closeIndex buffer used N T) r after p ∙ ap number (close-gives buffer used N T) in
-    rw e (close-first buffer used N T)
+-- four bytes or N or T is over, then the terms as in reading." And "an unknown one is 3, .. after 9 and 1".
+pub close-index-first : (buffer : List ℕ) (used v N T : ℕ) (r : HostWritten) (after : List ℕ)
+    → HostIndexClosed buffer used v N T r after → First (r .refusal) (closing buffer used v N T)
+close-index-first buffer used v N T r after p =
+    let e = is-refusal (closeIndex buffer used v N T) r after p ∙ ap number (close-gives buffer used v N T) in
+    rw e (close-first buffer used v N T)
 
 -- ---- a run of questions
 

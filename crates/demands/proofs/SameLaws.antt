@@ -7,8 +7,10 @@ use native.Mathlib.Omega.{arith}
 use lib.ListN.{length, getD, drop, replicate}
 use Rattle.rules.specs.Bytes.{same}
 use Rattle.rules.specs.Term.{Word}
-use Rattle.rules.specs.Seek.{Found, none, page, seek, upperWords}
-use Rattle.rules.specs.Common.{Reader, readersOf, agreed, before, stopped, agree, counted, nothing}
+use Rattle.rules.specs.List.{formOf}
+use Rattle.rules.specs.Seek.{Found, none, page, upperWords}
+use Rattle.rules.specs.Common.{Reader, reader, readersOf, seekBy, movedBy, agreed, before, stopped, agree, counted}
+use Rattle.rules.specs.Common.{nothing}
 use Rattle.rules.specs.Common.{leadPages, otherPages, common}
 use Rattle.rules.specs.Plain.{firstFrom, atLeast}
 use Rattle.listlaws.proofs.BlockLaws.{same-refl}
@@ -54,12 +56,12 @@ named-same ts t (x ∷ terms) e =
 -- the others, each sought once for a page that their list holds, agree
 agree-all : (U c i : ℕ) (xs : List ℕ) → firstFrom c 0 xs ≡ page c i → (rs : List Reader) → AllReady U c rs
     → Same xs (pagesOf rs) → (agree U c rs .ended ≡ agreed) × (agree U c rs .seeks ≡ length rs)
-unfolding agree before stopped pagesOf
+unfolding agree before movedBy stopped pagesOf
 agree-all U c i xs f [] k e = (refl, refl)
 agree-all U c i xs f (r ∷ rs) k e =
     let t = agree-all U c i xs f rs (k .1) (same-tail xs (r .pages) (pagesOf rs) e) in
     let h = same-head xs (r .pages) (pagesOf rs) e in
-    let g : seek U (r .pages) (r .cursor) c .found ≡ page c i = seek-plain U c r (k .0) ∙ rw h f in
+    let g : seekBy U r c .found ≡ page c i = seek-plain U c r (k .0) ∙ rw h f in
     let q = agree-same U c r rs c i g (omega arith) in
     rw q (t .0, omega (arith, t .1))
 
@@ -134,38 +136,40 @@ module _ (U : ℕ) where
           go (page c i) e = exact-page lead others b k a c i e s ih n h
 
   -- k · m + 1 seeks where all k lists are one of m pages
-  pub common-same : (ls : List (List ℕ)) (xs : List ℕ) → 0 < length ls → Rise U ls → Same xs ls
-      → common U ls .seeks ≡ length ls * length xs + 1
-  unfolding common freshLead freshOthers
-  common-same ls xs some r e =
+  pub common-same : (ver : ℕ) (ls : List (List ℕ)) (xs : List ℕ) → 0 < length ls → Rise U ls → Same xs ls
+      → common ver U ls .seeks ≡ length ls * length xs + 1
+  unfolding common freshLead freshOthers reader
+  common-same ver ls xs some r e =
       let q = pick-same xs (lead-picked ls some) e in
-      let p = readers-pages (otherPages ls) in
-      let k : 1 + length (freshOthers ls) ≡ length ls =
-      ap (λ (n : ℕ). 1 + n) (sym (length-pages (freshOthers ls)) ∙ ap length p) ∙ pick-length (lead-picked ls some) in
+      let p = readers-pages ver U (otherPages ls) in
+      let k : 1 + length (freshOthers ver U ls) ≡ length ls =
+      ap (λ (n : ℕ). 1 + n) (sym (length-pages (freshOthers ver U ls)) ∙ ap length p)
+      ∙ pick-length (lead-picked ls some) in
       let n : ℕ = length (leadPages ls) in
       let z : n + 1 ≡ suc n = omega arith in
-      let x = rounds-exact (freshLead ls) (freshOthers ls) 0 (lead-ready U ls some r 0) (others-ready U ls some r 0)
-      (rw (p, q .0) (q .1)) n (from-le 0 (leadPages ls)) in
-      let m : leftIn 0 (freshLead ls) ≡ length xs = ap length (from-zero (leadPages ls) ∙ q .0) in
-      rw (common-from U ls 0 (n + 1), z) (x ∙ rw (k, m))
+      let x = rounds-exact (freshLead ver U ls) (freshOthers ver U ls) 0 (lead-ready ver U ls some r 0)
+      (others-ready ver U ls some r 0) (rw (p, q .0) (q .1)) n (from-le 0 (leadPages ls)) in
+      let m : leftIn 0 (freshLead ver U ls) ≡ length xs = ap length (from-zero (leadPages ls) ∙ q .0) in
+      rw (common-from ver U ls 0 (n + 1), z) (x ∙ rw (k, m))
 
 -- ---- a word named twice
 
 -- a reader for each list
 module _ (xs : List ℕ) where
-  readers-times : (ls : List (List ℕ)) → readingIt xs (readersOf ls) ≡ times xs ls
-  unfolding readingIt times readersOf
-  readers-times [] = refl
-  readers-times (l ∷ ls) = ap (λ (n : ℕ). cond (same xs l) 1 0 + n) (readers-times ls)
+  readers-times : (ver N : ℕ) (ls : List (List ℕ)) → readingIt xs (readersOf ver N ls) ≡ times xs ls
+  unfolding readingIt times readersOf reader
+  readers-times ver N [] = refl
+  readers-times ver N (l ∷ ls) = ap (λ (n : ℕ). cond (same xs l) 1 0 + n) (readers-times ver N ls)
 
   pick-times : {ls rest : List (List ℕ)} {p : List ℕ} → Pick ls p rest → times xs (p ∷ rest) ≡ times xs ls
   unfolding times
   pick-times here = refl
   pick-times (there k) = omega (arith, pick-times k)
 
-  pub begins-times : (ls : List (List ℕ)) → 0 < length ls → readingIt xs (leadOn ls ∷ othersOn ls) ≡ times xs ls
-  unfolding readingIt times
-  begins-times ls h = rw (readers-times (otherPages ls)) (pick-times (lead-picked ls h))
+  pub begins-times : (ver N : ℕ) (ls : List (List ℕ)) → 0 < length ls
+      → readingIt xs (leadOn ver N ls ∷ othersOn ver N ls) ≡ times xs ls
+  unfolding readingIt times reader
+  begins-times ver N ls h = rw (readers-times ver N (otherPages ls)) (pick-times (lead-picked ls h))
 
   times-append : (ks ls : List (List ℕ)) → times xs (ks ++ ls) ≡ times xs ks + times xs ls
   unfolding times
@@ -176,18 +180,19 @@ module _ (xs : List ℕ) where
   unfolding times
   times-self ls = rw (same-refl xs)
 
-length-readers : (ls : List (List ℕ)) → length (readersOf ls) ≡ length ls
+length-readers : (ver N : ℕ) (ls : List (List ℕ)) → length (readersOf ver N ls) ≡ length ls
 unfolding readersOf
-length-readers [] = refl
-length-readers (l ∷ ls) = ap suc (length-readers ls)
+length-readers ver N [] = refl
+length-readers ver N (l ∷ ls) = ap suc (length-readers ver N ls)
 
-pub begins-length : (ls : List (List ℕ)) → 0 < length ls → length (leadOn ls ∷ othersOn ls) ≡ length ls
-begins-length ls h = omega (arith, length-readers (otherPages ls), pick-length (lead-picked ls h))
+pub begins-length : (ver N : ℕ) (ls : List (List ℕ)) → 0 < length ls
+    → length (leadOn ver N ls ∷ othersOn ver N ls) ≡ length ls
+begins-length ver N ls h = omega (arith, length-readers ver N (otherPages ls), pick-length (lead-picked ls h))
 
-runs-append : (N : ℕ) (ks ls : List (List ℕ)) → upperRuns N (ks ++ ls) ≡ upperRuns N ks + upperRuns N ls
+runs-append : (ver N : ℕ) (ks ls : List (List ℕ)) → upperRuns ver N (ks ++ ls) ≡ upperRuns ver N ks + upperRuns ver N ls
 unfolding upperRuns
-runs-append N [] ls = omega arith
-runs-append N (l ∷ ks) ls = omega (arith, runs-append N ks ls)
+runs-append ver N [] ls = omega arith
+runs-append ver N (l ∷ ks) ls = omega (arith, runs-append ver N ks ls)
 
 named-append : (ts : List Word) (a b : List ℕ) → pagesNamed ts (a ++ b) ≡ pagesNamed ts a ++ pagesNamed ts b
 unfolding pagesNamed
@@ -219,9 +224,11 @@ times-twice ts t a b c =
     let xs : List ℕ = pagesAt ts t in
     omega (arith, counts-twice ts t (times xs) 1 (times-append xs) (times-self xs) a b c)
 
-pub runs-twice : (N : ℕ) (ts : List Word) (t : ℕ) (a b c : List ℕ)
-    → upperRuns N (pagesNamed ts (a ++ (t ∷ (b ++ (t ∷ c)))))
-    ≡ 2 * upperWords N (pagesAt ts t) + upperRuns N (pagesNamed ts (a ++ (b ++ c)))
+pub runs-twice : (ver N : ℕ) (ts : List Word) (t : ℕ) (a b c : List ℕ)
+    → upperRuns ver N (pagesNamed ts (a ++ (t ∷ (b ++ (t ∷ c)))))
+    ≡ 2 * upperWords (formOf ver N (length (pagesAt ts t))) N (pagesAt ts t)
+    + upperRuns ver N (pagesNamed ts (a ++ (b ++ c)))
 unfolding upperRuns
-runs-twice N ts t a b c =
-    counts-twice ts t (upperRuns N) (upperWords N (pagesAt ts t)) (runs-append N) (λ ls. refl) a b c
+runs-twice ver N ts t a b c =
+    counts-twice ts t (upperRuns ver N) (upperWords (formOf ver N (length (pagesAt ts t))) N (pagesAt ts t))
+    (runs-append ver N) (λ ls. refl) a b c

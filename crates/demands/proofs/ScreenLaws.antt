@@ -14,7 +14,7 @@ use Rattle.rules.specs.declared.Refusal.the-variants.{Accepted, Question, Room}
 use Rattle.rules.specs.Refusal.{number, accepted, andThen}
 use Rattle.rules.specs.Limits.{phraseLimit, screenLimit}
 use Rattle.rules.specs.List.{rising}
-use Rattle.rules.specs.Index.{indexN, indexT, indexRefusal}
+use Rattle.rules.specs.Index.{indexV, indexN, indexT, indexRefusal}
 use Rattle.rules.specs.Plain.{atLeast}
 use Rattle.rules.specs.Questions.{listsIn, allBelow, wordsGood}
 use Rattle.rules.specs.Screen.{screenGood, screenPages, screenCounts, Screening, unshown, filled, showing, screen}
@@ -37,7 +37,7 @@ module _ (s : List ℕ) (b r : ℕ) (ts pages counts : List ℕ) where
   ps = screenPages b r (listsIn s ts)
 
   abbrev cs : List ℕ
-  cs = screenCounts (indexN s) b r (listsIn s ts)
+  cs = screenCounts (indexV s) (indexN s) b r (listsIn s ts)
 
   abbrev short : Bool
   short = ltb (length pages) (length ps) || ltb (length counts) (length cs)

@@ -16,7 +16,7 @@ use Rattle.rules.specs.Limits.{screenLimit}
 use Rattle.rules.specs.List.{rising}
 use Rattle.rules.specs.Write.{laid}
 use Rattle.rules.specs.Term.{Word}
-use Rattle.rules.specs.Index.{card, validCard, indexN, indexT}
+use Rattle.rules.specs.Index.{card, validCard, indexV, indexN, indexT}
 use Rattle.rules.specs.Common.{commonFrom}
 use Rattle.rules.specs.Plain.{atLeast, commonPages}
 use Rattle.rules.specs.Questions.{listsIn, allBelow}
@@ -32,7 +32,7 @@ use Rattle.demands.specs.Asking.{pagesAt, pagesNamed, upperRuns}
 use Rattle.demands.specs.Sentences.{First}
 use Rattle.demands.specs.Screens.{screening, Unwritten, Fills, Falls, Shot, Took, shows, Full, shown}
 use Rattle.demands.proofs.WriteLaws.{number-le}
-use Rattle.demands.proofs.KindLaws.{states-N, states-T, holds-lists, common-rise}
+use Rattle.demands.proofs.KindLaws.{states-V, states-N, states-T, holds-lists, common-rise}
 use Rattle.demands.proofs.KindLaws.{seeks-from, looks-from, fit-from}
 use Rattle.demands.proofs.ScreenLaws.{Passes, passes-whole, by-end, screen-first, good-screen}
 use Rattle.demands.proofs.ScreenLaws.{falls-all, fills-some}
@@ -84,13 +84,13 @@ module _ (s : List ℕ) (b r : ℕ) (ts pages counts : List ℕ) (x : HostScreen
 
   module _ (z : x .refusal ≡ 0) where
     told : seenOf x pages′ counts′
-        ≡ seen (filled r ps (screenCounts (indexN s) b r (listsIn s ts)) pages counts)
+        ≡ seen (filled r ps (screenCounts (indexV s) (indexN s) b r (listsIn s ts)) pages counts)
     told = p ∙ ap seen (passes-whole s b r ts pages counts (screen-accepted .0 z))
 
     -- "`pages` gets the pages found, `counts` the seeks and the looks. Numbers of a room past what is written are
     -- unchanged."
     pub screen-rooms : (pages′ ≡ laid ps pages)
-        × (counts′ ≡ laid (screenCounts (indexN s) b r (listsIn s ts)) counts)
+        × (counts′ ≡ laid (screenCounts (indexV s) (indexN s) b r (listsIn s ts)) counts)
         × (x .found ≡ length ps)
     screen-rooms = (
       ap (λ (y : Seen). y .pages) told,
@@ -128,37 +128,37 @@ module _ (s : List ℕ) (b r : ℕ) (ts pages counts : List ℕ) (x : HostScreen
 -- ---- "The pages are the first r common pages at or above the bound by plain reading; seeks and looks are the step
 -- rule's from that bound, stopped at r."
 
-module _ (N : ℕ) (ts : List Word) (v : validCard N ts ≡ true)
+module _ (ver N : ℕ) (ts : List Word) (v : validCard ver N ts ≡ true)
     (terms : List ℕ) (some : 1 ≤ length terms) (few : length terms ≤ 8) (below : allBelow (length ts) terms ≡ true)
     (r : ℕ) (least : 1 ≤ r) (most : r ≤ screenLimit) where
   abbrev ls : List (List ℕ)
   ls = pagesNamed ts terms
 
-  lists-are : listsIn (card N ts) terms ≡ ls
-  lists-are = holds-lists N ts v terms below
+  lists-are : listsIn (card ver N ts) terms ≡ ls
+  lists-are = holds-lists ver N ts v terms below
 
-  good : screenGood (indexT (card N ts)) r terms ≡ true
-  good = rw (states-T N ts v) (good-screen (length ts) r terms least most some few below)
+  good : screenGood (indexT (card ver N ts)) r terms ≡ true
+  good = rw (states-T ver N ts v) (good-screen (length ts) r terms least most some few below)
 
   module _ (b : ℕ) (pages counts : List ℕ) (x : HostScreened) (pages′ counts′ : List ℕ)
-      (p : HostScreenShown (card N ts) b r terms pages counts x pages′ counts′)
+      (p : HostScreenShown (card ver N ts) b r terms pages counts x pages′ counts′)
       (room : length (screenPages b r ls) ≤ length pages) (numbers : 2 ≤ length counts) where
     pub by-screen : (x .refusal ≡ 0)
         × (pages′ ≡ laid (take r (atLeast b (commonPages ls))) pages)
-        × (counts′ ≡ laid (commonFrom N ls b r .seeks ∷ (commonFrom N ls b r .looks ∷ [])) counts)
+        × (counts′ ≡ laid (commonFrom ver N ls b r .seeks ∷ (commonFrom ver N ls b r .looks ∷ [])) counts)
         × (x .found ≡ length (take r (atLeast b (commonPages ls))))
     unfolding screenPages screenCounts
     by-screen =
-        let c : Passes (card N ts) b r terms pages counts =
-        (card-accepted N ts v, good, rw lists-are room, numbers) in
-        let z = screen-accepted (card N ts) b r terms pages counts x pages′ counts′ p .1 c in
-        let t = rw (lists-are, states-N N ts v) at
-        (screen-rooms (card N ts) b r terms pages counts x pages′ counts′ p z) in
+        let c : Passes (card ver N ts) b r terms pages counts =
+        (card-accepted ver N ts v, good, rw lists-are room, numbers) in
+        let z = screen-accepted (card ver N ts) b r terms pages counts x pages′ counts′ p .1 c in
+        let t = rw (lists-are, states-V ver N ts v, states-N ver N ts v) at
+        (screen-rooms (card ver N ts) b r terms pages counts x pages′ counts′ p z) in
         (z, t .0, t .1, t .2)
 
     -- They are the step rule's counts.
-    pub screen-counts : (getD counts′ 0 0 ≡ commonFrom N ls b r .seeks)
-        × (getD counts′ 1 0 ≡ commonFrom N ls b r .looks)
+    pub screen-counts : (getD counts′ 0 0 ≡ commonFrom ver N ls b r .seeks)
+        × (getD counts′ 1 0 ≡ commonFrom ver N ls b r .looks)
     unfolding laid
     screen-counts = (
       ap (λ (l : List ℕ). getD l 0 0) (by-screen .2),
@@ -168,20 +168,20 @@ module _ (N : ℕ) (ts : List Word) (v : validCard N ts ≡ true)
     -- "The bound of demand 3 holds for each screen": k·m + 1 for the pages m of each word named, so for the rarest.
     pub screen-seeks : (j : ℕ) → j < length terms
         → getD counts′ 0 0 ≤ length terms * length (pagesAt ts (getD terms j 0)) + 1
-    screen-seeks j h = rw (screen-counts .0) (seeks-from N ts v terms some few below b r j h)
+    screen-seeks j h = rw (screen-counts .0) (seeks-from ver N ts v terms some few below b r j h)
 
-    pub screen-looks : getD counts′ 1 0 ≤ getD counts′ 0 0 + upperRuns N ls
-    screen-looks = rw (screen-counts .0, screen-counts .1) (looks-from N ts v terms some few below b r)
+    pub screen-looks : getD counts′ 1 0 ≤ getD counts′ 0 0 + upperRuns ver N ls
+    screen-looks = rw (screen-counts .0, screen-counts .1) (looks-from ver N ts v terms some few below b r)
 
     -- Neither wraps in the 32-bit number that carries it.
-    pub screen-carried : (commonFrom N ls b r .seeks < 2 ^ 32) × (commonFrom N ls b r .looks < 2 ^ 32)
-    screen-carried = fit-from N ts v terms some few below b r
+    pub screen-carried : (commonFrom ver N ls b r .seeks < 2 ^ 32) × (commonFrom ver N ls b r .looks < 2 ^ 32)
+    screen-carried = fit-from ver N ts v terms some few below b r
 
     -- "A bound at or above U makes one seek with no looks."
     pub screen-past : N ≤ b → (getD counts′ 0 0 ≡ 1) × (getD counts′ 1 0 ≡ 0)
     screen-past h =
         let z : suc (r - 1) ≡ r = omega (arith, least) in
-        let e = rw z at (past-all N ls b (r - 1) h) in
+        let e = rw z at (past-all ver N ls b (r - 1) h) in
         (screen-counts .0 ∙ ap (λ t. t .seeks) e, screen-counts .1 ∙ ap (λ t. t .looks) e)
 
   -- ---- "Screens taken from 0 until one is not full, joined, are exactly kind 3's list."
@@ -190,10 +190,10 @@ module _ (N : ℕ) (ts : List Word) (v : validCard N ts ≡ true)
   C = commonPages ls
 
   rise : rising 0 N C ≡ true
-  rise = common-rise N ts v terms some few below
+  rise = common-rise ver N ts v terms some few below
 
   -- what a screen shows, and what is left behind it
-  module _ (b : ℕ) (x : Shot) (t : Took (card N ts) terms r b x) where
+  module _ (b : ℕ) (x : Shot) (t : Took (card ver N ts) terms r b x) where
     abbrev here : List ℕ
     here = take r (atLeast b C)
 
@@ -201,14 +201,14 @@ module _ (N : ℕ) (ts : List Word) (v : validCard N ts ≡ true)
     unfolding screenPages
     shot-pages =
         rw lists-are
-        at (screen-front (card N ts) b r terms (x .pages) (x .counts) (x .answer) (x .pages-after) (x .counts-after)
+        at (screen-front (card ver N ts) b r terms (x .pages) (x .counts) (x .answer) (x .pages-after) (x .counts-after)
         (t .0) (t .1))
 
     pub ends : Fills r here (x .answer) ⊎ Falls r here (x .answer)
     unfolding screenPages
     ends =
         rw lists-are
-        at (screen-full (card N ts) b r terms (x .pages) (x .counts) (x .answer) (x .pages-after) (x .counts-after)
+        at (screen-full (card ver N ts) b r terms (x .pages) (x .counts) (x .answer) (x .pages-after) (x .counts-after)
         (t .0) (t .1))
 
     pub shot-full : x .answer .full ≡ 1
@@ -225,7 +225,7 @@ module _ (N : ℕ) (ts : List Word) (v : validCard N ts ≡ true)
     ]
 
   -- full screens show what lies between their bounds, r pages each
-  full-run : (b : ℕ) (xs : List Shot) (c : ℕ) → Full (card N ts) terms r b xs c
+  full-run : (b : ℕ) (xs : List Shot) (c : ℕ) → Full (card ver N ts) terms r b xs c
       → (atLeast b C ≡ shown xs ++ atLeast c C) × (length (shown xs) ≡ length xs * r)
   unfolding shown
   full-run b [] c f = (rw f, omega arith)
@@ -242,8 +242,8 @@ module _ (N : ℕ) (ts : List Word) (v : validCard N ts ≡ true)
   shown-more (x ∷ xs) y =
       ap (λ (l : List ℕ). shows x ++ l) (shown-more xs y) ∙ sym (append-assoc (shows x) (shown xs) (shows y))
 
-  pub screens-joined : (xs : List Shot) (c : ℕ) (y : Shot) → Full (card N ts) terms r 0 xs c
-      → Took (card N ts) terms r c y → y .answer .full ≡ 0 → shown (xs ++ (y ∷ [])) ≡ C
+  pub screens-joined : (xs : List Shot) (c : ℕ) (y : Shot) → Full (card ver N ts) terms r 0 xs c
+      → Took (card ver N ts) terms r c y → y .answer .full ≡ 0 → shown (xs ++ (y ∷ [])) ≡ C
   screens-joined xs c y f t z =
       shown-more xs y
       ∙ ap (λ (l : List ℕ). shown xs ++ l) (sym (shot-last c y t z .1))
@@ -251,27 +251,27 @@ module _ (N : ℕ) (ts : List Word) (v : validCard N ts ≡ true)
       ∙ from-zero C
 
   -- The same as the pages of kind 3's answer, behind its number and its counts.
-  pub screens-answered : (xs : List Shot) (c : ℕ) (y : Shot) → Full (card N ts) terms r 0 xs c
-      → Took (card N ts) terms r c y → y .answer .full ≡ 0
+  pub screens-answered : (xs : List Shot) (c : ℕ) (y : Shot) → Full (card ver N ts) terms r 0 xs c
+      → Took (card ver N ts) terms r c y → y .answer .full ≡ 0
       → (room : List ℕ) (a : HostAsked) (after : List ℕ)
-      → HostAnswered (card N ts) (3 ∷ (length terms ∷ terms)) room a after → length C + 3 ≤ length room
+      → HostAnswered (card ver N ts) (3 ∷ (length terms ∷ terms)) room a after → length C + 3 ≤ length room
       → take (getD after 0 0 - 2) (drop 3 after) ≡ shown (xs ++ (y ∷ []))
   unfolding laid
   screens-answered xs c y f t z room a after p enough =
-      let e = by-common N ts v room a after terms some few below p enough .1 in
+      let e = by-common ver N ts v room a after terms some few below p enough .1 in
       let n : length C + 2 - 2 ≡ length C = omega arith in
       rw (e, n) (take-at C (drop (suc (suc (suc (length C)))) room) (length C) refl) ∙ sym (screens-joined xs c y f t z)
 
   -- It ends: however many screens are full, they have r pages each of those that there are.
-  pub screens-end : (xs : List Shot) (c : ℕ) → Full (card N ts) terms r 0 xs c → length xs * r ≤ length C
+  pub screens-end : (xs : List Shot) (c : ℕ) → Full (card ver N ts) terms r 0 xs c → length xs * r ≤ length C
   screens-end xs c f =
       let t = full-run 0 xs c f in
       let l = ap length (sym (from-zero C) ∙ t .0) ∙ length-append (shown xs) (atLeast c C) in
       omega (arith, l, t .1)
 
   -- "Where the last screen is just full one more, empty, follows."
-  pub screens-just-full : (xs : List Shot) (c : ℕ) (y : Shot) → Full (card N ts) terms r 0 xs c
-      → length xs * r ≡ length C → Took (card N ts) terms r c y → (shows y ≡ []) × (y .answer .full ≡ 0)
+  pub screens-just-full : (xs : List Shot) (c : ℕ) (y : Shot) → Full (card ver N ts) terms r 0 xs c
+      → length xs * r ≡ length C → Took (card ver N ts) terms r c y → (shows y ≡ []) × (y .answer .full ≡ 0)
   screens-just-full xs c y f e t =
       let w = full-run 0 xs c f in
       let l = ap length (sym (from-zero C) ∙ w .0) ∙ length-append (shown xs) (atLeast c C) in

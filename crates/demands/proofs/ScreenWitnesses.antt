@@ -35,7 +35,7 @@ screened-met s b r ts pages counts =
 
 -- ---- until one is not full
 
-module _ (N : ℕ) (ts : List Word) (v : validCard N ts ≡ true)
+module _ (ver N : ℕ) (ts : List Word) (v : validCard ver N ts ≡ true)
     (terms : List ℕ) (some : 1 ≤ length terms) (few : length terms ≤ 8) (below : allBelow (length ts) terms ≡ true)
     (r : ℕ) (least : 1 ≤ r) (most : r ≤ screenLimit) where
   abbrev C : List ℕ
@@ -44,7 +44,7 @@ module _ (N : ℕ) (ts : List Word) (v : validCard N ts ≡ true)
   -- the screen from b on, in rooms of r numbers and of two
   shot : ℕ → Shot
   shot b =
-      let m : Screening = screen (card N ts) b r terms (replicate r 0) (replicate 2 0) in
+      let m : Screening = screen (card ver N ts) b r terms (replicate r 0) (replicate 2 0) in
       record {
         pages = replicate r 0;
         counts = replicate 2 0;
@@ -53,36 +53,36 @@ module _ (N : ℕ) (ts : List Word) (v : validCard N ts ≡ true)
         counts-after = m .counts;
       }
 
-  shot-took : (b : ℕ) → Took (card N ts) terms r b (shot b)
+  shot-took : (b : ℕ) → Took (card ver N ts) terms r b (shot b)
   unfolding shot screenPages
   shot-took b =
       let x : Shot = shot b in
-      let pages = atLeast b (commonPages (listsIn (card N ts) terms)) in (
+      let pages = atLeast b (commonPages (listsIn (card ver N ts) terms)) in (
         refl,
-        screen-accepted (card N ts) b r terms (x .pages) (x .counts) (x .answer) (x .pages-after) (x .counts-after)
+        screen-accepted (card ver N ts) b r terms (x .pages) (x .counts) (x .answer) (x .pages-after) (x .counts-after)
             refl .1 (
-              card-accepted N ts v,
-              rw (states-T N ts v) (good-screen (length ts) r terms least most some few below),
+              card-accepted ver N ts v,
+              rw (states-T ver N ts v) (good-screen (length ts) r terms least most some few below),
               omega (arith, length-take r pages, length-replicate {A = ℕ} r 0),
               omega arith,
             ),
       )
 
   taken : (f b : ℕ) → length (atLeast b C) < f → (xs : List Shot) × (c : ℕ) × (y : Shot)
-      × Full (card N ts) terms r b xs c × Took (card N ts) terms r c y × (y .answer .full ≡ 0)
+      × Full (card ver N ts) terms r b xs c × Took (card ver N ts) terms r c y × (y .answer .full ≡ 0)
   taken zero b h = absurd (omega (arith, h))
   taken (suc f) b h =
       let x : Shot = shot b in
       let t = shot-took b in
-      elim (ends N ts v terms some few below r least most b x t) [
+      elim (ends ver N ts v terms some few below r least most b x t) [
         | inr e ↦ ([], b, x, refl, t, e .1)
         | inl e ↦
-            let w = shot-full N ts v terms some few below r least most b x t (e .1) in
+            let w = shot-full ver N ts v terms some few below r least most b x t (e .1) in
             let l = ap length (w .1) ∙ length-append (shows x) (atLeast (x .answer .next) C) in
             let g = taken f (x .answer .next) (omega (arith, h, l, w .0, least)) in
             (x ∷ g .0, g .1, g .2, (t, e .1, g .3), g .4, g .5)
       ]
 
   pub screens-taken : (b : ℕ) → (xs : List Shot) × (c : ℕ) × (y : Shot)
-      × Full (card N ts) terms r b xs c × Took (card N ts) terms r c y × (y .answer .full ≡ 0)
+      × Full (card ver N ts) terms r b xs c × Took (card ver N ts) terms r c y × (y .answer .full ≡ 0)
   screens-taken b = taken (suc (length (atLeast b C))) b (omega arith)

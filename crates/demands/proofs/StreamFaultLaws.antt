@@ -8,21 +8,22 @@ use native.Mathlib.Omega.{arith}
 use borrow.Author.Tests.{leb-true, leb-false, eqb-true, eqb-false}
 use lib.Dec.{ltb, leb, eqb}
 use lib.ListN.{length}
-use Rattle.rules.specs.declared.Refusal.the-variants.{Accepted, Limit, Lists}
+use Rattle.rules.specs.declared.Refusal.the-variants.{Accepted, Version, Limit, Lists}
 use Rattle.rules.specs.declared.Stream.{Stream}
 use Rattle.rules.specs.Refusal.{number, accepted}
-use Rattle.rules.specs.Limits.{limit}
+use Rattle.rules.specs.Limits.{limit, lastEdition, upTo}
 use Rattle.rules.specs.List.{rising}
 use Rattle.rules.specs.Term.{Word, total, next, placed, positive, inOrder, inOrderByPage, validWord}
 use Rattle.rules.specs.Stream.{announceRefusal, live, follows, complete}
 use Rattle.rules.specs.Questions.{allBelow}
 use Rattle.laws.proofs.RefusalLaws.{number-inj, accepted-true, true-accepted}
 use Rattle.listlaws.proofs.RisingLaws.{and-parts, and-assoc}
+use Rattle.demands.specs.Faults.{Unknown}
 use Rattle.demands.specs.Sentences.{Sentence, _when_, First}
 use Rattle.demands.specs.StreamFaults.{NOrUOver, AnnouncedWrong, BadWord, NotLive, Below, BadRun, WrongTotals}
-use Rattle.demands.proofs.FirstLaws.{Tests, tests-lt, tests-differ, first-end, first-none}
+use Rattle.demands.proofs.FirstLaws.{Tests, tests-both, tests-lt, tests-differ, first-end, first-none}
 use Rattle.demands.proofs.SentenceLaws.{test}
-use Rattle.demands.proofs.FaultLaws.{order-least, order-some, tests-not, tests-order, tests-below}
+use Rattle.demands.proofs.FaultLaws.{tests-unknown, order-least, order-some, tests-not, tests-order, tests-below}
 use Rattle.demands.proofs.FaultLaws.{below-some, tests-zero, tests-places, rising-both}
 
 -- ---- tests together
@@ -39,11 +40,6 @@ tests-fails false b P Q t u = (λ e. inl (t .0 refl), λ e. absurd (true≢false
 tests-fails true b P Q t u =
     (λ e. inr (u .0 e), λ e x. elim x [ inl p ↦ t .1 refl p | inr q ↦ u .1 e q ])
 
--- both hold
-tests-both : (a b : Bool) (P Q : Type 0) → Tests a P → Tests b Q → Tests (a && b) (P × Q)
-tests-both true b P Q t u = (λ e. (t .0 refl, u .0 e), λ e x. u .1 e (x .1))
-tests-both false b P Q t u = (λ e. absurd (true≢false (sym e)), λ e x. t .1 refl (x .0))
-
 tests-eq : (m n : ℕ) → Tests (eqb m n) (m ≡ n)
 tests-eq m n = (eqb-true m n, eqb-false m n)
 
@@ -52,7 +48,7 @@ tests-above m n = tests-not (leb m n) (n < m) (leb-false m n) (λ e h. omega (ar
 
 -- ---- the announcement
 
-module _ (N P Q U : ℕ) where
+module _ (v N P Q U : ℕ) where
   tests-over : Tests (ltb limit N || ltb limit U) (NOrUOver N U)
   tests-over = tests-either (ltb limit N) (ltb limit U) _ _ (tests-lt limit N) (tests-lt limit U)
 
@@ -70,49 +66,60 @@ module _ (N P Q U : ℕ) where
 
   -- the sentences of its own, before room
   abbrev pub own : List Sentence
-  own = Limit when NOrUOver N U ∷ Lists when AnnouncedWrong N P Q U ∷ []
+  own =
+      Version when Unknown lastEdition v
+      ∷ Limit when NOrUOver N U
+      ∷ Lists when AnnouncedWrong N P Q U
+      ∷ []
 
-  pub announce-first : First (number (announceRefusal N P Q U)) own
+  pub announce-first : First (number (announceRefusal v N P Q U)) own
   unfolding announceRefusal
   announce-first =
-      test (ltb limit N || ltb limit U) _ _ _ _ tests-over
+      test (not (upTo lastEdition v)) _ _ _ _ (tests-unknown lastEdition v)
+      (λ k. test (ltb limit N || ltb limit U) _ _ _ _ tests-over
       (λ a. test (ltb N P || (ltb Q P || (ltb U Q || ((eqb P 0 && ltb 0 Q) || (eqb Q 0 && ltb 0 U)))))
-      _ _ _ _ tests-wrong (λ b. first-end))
+      _ _ _ _ tests-wrong (λ b. first-end)))
 
   -- it is refused exactly where one of them holds
-  tests-refused : Tests (not (accepted (announceRefusal N P Q U))) (NOrUOver N U ⊎ AnnouncedWrong N P Q U)
+  abbrev Refusable : Type 0
+  Refusable = Unknown lastEdition v ⊎ (NOrUOver N U ⊎ AnnouncedWrong N P Q U)
+
+  tests-refused : Tests (not (accepted (announceRefusal v N P Q U))) Refusable
   unfolding First
-  tests-refused = tests-not (accepted (announceRefusal N P Q U)) (NOrUOver N U ⊎ AnnouncedWrong N P Q U) refused passed
+  tests-refused = tests-not (accepted (announceRefusal v N P Q U)) Refusable refused passed
     where
-      refused : accepted (announceRefusal N P Q U) ≡ false → NOrUOver N U ⊎ AnnouncedWrong N P Q U
+      refused : accepted (announceRefusal v N P Q U) ≡ false → Refusable
       refused e = elim announce-first [
-        | inl a ↦ inl (a .0)
-        | inr a ↦ elim (a .1) [
-          | inl b ↦ inr (b .0)
-          | inr b ↦
-              let c = true-accepted (announceRefusal N P Q U)
-              (number-inj (announceRefusal N P Q U) Accepted (b .1)) in
-              absurd (true≢false (sym c ∙ e))
+        | inl k ↦ inl (k .0)
+        | inr k ↦ elim (k .1) [
+          | inl a ↦ inr (inl (a .0))
+          | inr a ↦ elim (a .1) [
+            | inl b ↦ inr (inr (b .0))
+            | inr b ↦
+                let c = true-accepted (announceRefusal v N P Q U)
+                (number-inj (announceRefusal v N P Q U) Accepted (b .1)) in
+                absurd (true≢false (sym c ∙ e))
+          ]
         ]
       ]
 
-      passed : accepted (announceRefusal N P Q U) ≡ true → NOrUOver N U ⊎ AnnouncedWrong N P Q U → ⊥
+      passed : accepted (announceRefusal v N P Q U) ≡ true → Refusable → ⊥
       passed e x =
           let f : First 0 own =
-          rw (accepted-true (announceRefusal N P Q U) e) at announce-first in
+          rw (accepted-true (announceRefusal v N P Q U) e) at announce-first in
           let n = first-none 10 own (omega arith) .0 f in
-          elim x [ inl a ↦ n .0 a | inr a ↦ n .1 .0 a ]
+          elim x [ inl k ↦ n .0 k | inr y ↦ elim y [ inl a ↦ n .1 .0 a | inr a ↦ n .1 .1 .0 a ] ]
 
 -- ---- a later call
 
 pub tests-live : (s : Stream) → Tests (not (live s)) (NotLive s)
 unfolding live
 tests-live s =
-    let r : Bool = accepted (announceRefusal (s .n) (s .pages) (s .positions) (s .u)) in
+    let r : Bool = accepted (announceRefusal (s .version) (s .n) (s .pages) (s .positions) (s .u)) in
     let l : Bool = leb (s .laid) (s .pages) in
     let f : Bool = leb (s .filled) (s .positions) in
     tests-fails (eqb (s .mark) 1) (r && (l && f)) _ _ (tests-differ (s .mark) 1)
-    (tests-fails r (l && f) _ _ (tests-refused (s .n) (s .pages) (s .positions) (s .u))
+    (tests-fails r (l && f) _ _ (tests-refused (s .version) (s .n) (s .pages) (s .positions) (s .u))
     (tests-fails l f _ _ (tests-above (s .laid) (s .pages)) (tests-above (s .filled) (s .positions))))
 
 pub tests-word : (N : ℕ) (t : Word) → Tests (not (validWord N t)) (BadWord N t)

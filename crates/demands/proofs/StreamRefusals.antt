@@ -34,38 +34,38 @@ use Rattle.demands.proofs.LedLaws.{led-underway, led-on, tests-run, tes
 
 -- ---- "The announcement is refused, room unchanged, with 4 (N or U over), 10 (more pages than N or than positions,
 -- more positions than U, positions but no pages, U not 0 without positions), 9, in this order; else it writes all
--- headers and clears the rest of the block."
+-- headers and clears the rest of the block." Before them an unknown version is 3 [02 f].
 
-module _ (N P Q U : ℕ) (room : List ℕ) (r : HostStreamed) (after : List ℕ)
-    (p : HostTermBegun N P Q U room r after) where
+module _ (v N P Q U : ℕ) (room : List ℕ) (r : HostStreamed) (after : List ℕ)
+    (p : HostTermBegun v N P Q U room r after) where
   -- its own refusal, and whether the room is short
   abbrev asked : Refusal
-  asked = announceRefusal N P Q U
+  asked = announceRefusal v N P Q U
 
   abbrev short : Bool
-  short = ltb (length room) (streamSize N P Q U)
+  short = ltb (length room) (streamSize v N P Q U)
 
-  begin-gives : beginTerm N P Q U room .refusal ≡ andThen asked (cond short Room Accepted)
+  begin-gives : beginTerm v N P Q U room .refusal ≡ andThen asked (cond short Room Accepted)
   unfolding beginTerm andThen
   begin-gives = go (accepted asked) refl short refl
     where
       go : (a : Bool) → accepted asked ≡ a → (b : Bool) → short ≡ b
-          → beginTerm N P Q U room .refusal ≡ andThen asked (cond short Room Accepted)
+          → beginTerm v N P Q U room .refusal ≡ andThen asked (cond short Room Accepted)
       go false e b f = rw e
       go true e true f = rw (e, f)
       go true e false f = rw (e, f)
 
-  pub begin-first : First (r .refusal) (announcing N P Q U room)
+  pub begin-first : First (r .refusal) (announcing v N P Q U room)
   begin-first =
-      rw (told-refusal (beginTerm N P Q U room) r after p, begin-gives)
-      (first-then 10 asked (cond short Room Accepted) (own N P Q U) _ (omega arith) (announce-first N P Q U)
-      (λ a. test short _ _ _ _ (tests-lt (length room) (streamSize N P Q U)) (λ b. first-end)))
+      rw (told-refusal (beginTerm v N P Q U room) r after p, begin-gives)
+      (first-then 10 asked (cond short Room Accepted) (own v N P Q U) _ (omega arith) (announce-first v N P Q U)
+      (λ a. test short _ _ _ _ (tests-lt (length room) (streamSize v N P Q U)) (λ b. first-end)))
 
   -- the two ways
   abbrev Ways : Type 0
   Ways =
       ((r .refusal ≡ 0 → ⊥) × Leaves r after over room)
-      ⊎ ((r .refusal ≡ 0) × Leaves r after (opened N P Q U) (laid (announced N P Q U) room))
+      ⊎ ((r .refusal ≡ 0) × Leaves r after (opened v N P Q U) (laid (announced v N P Q U) room))
 
   begin-ways : Ways
   unfolding beginTerm
@@ -73,23 +73,23 @@ module _ (N P Q U : ℕ) (room : List ℕ) (r : HostStreamed) (after : List ℕ)
     where
       go : (a : Bool) → accepted asked ≡ a → (b : Bool) → short ≡ b → Ways
       go false e b f =
-          let w = told-goes (beginTerm N P Q U room) r after p asked over room (rw e) in
+          let w = told-goes (beginTerm v N P Q U room) r after p asked over room (rw e) in
           inl (
             λ z. true≢false (sym (true-accepted asked (number-inj asked Accepted (sym (w .0) ∙ z))) ∙ e),
             w .1,
           )
       go true e true f =
-          let w = told-goes (beginTerm N P Q U room) r after p Room over room (rw (e, f)) in
+          let w = told-goes (beginTerm v N P Q U room) r after p Room over room (rw (e, f)) in
           inl (λ z. omega (arith, z, w .0), w .1)
       go true e false f =
-          inr (told-goes (beginTerm N P Q U room) r after p Accepted (opened N P Q U) (laid (announced N P Q U) room)
-          (rw (e, f)))
+          inr (told-goes (beginTerm v N P Q U room) r after p Accepted (opened v N P Q U)
+          (laid (announced v N P Q U) room) (rw (e, f)))
 
   -- A refusal leaves the room as it was and hands back a session that has ended.
   pub begin-refused : (r .refusal ≡ 0 → ⊥) → Leaves r after over room
   begin-refused n = elim begin-ways [ inl w ↦ w .1 | inr w ↦ absurd (n (w .0)) ]
 
-  pub begin-writes : r .refusal ≡ 0 → Leaves r after (opened N P Q U) (laid (announced N P Q U) room)
+  pub begin-writes : r .refusal ≡ 0 → Leaves r after (opened v N P Q U) (laid (announced v N P Q U) room)
   begin-writes z = elim begin-ways [ inl w ↦ absurd (w .0 z) | inr w ↦ w .1 ]
 
 -- ---- "Bad postings (by the whole-list 10, or past the announcement), or totals wrong at the close, are 10 and the
@@ -135,21 +135,22 @@ module _ (s : Stream) (room : List ℕ) (r : HostStreamed) (after : List ℕ) (p
 -- The same of a session that accepted calls have led to: it goes on and has room, so that 10 is given exactly when the
 -- word that all runs are together is bad by the whole-list 10 or past the announcement, and at the close exactly when
 -- it is not all that was announced.
-module _ (N P Q U : ℕ) (before : List ℕ) (ts : List Word) (s : Stream) (room : List ℕ)
-    (l : Led N P Q U before ts s room) where
+module _ (v N P Q U : ℕ) (before : List ℕ) (ts : List Word) (s : Stream) (room : List ℕ)
+    (l : Led v N P Q U before ts s room) where
   pub led-goes : On s room
-  led-goes = led-on N P Q U ts before s room (led-underway N P Q U before ts s room l)
+  led-goes = led-on v N P Q U ts before s room (led-underway v N P Q U before ts s room l)
 
   pub run-answers : (t : Word) (r : HostStreamed) (after : List ℕ) → HostPostingsPut s t room r after
       → Answers (BadWord N (together (ts ++ (t ∷ []))) ⊎ Past P Q U (together (ts ++ (t ∷ [])))) s room r after
   unfolding putPostings
   run-answers t r after p =
-      let o = led-underway N P Q U before ts s room l in
-      answers s room (follows s t) (laying s t room r after p) _ (tests-run N P Q U ts before s room o t) refl r after p
+      let o = led-underway v N P Q U before ts s room l in
+      answers s room (follows s t) (laying s t room r after p) _ (tests-run v N P Q U ts before s room o t) refl
+      r after p
 
   pub close-answers : (r : HostStreamed) (after : List ℕ) → HostTermEnded s room r after
       → Answers (OtherTotals P Q U (together ts)) s room r after
   unfolding endTerm
   close-answers r after p =
-      let o = led-underway N P Q U before ts s room l in
-      answers s room (complete s) (closed s room r after p) _ (tests-close N P Q U ts before s room o) refl r after p
+      let o = led-underway v N P Q U before ts s room l in
+      answers s room (complete s) (closed s room r after p) _ (tests-close v N P Q U ts before s room o) refl r after p

@@ -36,20 +36,20 @@ use Rattle.demands.proofs.StreamRefusals.{end-points}
 -- ---- "The finished block must be the same bytes as the whole-list writer gives, for every way of cutting. .. The same
 -- bytes are owed where each call gets the room as the last one left it."
 
-module _ (N P Q U : ℕ) (before : List ℕ) (ts : List Word) (s : Stream) (room : List ℕ)
-    (l : Led N P Q U before ts s room) where
+module _ (v N P Q U : ℕ) (before : List ℕ) (ts : List Word) (s : Stream) (room : List ℕ)
+    (l : Led v N P Q U before ts s room) where
   module _ (r : HostStreamed) (after : List ℕ) (p : HostTermEnded s room r after) (z : r .refusal ≡ 0) where
     -- Where all calls are accepted, what they leave is what jf_write_term may leave of the runs together.
-    pub stream-same : HostTermWritten N (together ts) before (record { refusal = 0; length = r .length }) after
+    pub stream-same : HostTermWritten v N (together ts) before (record { refusal = 0; length = r .length }) after
     stream-same =
         let m : Streaming = endTerm s room in
         let e = told-passed m r after p z in
-        let w = underway-end N P Q U ts before s room (led-underway N P Q U before ts s room l) e in
+        let w = underway-end v N P Q U ts before s room (led-underway v N P Q U before ts s room l) e in
         let f = sym z ∙ told-refusal m r after p in
         (λ i. record { refusal = f i; length = (p i) .length; room = (p i) .room }) ∙ ap told w
 
     -- So it is what it does leave: the length and every byte.
-    pub stream-whole : (w : HostWritten) (whole : List ℕ) → HostTermWritten N (together ts) before w whole
+    pub stream-whole : (w : HostWritten) (whole : List ℕ) → HostTermWritten v N (together ts) before w whole
         → (w .refusal ≡ 0) × (w .length ≡ r .length) × (whole ≡ after)
     stream-whole w whole q =
         let e = q ∙ sym stream-same in (
@@ -60,8 +60,8 @@ module _ (N P Q U : ℕ) (before : List ℕ) (ts : List Word) (s : Stream) (room
 
   -- "Runs are written straight into the room behind what is already there; bits not reached stay 0, and pointers are
   -- written by the closing call."
-  pub stream-room : room ≡ laid (partlyWord N P Q U (together ts)) before
-  stream-room = led-underway N P Q U before ts s room l .room-is
+  pub stream-room : room ≡ laid (partlyWord v N P Q U (together ts)) before
+  stream-room = led-underway v N P Q U before ts s room l .room-is
 
   -- "a run with no postings allowed": it is accepted, and changes nothing.
   pub stream-empty : (r : HostStreamed) (after : List ℕ) → HostPostingsPut s (lentWord [] [] []) room r after
@@ -69,52 +69,52 @@ module _ (N P Q U : ℕ) (before : List ℕ) (ts : List Word) (s : Stream) (room
   unfolding together
   stream-empty r after p =
       let none : Word = lentWord [] [] [] in
-      let o = led-underway N P Q U before ts s room l in
+      let o = led-underway v N P Q U before ts s room l in
       let z = passed-told (putPostings s none room) r after p
-      (put-accepted N P Q U ts before s room o none (rw (joined-none (together ts)) (o .within))) in
-      let k = put-underway N P Q U before ts s room o none r after p z in
+      (put-accepted v N P Q U ts before s room o none (rw (joined-none (together ts)) (o .within))) in
+      let k = put-underway v N P Q U before ts s room o none r after p z in
       let e : together (ts ++ (none ∷ [])) ≡ together ts = together-snoc ts none ∙ joined-none (together ts) in (
         z,
         (
           put-lays s none room r after p z .0,
-          k .session ∙ ap (reached N P Q U) e ∙ sym (o .session),
-          k .room-is ∙ ap (λ (t : Word). laid (partlyWord N P Q U t) before) e ∙ sym (o .room-is),
+          k .session ∙ ap (reached v N P Q U) e ∙ sym (o .session),
+          k .room-is ∙ ap (λ (t : Word). laid (partlyWord v N P Q U t) before) e ∙ sym (o .room-is),
         ),
       )
 
   -- "A later room shorter than the block is 9 .., and the session goes on": what is handed back has come as far.
   pub goes-on-put : (t : Word) (short : List ℕ) (r : HostStreamed) (after : List ℕ)
-      → HostPostingsPut s t short r after → r .refusal ≡ 9 → Led N P Q U before ts (r .stream) room
+      → HostPostingsPut s t short r after → r .refusal ≡ 9 → Led v N P Q U before ts (r .stream) room
   goes-on-put t short r after p e = rw (put-answers s t short r after p .keeps e .1) l
 
   pub goes-on-end : (short : List ℕ) (r : HostStreamed) (after : List ℕ)
-      → HostTermEnded s short r after → r .refusal ≡ 9 → Led N P Q U before ts (r .stream) room
+      → HostTermEnded s short r after → r .refusal ≡ 9 → Led v N P Q U before ts (r .stream) room
   goes-on-end short r after p e = rw (end-answers s short r after p .keeps e .1) l
 
 -- Where jf_write_term accepts the word, runs that are cut at page boundaries are all accepted, and so is the close, if
 -- what is announced is the word's.
-pub stream-accepted : (N P Q U : ℕ) (ts : List Word) (room : List ℕ) (w : HostWritten) (whole : List ℕ)
-    → HostTermWritten N (together ts) room w whole → w .refusal ≡ 0 → Cut ts → P ≡ length (together ts .pages)
+pub stream-accepted : (v N P Q U : ℕ) (ts : List Word) (room : List ℕ) (w : HostWritten) (whole : List ℕ)
+    → HostTermWritten v N (together ts) room w whole → w .refusal ≡ 0 → Cut ts → P ≡ length (together ts .pages)
     → Q ≡ length (together ts .positions) → U ≡ next 0 (places (together ts))
-    → (r : HostStreamed) (after : List ℕ) → HostTermBegun N P Q U room r after
+    → (r : HostStreamed) (after : List ℕ) → HostTermBegun v N P Q U room r after
     → (r .refusal ≡ 0) × Finishes (r .stream) after ts
-stream-accepted N P Q U ts room w whole h z c p q u r after b =
+stream-accepted v N P Q U ts room w whole h z c p q u r after b =
     let t : Word = together ts in
-    let m = written N t room (told-accepts (writeTerm N t room) w whole h z) in
+    let m = written v N t room (told-accepts (writeTerm v N t room) w whole h z) in
     let i : Within N P Q U t = record {
       agreeing = valid-agreeing N t (m .writable .valid);
       pages = omega arith;
       positions = omega arith;
       below = omega arith;
     } in
-    let n = length-term N P Q U t i (sym p) (sym q) (sym u) in
-    let a = word-announced N P Q U t i (sym p) (sym q) (sym u) (m .writable .within)
-    (omega (arith, m .writable .reach)) in
-    let d = passed-told (beginTerm N P Q U room) r after b
-    (begin-accepted N P Q U room a (omega (arith, n, m .fits))) in (
+    let n = length-term v N P Q U t i (sym p) (sym q) (sym u) in
+    let a = word-announced v N P Q U t i (sym p) (sym q) (sym u) (m .writable .known)
+    (m .writable .within) (omega (arith, m .writable .reach)) in
+    let d = passed-told (beginTerm v N P Q U room) r after b
+    (begin-accepted v N P Q U room a (omega (arith, n, m .fits))) in (
       d,
-      finishes N P Q U room t i (sym p) (sym q) (sym u) ts [] (r .stream) after
-          (begun-underway N P Q U room r after b d) c (sym (none-joined t)),
+      finishes v N P Q U room t i (sym p) (sym q) (sym u) ts [] (r .stream) after
+          (begun-underway v N P Q U room r after b d) c (sym (none-joined t)),
     )
 
 -- ---- "After a refused announcement, a 10 or a finished close every call is 10, room unchanged."
@@ -127,9 +127,9 @@ over-stays = (
   λ room r after p. end-answers over room r after p .ended (inl (λ e. omega arith)),
 )
 
-pub over-stays-begin : (N P Q U : ℕ) (room : List ℕ) (r : HostStreamed) (after : List ℕ)
-    → HostTermBegun N P Q U room r after → (r .refusal ≡ 0 → ⊥) → Stays (r .stream)
-over-stays-begin N P Q U room r after p n = rw (begin-refused N P Q U room r after p n .1) over-stays
+pub over-stays-begin : (v N P Q U : ℕ) (room : List ℕ) (r : HostStreamed) (after : List ℕ)
+    → HostTermBegun v N P Q U room r after → (r .refusal ≡ 0 → ⊥) → Stays (r .stream)
+over-stays-begin v N P Q U room r after p n = rw (begin-refused v N P Q U room r after p n .1) over-stays
 
 pub over-stays-put : (s : Stream) (t : Word) (room : List ℕ) (r : HostStreamed) (after : List ℕ)
     → HostPostingsPut s t room r after → r .refusal ≡ 10 → Stays (r .stream)
@@ -152,15 +152,15 @@ over-stays-end s room r after p n =
 -- ---- Bytes past the block that was announced are as they were after every call, accepted or refused, and the room is
 -- as long as it was.
 
-pub room-kept-begin : (N P Q U : ℕ) (room : List ℕ) (r : HostStreamed) (after : List ℕ)
-    → HostTermBegun N P Q U room r after → Kept (streamSize N P Q U) room after
-room-kept-begin N P Q U room r after p = elim (ℕ-discrete (r .refusal) 0) [
+pub room-kept-begin : (v N P Q U : ℕ) (room : List ℕ) (r : HostStreamed) (after : List ℕ)
+    → HostTermBegun v N P Q U room r after → Kept (streamSize v N P Q U) room after
+room-kept-begin v N P Q U room r after p = elim (ℕ-discrete (r .refusal) 0) [
   | yes z ↦
-      let o = begun-underway N P Q U room r after p z in
-      let n = ap length (sym (word-none N P Q U)) ∙ length-word N P Q U (together []) in
-      rw (begin-writes N P Q U room r after p z .2)
-      (kept-laid (streamSize N P Q U) (announced N P Q U) room n (o .fits))
-  | no n ↦ rw (begin-refused N P Q U room r after p n .2) (kept-same (streamSize N P Q U) room)
+      let o = begun-underway v N P Q U room r after p z in
+      let n = ap length (sym (word-none v N P Q U)) ∙ length-word v N P Q U (together []) in
+      rw (begin-writes v N P Q U room r after p z .2)
+      (kept-laid (streamSize v N P Q U) (announced v N P Q U) room n (o .fits))
+  | no n ↦ rw (begin-refused v N P Q U room r after p n .2) (kept-same (streamSize v N P Q U) room)
 ]
 
 -- a later call, of which what it leaves where it is accepted is known

@@ -9,23 +9,25 @@ use borrow.Author.Tests.{ltb-true}
 use lib.Dec.{ltb}
 use lib.ListN.{length, getD, replicate}
 use Rattle.rules.specs.Refusal.{number, accepted, andThen}
-use Rattle.rules.specs.Limits.{offsetLimit}
+use Rattle.rules.specs.Limits.{offsetLimit, upTo}
 use Rattle.rules.specs.Bytes.{Bytes, be, beAt, sized, same}
 use Rattle.rules.specs.Runs.{bit, runWord, runBit, field, wordsFor, words}
-use Rattle.rules.specs.List.{rising, validList, greatest, width, zeros, upper, lower, afterZero, pointer, pointers}
-use Rattle.rules.specs.List.{lowerAt, upperAt, size, runs, body, block}
-use Rattle.rules.specs.ReadList.{stated, listU, listN, elements, readList, decode, isBlock, listRefusal}
+use Rattle.rules.specs.List.{rising, validList, greatest, width, zeros, upper, lower, afterZero, pointer}
+use Rattle.rules.specs.List.{fours, lowerAt, upperAt, size, runs, body, block, twoRuns, dense, formOf}
+use Rattle.rules.specs.ReadList.{stated, listU, listN, elements, readList, formAt, decode, isBlock, refusalIn}
+use Rattle.rules.specs.ReadList.{listRefusal, partRefusal}
 use Rattle.rules.specs.Write.{laid, stored, writeList}
 use Rattle.rules.specs.Term.{Word, total, sums, next, raised, placed, places, positive, inOrder, inOrderByPage}
 use Rattle.rules.specs.Term.{validWord, termBlock, writeTerm}
 use Rattle.rules.specs.Parts.{after, part, inside}
 use Rattle.rules.specs.ReadTerm.{listsOf, pagesOf, countsOf, positionsOf, gaps, less, lowered, readWord, disagree}
 use Rattle.rules.specs.ReadTerm.{termRefusal}
-use Rattle.rules.specs.Index.{indexFront, terms, card, validWords, validCard, indexN, indexT, termPart, wordOf}
+use Rattle.rules.specs.Index.{indexFront, terms, card, validWords, validCard, indexV, indexN, indexT, termPart, wordOf}
 use Rattle.rules.specs.Index.{termsRefusal, indexRefusal, closeRefusal, closeIndex}
 use Rattle.rules.specs.Seek.{placeOf, bitsOf, cursorBit, startOf, looksTo, walk, gone, arrived, walked, walkFrom, move}
 use Rattle.rules.specs.Seek.{fresh, rankOf, seek}
-use Rattle.rules.specs.Common.{leadFrom, leadOf, readersOf, before, stopped, agree, counted, nothing, rounds}
+use Rattle.rules.specs.Common.{leadFrom, leadOf, reader, readersOf, seekBy, movedBy, before, stopped, agree, counted}
+use Rattle.rules.specs.Common.{nothing, rounds}
 use Rattle.rules.specs.Common.{leadPages, otherPages, commonFrom, common}
 use Rattle.rules.specs.Plain.{firstFrom, below, member, inAll, sharedBy, commonPages, positionsAmong, positionsOn}
 use Rattle.rules.specs.Plain.{phraseOf, stands, startsAmong, starts, withStarts}
@@ -40,15 +42,15 @@ use Rattle.hostlaws.specs.declared.HostWritten.{HostWritten}
 use Rattle.hostlaws.specs.declared.HostAsked.{HostAsked}
 use Rattle.hostlaws.specs.Host.{HostListChecked, HostListWritten, HostTermChecked, HostTermWritten, HostIndexChecked}
 use Rattle.hostlaws.specs.Host.{HostIndexClosed, HostAnswered}
-use Rattle.demands.specs.Asking.{ValidWord, Query, Good, named, pagesNamed, plain, plainAll}
+use Rattle.demands.specs.Asking.{Known, ValidWord, Query, Good, named, pagesNamed, plain, plainAll}
 
 -- ---- the promises, for every input
 
 pub list-checked-met : (s : List ℕ) → (r : ℕ) × HostListChecked s r
 list-checked-met s = (number (listRefusal s), refl)
 
-pub term-checked-met : (s : List ℕ) → (r : ℕ) × HostTermChecked s r
-term-checked-met s = (number (termRefusal s), refl)
+pub term-checked-met : (v : ℕ) (s : List ℕ) → (r : ℕ) × HostTermChecked v s r
+term-checked-met v s = (number (termRefusal v s), refl)
 
 pub index-checked-met : (s : List ℕ) → (r : ℕ) × HostIndexChecked s r
 index-checked-met s = (number (indexRefusal s), refl)
@@ -59,16 +61,16 @@ list-written-met U xs room =
     let m = writeList U xs room in
     (record { refusal = number (m .refusal); length = m .size }, m .room, refl)
 
-pub term-written-met : (N : ℕ) (t : Word) (room : List ℕ)
-    → (r : HostWritten) × (after : List ℕ) × HostTermWritten N t room r after
-term-written-met N t room =
-    let m = writeTerm N t room in
+pub term-written-met : (v N : ℕ) (t : Word) (room : List ℕ)
+    → (r : HostWritten) × (after : List ℕ) × HostTermWritten v N t room r after
+term-written-met v N t room =
+    let m = writeTerm v N t room in
     (record { refusal = number (m .refusal); length = m .size }, m .room, refl)
 
-pub index-closed-met : (buffer : List ℕ) (used N T : ℕ)
-    → (r : HostWritten) × (after : List ℕ) × HostIndexClosed buffer used N T r after
-index-closed-met buffer used N T =
-    let m = closeIndex buffer used N T in
+pub index-closed-met : (buffer : List ℕ) (used v N T : ℕ)
+    → (r : HostWritten) × (after : List ℕ) × HostIndexClosed buffer used v N T r after
+index-closed-met buffer used v N T =
+    let m = closeIndex buffer used v N T in
     (record { refusal = number (m .refusal); length = m .size }, m .room, refl)
 
 pub answered-met : (s qs room : List ℕ) → (r : HostAsked) × (after : List ℕ) × HostAnswered s qs room r after
@@ -76,7 +78,10 @@ answered-met s qs room =
     let a = ask s qs room in
     (record { refusal = number (a .refusal); answered = a .answered; used = a .used }, a .room, refl)
 
--- ---- a valid list, word and card
+-- ---- a version, a valid list, word and card
+
+pub known-met : Known 1 × Known 2
+known-met = ((omega arith, omega arith), (omega arith, omega arith))
 
 pub list-met : validList 3 (1 ∷ []) ≡ true
 unfolding validList rising
@@ -86,11 +91,11 @@ pub word-met : ValidWord 3 s9Word
 unfolding validWord rising positive total inOrder inOrderByPage next places placed raised s9Word
 word-met = (refl, omega arith, omega arith)
 
-pub card-met : validCard 3 (s9Word ∷ []) ≡ true
-unfolding validCard validWords validWord rising positive total inOrder inOrderByPage next places placed raised
-    s9Word terms termBlock sums sized be block body runs pointers pointer afterZero bit words wordsFor upper lower
-    zeros width greatest
-card-met = refl
+pub card-met : (validCard 1 3 (s9Word ∷ []) ≡ true) × (validCard 2 3 (s9Word ∷ []) ≡ true)
+unfolding validCard upTo formOf dense validWords validWord rising positive total inOrder inOrderByPage next places
+    placed raised s9Word terms termBlock sums sized be block body runs fours pointer afterZero bit words wordsFor upper
+    lower zeros width greatest
+card-met = (refl, refl)
 
 -- numbers that are all below 256 are bytes
 below-bytes : (s : List ℕ) → allBelow 256 s ≡ true → Bytes s
@@ -105,8 +110,8 @@ bytes-met = below-bytes s9 refl
 
 -- ---- S9's card and its questions
 
-pub s9-card : s9 ≡ card 3 (s9Word ∷ [])
-unfolding s9 s9Word card indexFront terms termBlock sums sized be block body runs pointers pointer afterZero bit
+pub s9-card : s9 ≡ card 1 3 (s9Word ∷ [])
+unfolding formOf s9 s9Word card indexFront terms termBlock sums sized be block body runs fours pointer afterZero bit
     words wordsFor upper lower zeros width greatest next places placed raised total
 s9-card = refl
 
@@ -128,7 +133,7 @@ pub run-met : Good 1 run
 unfolding goodQuestion phraseGood offsetsGood wordsGood allBelow termsOf offsetsOf rising
 run-met = (refl, (refl, tt))
 
-pub run-fits-met : length (joined (plainAll 3 (s9Word ∷ []) run)) ≡ 7
+pub run-fits-met : length (joined (plainAll 1 3 (s9Word ∷ []) run)) ≡ 7
 unfolding joined plainAll plain byCommon byPhrase numbered named pagesNamed termsOf offsetsOf phraseOf s9Word
     commonPages sharedBy inAll withStarts starts startsAmong stands positionsOn positionsAmong member
 run-fits-met = refl
@@ -144,20 +149,21 @@ pub asked-met : HostAnswered s9 (3 ∷ (1 ∷ (0 ∷ []))) (replicate 4 0) (repo
     × HostAnswered s9 (3 ∷ (1 ∷ (1 ∷ []))) (replicate 3 0) (reports 8 0 0) (replicate 3 0)
     × HostAnswered s9 (4 ∷ (4 ∷ (0 ∷ (0 ∷ (0 ∷ (2 ∷ [])))))) (replicate 3 0) (reports 0 1 3) (2 ∷ (1 ∷ (1 ∷ [])))
     × HostAnswered s9 (4 ∷ (4 ∷ (0 ∷ (0 ∷ (0 ∷ (0 ∷ [])))))) (replicate 3 0) (reports 8 0 0) (replicate 3 0)
-unfolding accepted andThen be beAt sized same bit runWord runBit field wordsFor words rising validList greatest
-    width zeros upper lower afterZero pointer pointers lowerAt upperAt size runs body block stated listU listN
-    elements readList decode isBlock listRefusal laid total sums next raised placed places positive inOrder
-    inOrderByPage validWord termBlock after part inside listsOf pagesOf countsOf positionsOf gaps less lowered
-    readWord disagree termRefusal indexFront terms card validWords validCard indexN indexT termPart wordOf
-    termsRefusal indexRefusal placeOf bitsOf cursorBit startOf looksTo walk gone arrived walked walkFrom move seek
-    leadFrom leadOf readersOf before stopped agree counted nothing rounds leadPages otherPages commonFrom common firstFrom member inAll sharedBy
-    commonPages positionsAmong positionsOn phraseOf stands startsAmong starts withStarts numbered pagesIn listsIn
-    wordsIn byRank byBound byCommon byPhrase termsOf offsetsOf phraseIn answer allBelow wordsGood offsetsGood
-    phraseGood goodQuestion kindOf countOf argsOf behind wellFormed replies fitting fitted reply joined put ask s9
+unfolding upTo dense formOf formAt refusalIn partRefusal indexV reader seekBy movedBy accepted andThen be beAt sized
+    same bit runWord runBit field wordsFor words rising validList greatest width zeros upper lower afterZero pointer
+    fours lowerAt upperAt size runs body block stated listU listN elements readList decode isBlock listRefusal laid
+    total sums next raised placed places positive inOrder inOrderByPage validWord termBlock after part inside listsOf
+    pagesOf countsOf positionsOf gaps less lowered readWord disagree termRefusal indexFront terms card validWords
+    validCard indexN indexT termPart wordOf termsRefusal indexRefusal placeOf bitsOf cursorBit startOf looksTo walk gone
+    arrived walked walkFrom move seek leadFrom leadOf readersOf before stopped agree counted nothing rounds leadPages
+    otherPages commonFrom common firstFrom member inAll sharedBy commonPages positionsAmong positionsOn phraseOf stands
+    startsAmong starts withStarts numbered pagesIn listsIn wordsIn byRank byBound byCommon byPhrase termsOf offsetsOf
+    phraseIn answer allBelow wordsGood offsetsGood phraseGood goodQuestion kindOf countOf argsOf behind wellFormed
+    replies fitting fitted reply joined put ask s9
 asked-met = (refl, refl, refl, refl, refl)
 
 -- a bound that goes down: the cursor stays on its page and says that page's rank, 7, where two pages lie below
-pub lower-met : (ranks (answers 44 s1List fresh (43 ∷ (5 ∷ []))) ≡ 7 ∷ (7 ∷ []))
+pub lower-met : (ranks (answers twoRuns 44 s1List fresh (43 ∷ (5 ∷ []))) ≡ 7 ∷ (7 ∷ []))
     × (belows s1List (43 ∷ (5 ∷ [])) ≡ 7 ∷ (2 ∷ []))
     × (neverDown 0 (43 ∷ (5 ∷ [])) ≡ false)
 unfolding ranks rankOf answers belows below neverDown s1List seek move walkFrom walked walk arrived startOf cursorBit
@@ -174,11 +180,11 @@ pub list-refused-met : HostListWritten 5 (5 ∷ []) [] (record { refusal = 10; l
 unfolding writeList rising
 list-refused-met = refl
 
-pub close-done-met : HostIndexClosed s9 95 3 1 (record { refusal = 0; length = 95 }) s9
-unfolding closeIndex closeRefusal s9 accepted andThen be beAt bit runWord runBit field wordsFor words sized rising
-    greatest width zeros upper lower afterZero pointer pointers lowerAt upperAt size runs body block same stated
-    listU listN elements readList decode isBlock listRefusal laid next after part inside listsOf pagesOf countsOf
-    positionsOf disagree termRefusal indexFront termsRefusal
+pub close-done-met : HostIndexClosed s9 95 1 3 1 (record { refusal = 0; length = 95 }) s9
+unfolding upTo dense formOf formAt refusalIn partRefusal closeIndex closeRefusal s9 accepted andThen be beAt bit runWord
+    runBit field wordsFor words sized rising greatest width zeros upper lower afterZero pointer fours lowerAt upperAt
+    size runs body block same stated listU listN elements readList decode isBlock listRefusal laid next after part
+    inside listsOf pagesOf countsOf positionsOf disagree termRefusal indexFront termsRefusal
 close-done-met = refl
 
 -- ---- a word named twice
@@ -194,30 +200,33 @@ refuses n = record { refusal = n; length = 0 }
 abbrev word : List ℕ → List ℕ → List ℕ → Word
 word pages counts positions = record { pages = pages; counts = counts; positions = positions }
 
--- 4, each case of 10, 4 again and 9
-pub term-numbers-met : HostTermWritten 16777217 (word [] [] []) [] (refuses 4) []
-    × HostTermWritten 3 (word (1 ∷ []) [] []) [] (refuses 10) []
-    × HostTermWritten 3 (word (1 ∷ (1 ∷ [])) (1 ∷ (1 ∷ [])) (0 ∷ (0 ∷ []))) [] (refuses 10) []
-    × HostTermWritten 3 (word (3 ∷ []) (1 ∷ []) (0 ∷ [])) [] (refuses 10) []
-    × HostTermWritten 3 (word (1 ∷ []) (0 ∷ []) []) [] (refuses 10) []
-    × HostTermWritten 3 (word (1 ∷ []) (1 ∷ []) []) [] (refuses 10) []
-    × HostTermWritten 3 (word (1 ∷ []) (2 ∷ []) (4 ∷ (4 ∷ []))) [] (refuses 10) []
-    × HostTermWritten 3 (word (1 ∷ []) (1 ∷ []) (16777216 ∷ [])) [] (refuses 4) []
-    × HostTermWritten 3 s9Word [] (refuses 9) []
-unfolding writeTerm validWord rising positive total inOrder inOrderByPage next places placed raised stored termBlock
-    sums sized be block body runs pointers pointer afterZero bit words wordsFor upper lower zeros width greatest
+-- 3 for an unknown version, 4, each case of 10, 4 again and 9
+pub term-numbers-met : HostTermWritten 0 16777217 (word [] [] []) [] (refuses 3) []
+    × HostTermWritten 3 16777217 (word [] [] []) [] (refuses 3) []
+    × HostTermWritten 1 16777217 (word [] [] []) [] (refuses 4) []
+    × HostTermWritten 1 3 (word (1 ∷ []) [] []) [] (refuses 10) []
+    × HostTermWritten 1 3 (word (1 ∷ (1 ∷ [])) (1 ∷ (1 ∷ [])) (0 ∷ (0 ∷ []))) [] (refuses 10) []
+    × HostTermWritten 1 3 (word (3 ∷ []) (1 ∷ []) (0 ∷ [])) [] (refuses 10) []
+    × HostTermWritten 1 3 (word (1 ∷ []) (0 ∷ []) []) [] (refuses 10) []
+    × HostTermWritten 1 3 (word (1 ∷ []) (1 ∷ []) []) [] (refuses 10) []
+    × HostTermWritten 1 3 (word (1 ∷ []) (2 ∷ []) (4 ∷ (4 ∷ []))) [] (refuses 10) []
+    × HostTermWritten 1 3 (word (1 ∷ []) (1 ∷ []) (16777216 ∷ [])) [] (refuses 4) []
+    × HostTermWritten 1 3 s9Word [] (refuses 9) []
+unfolding upTo formOf writeTerm validWord rising positive total inOrder inOrderByPage next places placed raised stored
+    termBlock sums sized be block body runs fours pointer afterZero bit words wordsFor upper lower zeros width greatest
     s9Word
-term-numbers-met = (refl, refl, refl, refl, refl, refl, refl, refl, refl)
+term-numbers-met = (refl, refl, refl, refl, refl, refl, refl, refl, refl, refl, refl)
 
--- 9, 1, 4 by N and by T, 5 for a byte left over, and 1 for a term that is not there
-pub close-numbers-met : HostIndexClosed [] 1 0 0 (refuses 9) []
-    × HostIndexClosed [] 0 0 0 (refuses 1) []
-    × HostIndexClosed (replicate 11 0) 11 16777217 0 (refuses 4) (replicate 11 0)
-    × HostIndexClosed (replicate 11 0) 11 0 4097 (refuses 4) (replicate 11 0)
-    × HostIndexClosed (replicate 12 0) 12 0 0 (refuses 5) (replicate 12 0)
-    × HostIndexClosed (replicate 11 0) 11 0 1 (refuses 1) (replicate 11 0)
-unfolding closeIndex closeRefusal termsRefusal inside accepted
-close-numbers-met = (refl, refl, refl, refl, refl, refl)
+-- 9, 1, 3 for an unknown version, 4 by N and by T, 5 for a byte left over, and 1 for a term that is not there
+pub close-numbers-met : HostIndexClosed [] 1 0 0 0 (refuses 9) []
+    × HostIndexClosed [] 0 0 0 0 (refuses 1) []
+    × HostIndexClosed (replicate 11 0) 11 3 16777217 0 (refuses 3) (replicate 11 0)
+    × HostIndexClosed (replicate 11 0) 11 1 16777217 0 (refuses 4) (replicate 11 0)
+    × HostIndexClosed (replicate 11 0) 11 1 0 4097 (refuses 4) (replicate 11 0)
+    × HostIndexClosed (replicate 12 0) 12 1 0 0 (refuses 5) (replicate 12 0)
+    × HostIndexClosed (replicate 11 0) 11 1 0 1 (refuses 1) (replicate 11 0)
+unfolding upTo closeIndex closeRefusal termsRefusal inside accepted
+close-numbers-met = (refl, refl, refl, refl, refl, refl, refl)
 
 -- a refused card
 pub card-refused-met : HostIndexChecked [] 1 × HostAnswered [] [] [] (reports 1 0 0) []

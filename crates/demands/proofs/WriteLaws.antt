@@ -11,20 +11,21 @@ use lib.ListN.{length}
 use Rattle.rules.specs.declared.Refusal.{Refusal}
 use Rattle.rules.specs.declared.Refusal.the-variants.{Accepted, Short, Length, Version, Limit, Layout, Runs, Parts}
 use Rattle.rules.specs.declared.Refusal.the-variants.{Question, Room, Lists}
-use Rattle.rules.specs.Limits.{limit}
+use Rattle.rules.specs.Limits.{limit, lastEdition, upTo}
 use Rattle.rules.specs.Refusal.{number, accepted}
 use Rattle.rules.specs.List.{rising, validList, block}
 use Rattle.rules.specs.Write.{Made, refused, laid, stored, writeList}
 use Rattle.rules.specs.Term.{Word, next, places, validWord, termBlock, writeTerm}
 use Rattle.rules.specs.Index.{closeRefusal, closeIndex}
 use Rattle.laws.proofs.RefusalLaws.{number-inj, accepted-true, true-accepted}
+use Rattle.laws.proofs.HeadLaws.{upTo-parts, upTo-known}
 use Rattle.laws.proofs.RoomLaws.{success, made-passed, stored-fits, fits-stored}
 use Rattle.listlaws.proofs.ValidLaws.{valid-from, valid-parts}
 use Rattle.termlaws.specs.Words.{Writable}
 use Rattle.cardlaws.proofs.ClosingLaws.{close-told}
 use Rattle.hostlaws.specs.declared.HostWritten.{HostWritten}
 use Rattle.hostlaws.specs.Host.{Told, told, toldOf}
-use Rattle.demands.specs.Asking.{ValidWord}
+use Rattle.demands.specs.Asking.{Known, ValidWord}
 
 -- ---- numbers of refusal
 
@@ -66,40 +67,41 @@ list-keeps U xs room =
     keeps-cond room (ltb limit U) _ _ (keeps-refused room Limit)
     (keeps-cond room (not (rising 0 U xs)) _ _ (keeps-refused room Lists) (keeps-stored room (block U xs)))
 
-pub term-keeps : (N : ℕ) (t : Word) (room : List ℕ) → Keeps room (writeTerm N t room)
+pub term-keeps : (v N : ℕ) (t : Word) (room : List ℕ) → Keeps room (writeTerm v N t room)
 unfolding writeTerm
-term-keeps N t room =
-    keeps-cond room (ltb limit N) _ _ (keeps-refused room Limit)
+term-keeps v N t room =
+    keeps-cond room (not (upTo lastEdition v)) _ _ (keeps-refused room Version)
+    (keeps-cond room (ltb limit N) _ _ (keeps-refused room Limit)
     (keeps-cond room (not (validWord N t)) _ _ (keeps-refused room Lists)
     (keeps-cond room (ltb limit (next 0 (places t))) _ _
-    (keeps-refused room Limit) (keeps-stored room (termBlock N t))))
+    (keeps-refused room Limit) (keeps-stored room (termBlock v N t)))))
 
-pub close-keeps : (buffer : List ℕ) (used N T : ℕ) → Keeps buffer (closeIndex buffer used N T)
+pub close-keeps : (buffer : List ℕ) (used v N T : ℕ) → Keeps buffer (closeIndex buffer used v N T)
 unfolding closeIndex
-close-keeps buffer used N T =
-    keeps-cond buffer (accepted (closeRefusal buffer used N T)) _ _
-    (λ n. absurd (n refl)) (keeps-refused buffer (closeRefusal buffer used N T))
+close-keeps buffer used v N T =
+    keeps-cond buffer (accepted (closeRefusal buffer used v N T)) _ _
+    (λ n. absurd (n refl)) (keeps-refused buffer (closeRefusal buffer used v N T))
 
 -- closing gives its refusal
-pub close-gives : (buffer : List ℕ) (used N T : ℕ)
-    → closeIndex buffer used N T .refusal ≡ closeRefusal buffer used N T
+pub close-gives : (buffer : List ℕ) (used v N T : ℕ)
+    → closeIndex buffer used v N T .refusal ≡ closeRefusal buffer used v N T
 unfolding closeIndex
-close-gives buffer used N T = go (accepted (closeRefusal buffer used N T)) refl
+close-gives buffer used v N T = go (accepted (closeRefusal buffer used v N T)) refl
   where
-    go : (b : Bool) → accepted (closeRefusal buffer used N T) ≡ b
-        → closeIndex buffer used N T .refusal ≡ closeRefusal buffer used N T
-    go true e = rw e (sym (accepted-true (closeRefusal buffer used N T) e))
+    go : (b : Bool) → accepted (closeRefusal buffer used v N T) ≡ b
+        → closeIndex buffer used v N T .refusal ≡ closeRefusal buffer used v N T
+    go true e = rw e (sym (accepted-true (closeRefusal buffer used v N T) e))
     go false e = rw e
 
 -- ---- written
 
 -- closing reports the used length
-pub close-size : (buffer : List ℕ) (used N T : ℕ) → closeIndex buffer used N T .refusal ≡ Accepted
-    → closeIndex buffer used N T .size ≡ used
+pub close-size : (buffer : List ℕ) (used v N T : ℕ) → closeIndex buffer used v N T .refusal ≡ Accepted
+    → closeIndex buffer used v N T .size ≡ used
 unfolding closeIndex
-close-size buffer used N T e =
-    let c = closeRefusal buffer used N T in
-    rw (true-accepted c (close-told buffer used N T e))
+close-size buffer used v N T e =
+    let c = closeRefusal buffer used v N T in
+    rw (true-accepted c (close-told buffer used v N T e))
 
 -- a valid list that fits, and nothing else, is written
 module _ (U : ℕ) (xs room : List ℕ) where
@@ -122,11 +124,16 @@ module _ (U : ℕ) (xs room : List ℕ) where
       )
 
 -- a word that may be written, as termlaws has it
-pub to-writable : (N : ℕ) (t : Word) → ValidWord N t → Writable N t
-to-writable N t v = record { valid = v .0; within = v .1; reach = v .2 }
+pub to-writable : (v N : ℕ) (t : Word) → Known v → ValidWord N t → Writable v N t
+to-writable v N t k w = record {
+  known = upTo-known lastEdition v (k .0) (k .1);
+  valid = w .0;
+  within = w .1;
+  reach = w .2;
+}
 
-pub from-writable : (N : ℕ) (t : Word) → Writable N t → ValidWord N t
-from-writable N t w = (w .valid, w .within, w .reach)
+pub from-writable : (v N : ℕ) (t : Word) → Writable v N t → Known v × ValidWord N t
+from-writable v N t w = (upTo-parts lastEdition v (w .known), (w .valid, w .within, w .reach))
 
 -- ---- what a host is told of it
 

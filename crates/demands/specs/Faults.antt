@@ -1,4 +1,5 @@
--- What can be wrong with bytes and with lists handed to a writer, each in document 01's words [01 Numbers of refusal].
+-- What can be wrong with bytes and with lists handed to a writer, each in document 01's words [01 Numbers of refusal]
+-- or in request f's [02 f].
 -- Sentences.antt gives each its number and its place; BadQuestions.antt has what can be wrong with a question.
 --
 -- Bytes s: all that were given, or what remains of their container from there on; h is their header's size.
@@ -7,12 +8,19 @@
 --   BelowHeader h s   2: "inside a container, it is below the header size"
 --   PastRest s        2: "or above what remains"
 --   OtherVersion s    3: "version is not 1"
+--   Unknown last v    3: "a version that no edition has", of those from 1 to last
 --   Over most n       4: "U, N or T over its limit"
 --   NAboveU s         5: "n above U"
---   OtherSize s       5: "length not the one that U and n give"
+--   Dense U n         "n at least 1" and "n + Z + n·w exceeds the block's U"
+--   WrongForm v s     3: "A form in the wrong place (a bitmap in version 1, for n = 0, for counts or positions, for a
+--                     list that is not dense; the old form for a dense one)", of pages in an index of version v; of
+--                     counts and positions v is 1
+--   OtherSize s       5: "length not the one that U and n give", in the form that the version tells
 --   BytesLeft s       5: "bytes left after the last part"
---   BlockOf s xs      the bytes are the block of xs, a valid list below the U that they state
---   NoList s          6: "runs or pointers are not those of a valid list"
+--   BlockOf s xs      the bytes are the block of xs, a valid list below the U that they state, in the form that their
+--                     version tells
+--   NoList s          6: "runs or pointers are not those of a valid list"; "Wrong numbers inside, spare bits, a wrong
+--                     count of ones"
 --   CountsN s         7: "counts n against pages n"; s are the bytes of a term
 --   OtherEnd s        U is not "the last element plus 1, or 0" of the list whose block the bytes are
 --   CountsU s         7: "counts U"
@@ -30,13 +38,14 @@
 --                     those of the pages before it
 --   PlacesDisorder t  10: "positions are out of order in a page"
 use mathlib.Core.Bool.{true}
+use mathlib.Core.Logic.{_⊎_}
 use mathlib.Core.Path.{_≡_}
 use mathlib.Core.List.{List}
-use Prim.Native.Nat.{ℕ, suc, _≤_, _<_}
+use Prim.Native.Nat.{ℕ, suc, _+_, _*_, _≤_, _<_}
 use lib.ListN.{length, getD, take, drop}
-use Rattle.rules.specs.Limits.{version}
-use Rattle.rules.specs.List.{validList, size, block}
-use Rattle.rules.specs.ReadList.{stated, listU, listN}
+use Rattle.rules.specs.Limits.{version, mapVersion, mapEdition}
+use Rattle.rules.specs.List.{validList, width, zeros, formSize, formBlock}
+use Rattle.rules.specs.ReadList.{stated, listU, listN, formAt}
 use Rattle.rules.specs.Term.{Word, total, next}
 use Rattle.rules.specs.ReadTerm.{pagesOf, countsOf, positionsOf}
 
@@ -57,20 +66,31 @@ PastRest s = length s < stated s
 abbrev pub OtherVersion : List ℕ → Type 0
 OtherVersion s = getD s 4 0 ≡ version → ⊥
 
+abbrev pub Unknown : ℕ → ℕ → Type 0
+Unknown last v = (v < 1) ⊎ (last < v)
+
 abbrev pub Over : ℕ → ℕ → Type 0
 Over most n = most < n
 
 abbrev pub NAboveU : List ℕ → Type 0
 NAboveU s = listU s < listN s
 
+abbrev pub Dense : ℕ → ℕ → Type 0
+Dense U n = (1 ≤ n) × (U < n + zeros U (width U n) + n * width U n)
+
+abbrev pub WrongForm : ℕ → List ℕ → Type 0
+WrongForm v s =
+    ((getD s 4 0 ≡ mapVersion) × ((v < mapEdition) ⊎ (Dense (listU s) (listN s) → ⊥)))
+    ⊎ ((getD s 4 0 ≡ version) × (mapEdition ≤ v) × Dense (listU s) (listN s))
+
 abbrev pub OtherSize : List ℕ → Type 0
-OtherSize s = length s ≡ size (listU s) (listN s) → ⊥
+OtherSize s = length s ≡ formSize (formAt s) (listU s) (listN s) → ⊥
 
 abbrev pub BytesLeft : List ℕ → Type 0
 BytesLeft s = 0 < length s
 
 abbrev pub BlockOf : List ℕ → List ℕ → Type 0
-BlockOf s xs = (validList (listU s) xs ≡ true) × (s ≡ block (listU s) xs)
+BlockOf s xs = (validList (listU s) xs ≡ true) × (s ≡ formBlock (formAt s) (listU s) xs)
 
 abbrev pub NoList : List ℕ → Type 0
 NoList s = (xs : List ℕ) → BlockOf s xs → ⊥

@@ -1,6 +1,7 @@
 pub mod Asking
 pub mod InRow
 pub mod Faults
+pub mod Forms
 pub mod BadQuestions
 pub mod Sentences
 pub mod Streams

@@ -1,11 +1,11 @@
 -- What can be wrong with an announcement, with postings and with a close, each in request c's words, and the number
 -- that a session's calls then give [02 c].
 --
--- The announcement of P pages below N and Q positions whose elements end at U:
+-- The announcement, for an index of version v, of P pages below N and Q positions whose elements end at U:
 --   NOrUOver N U      4: "N or U over"
 --   AnnouncedWrong N P Q U  10: "more pages than N or than positions, more positions than U, positions but no pages, U
 --                     not 0 without positions"
---   announcing N P Q U room  "4 .., 10 .., 9, in this order"
+--   announcing v N P Q U room  "4 .., 10 .., 9, in this order", and 3 before them for an unknown version [02 f]
 --
 -- A later call on session s:
 --   NotLive s         the session does not go on: it has ended, or it is none that a call hands back, since what was
@@ -29,14 +29,14 @@ use mathlib.Core.Path.{_≡_}
 use mathlib.Core.List.{List, [], _∷_}
 use Prim.Native.Nat.{ℕ, _+_, _≤_, _<_}
 use lib.ListN.{length, getD, replicate}
-use Rattle.rules.specs.declared.Refusal.the-variants.{Limit, Room, Lists}
+use Rattle.rules.specs.declared.Refusal.the-variants.{Version, Limit, Room, Lists}
 use Rattle.rules.specs.declared.Stream.{Stream}
-use Rattle.rules.specs.Limits.{limit}
+use Rattle.rules.specs.Limits.{limit, lastEdition}
 use Rattle.rules.specs.Term.{Word, next, placed, places}
 use Rattle.rules.specs.Write.{laid}
 use Rattle.rules.specs.Stream.{streamSize, sizeOf, over}
 use Rattle.hostlaws.specs.declared.HostStreamed.{HostStreamed}
-use Rattle.demands.specs.Faults.{Over, OutOfOrder, NotBelow, LengthsDisagree, ZeroCount, OtherSum}
+use Rattle.demands.specs.Faults.{Unknown, Over, OutOfOrder, NotBelow, LengthsDisagree, ZeroCount, OtherSum}
 use Rattle.demands.specs.Faults.{PlacesDisorder}
 use Rattle.demands.specs.Sentences.{Sentence, _when_, First}
 use Rattle.demands.specs.Streams.{Leaves}
@@ -50,11 +50,12 @@ abbrev pub AnnouncedWrong : ℕ → ℕ → ℕ → ℕ → Type 0
 AnnouncedWrong N P Q U =
     (N < P) ⊎ ((Q < P) ⊎ ((U < Q) ⊎ (((P ≡ 0) × (0 < Q)) ⊎ ((Q ≡ 0) × (0 < U)))))
 
-abbrev pub announcing : ℕ → ℕ → ℕ → ℕ → List ℕ → List Sentence
-announcing N P Q U room =
-    Limit when NOrUOver N U
+abbrev pub announcing : ℕ → ℕ → ℕ → ℕ → ℕ → List ℕ → List Sentence
+announcing v N P Q U room =
+    Version when Unknown lastEdition v
+    ∷ Limit when NOrUOver N U
     ∷ Lists when AnnouncedWrong N P Q U
-    ∷ Room when (length room < streamSize N P Q U)
+    ∷ Room when (length room < streamSize v N P Q U)
     ∷ []
 
 -- ---- a word
@@ -76,7 +77,8 @@ OtherTotals P Q U t =
 abbrev pub NotLive : Stream → Type 0
 NotLive s =
     (s .mark ≡ 1 → ⊥)
-    ⊎ ((NOrUOver (s .n) (s .u) ⊎ AnnouncedWrong (s .n) (s .pages) (s .positions) (s .u))
+    ⊎ ((Unknown lastEdition (s .version)
+    ⊎ (NOrUOver (s .n) (s .u) ⊎ AnnouncedWrong (s .n) (s .pages) (s .positions) (s .u)))
     ⊎ ((s .pages < s .laid) ⊎ (s .positions < s .filled)))
 
 abbrev pub ShortRoom : Stream → List ℕ → Type 0

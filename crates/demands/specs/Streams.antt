@@ -2,8 +2,8 @@
 -- one left [02 c].
 --
 --   Handed s room ts s' room'  session s with `room` accepts the runs ts one after the other, and comes to s' and room'
---   Led N P Q U before ts s room  P pages and Q positions whose elements end at U, announced on the room `before`, and
---                      then the runs ts are accepted, and come to session s and `room`
+--   Led v N P Q U before ts s room  P pages and Q positions whose elements end at U, announced on the room `before` for
+--                      an index of version v, and then the runs ts are accepted, and come to session s and `room`
 --   Finishes s room ts  whatever session s with `room` answers, the runs ts and then the close are accepted
 --   Leaves r after s room  the result r hands back session s, tells no length, and leaves `room`
 --   Kept n room after  only bytes before byte n may differ: the room is as long, and from there on the same
@@ -26,11 +26,11 @@ Handed s room (t ∷ ts) s' room' =
     × (r .refusal ≡ 0)
     × Handed (r .stream) after ts s' room'
 
-abbrev pub Led : ℕ → ℕ → ℕ → ℕ → List ℕ → List Word → Stream → List ℕ → Type 0
-Led N P Q U before ts s room =
+abbrev pub Led : ℕ → ℕ → ℕ → ℕ → ℕ → List ℕ → List Word → Stream → List ℕ → Type 0
+Led v N P Q U before ts s room =
     (r : HostStreamed)
     × (after : List ℕ)
-    × HostTermBegun N P Q U before r after
+    × HostTermBegun v N P Q U before r after
     × (r .refusal ≡ 0)
     × Handed (r .stream) after ts s room
 

@@ -1,15 +1,18 @@
-// The close of a session: the host's call. The pointers are written once all that was announced is laid.
+// The close of a session: the host's call. The pointers, or a bitmap's numbers, are written once all that was announced
+// is laid.
 
 ghost use mathlib.Core.Path.{_≡_};
-ghost use Rattle.rules.specs.InPlace.{from, pointed};
 ghost use Rattle.rules.specs.Stream.{complete};
 ghost use Rattle.rules.specs.Promises.{TermEnded};
-ghost use Rattle.sessionlaws.specs.Layout.{Housed};
+ghost use Rattle.sessionlaws.specs.Layout.{Roomed, ListsPointed};
+ghost use Rattle.endterm.specs.Pages.{Formed, PagesPointed};
 use rules::LISTS_AT;
 use rules::Refusal;
 use rules::Stream;
 use rules::Streamed;
 use sessionlaws::Layout;
+use shape::BITMAP;
+use shape::Shape;
 
 // Whether all that was announced is laid.
 fn is_complete(s: Stream) -> bool
@@ -24,16 +27,26 @@ fn is_complete(s: Stream) -> bool
     s.base == s.u
 }
 
-// Writes the pointers of the three lists.
+// Writes the pointers of the pages, or a bitmap's numbers.
+fn point_pages(block: &mut [u8], g: Shape)
+    requires { ⌜ Formed g (now block) ⌝ }
+    ensures { λ _. ⌜ PagesPointed g (now (block .entry)) (now (block .exit)) ⌝ }
+{
+    if g.w == BITMAP {
+        numbering::set_numbers(block, g);
+    } else {
+        pointing::set_pointers(block, g);
+    }
+}
+
+// Writes the pointers of the three lists, or numbers where the pages are a bitmap.
 fn point_lists(room: &mut [u8], g: Layout)
-    requires { ⌜ Housed g (now room) ⌝ }
-    ensures { λ _. ⌜ now (room .exit) ≡ from (g .third) (pointed (g .positions .u) (g .positions .n))
-        (from (g .second) (pointed (g .counts .u) (g .counts .n))
-        (from 5 (pointed (g .pages .u) (g .pages .n)) (now (room .entry)))) ⌝ }
+    requires { ⌜ Roomed g (now room) ⌝ }
+    ensures { λ _. ⌜ ListsPointed g (now (room .entry)) (now (room .exit)) ⌝ }
 {
     let second = g.second;
     let third = g.third;
-    pointing::set_pointers(&mut room[LISTS_AT..], g.pages);
+    point_pages(&mut room[LISTS_AT..], g.pages);
     pointing::set_pointers(&mut room[second..], g.counts);
     pointing::set_pointers(&mut room[third..], g.positions);
 }

@@ -2,33 +2,41 @@
 
 ghost use mathlib.Core.Bool.{true};
 ghost use mathlib.Core.Path.{_≡_};
-ghost use mathlib.Core.List.{[], _∷_};
+ghost use mathlib.Core.List.{[]};
 ghost use Prim.Native.Nat.{_-_, _/_, _≤_};
 ghost use lib.ListN.{length};
-ghost use lib.Seq.{sets};
-ghost use Rattle.rules.specs.Limits.{version};
-ghost use Rattle.rules.specs.Bytes.{be};
 ghost use Rattle.rules.specs.List.{rising, block};
 ghost use Rattle.rules.specs.Write.{laid};
-ghost use Rattle.filllaws.specs.Filling.{Fitting, Partly};
-ghost use Rattle.filllaws.specs.Filling.{Full, Closed};
+ghost use Rattle.filllaws.specs.Filling.{Fitting, VersionOf, Header, Partly, Full, Closed};
 use filllaws::Filling;
 use filllaws::Lows;
 use filllaws::Ups;
 use rules::LIST_N_AT;
 use rules::LIST_U_AT;
+use rules::MAP_VERSION;
 use rules::VERSION;
 use rules::VERSION_AT;
+use shape::BITMAP;
 use shape::Shape;
 
-// Writes the header of a block of shape g.
+// The version of a list of shape g.
+fn version_of(g: Shape) -> u8
+    ensures { λ r. ⌜ VersionOf g r ⌝ }
+{
+    if g.w == BITMAP {
+        return MAP_VERSION;
+    }
+    VERSION
+}
+
+// Writes the header of a block of shape g, in either form.
 pub fn put_header(room: &mut [u8], g: Shape)
     requires { ⌜ 13 ≤ length (now room) ⌝ }
-    ensures { λ _. ⌜ now (room .exit) ≡ sets
-        (sets (sets (sets (now (room .entry)) 0 (be 4 (g .end))) 4 (version ∷ [])) 5 (be 4 (g .u))) 9 (be 4 (g .n)) ⌝ }
+    ensures { λ _. ⌜ Header g (now (room .entry)) (now (room .exit)) ⌝ }
 {
+    let version = version_of(g);
     numbers::write_u32(room, 0, g.end as u64);
-    room[VERSION_AT] = VERSION;
+    room[VERSION_AT] = version;
     numbers::write_u32(room, LIST_U_AT, g.u as u64);
     numbers::write_u32(room, LIST_N_AT, g.n as u64);
 }

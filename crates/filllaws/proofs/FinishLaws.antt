@@ -11,17 +11,17 @@ use lib.Pow.{shr-mono}
 use lib.Seq.{ext-getD, getD-append-add, getD-drop}
 use Rattle.rules.specs.Bytes.{Bytes, beAt}
 use Rattle.rules.specs.Runs.{runWord, wordsFor}
-use Rattle.rules.specs.List.{width, zeros, lower, upper, size, pointer, block}
+use Rattle.rules.specs.List.{width, zeros, lower, upper, size, pointer, block, Form, formBlock}
 use Rattle.rules.specs.ReadList.{stated, listU, listN}
 use Rattle.rules.specs.Write.{laid}
 use Rattle.laws.proofs.ByteLaws.{Alike, alike-append, alike-read, alike-reads}
 use Rattle.shape.specs.declared.Shape.{Shape}
 use Rattle.listlaws.specs.Sound.{least, onesTo, After}
 use Rattle.listlaws.proofs.AfterLaws.{ones-steps, ones-none, after-le, after-unique, afterZero-is}
-use Rattle.listlaws.proofs.BlockLaws.{block-size, block-bytes, block-stated, block-version}
-use Rattle.listlaws.proofs.BlockLaws.{block-U, block-n, block-pointer, block-lower, block-upper}
+use Rattle.listlaws.proofs.BlockLaws.{block-bytes, block-pointer, block-lower, block-upper}
+use Rattle.maplaws.proofs.FormLaws.{form-length, form-bytes, form-stated, form-version, form-reads-U, form-reads-n}
 use Rattle.filllaws.specs.declared.Filling.{Filling}
-use Rattle.filllaws.specs.Filling.{Stored, Flushed, Held, Framed, high, Partly, Full}
+use Rattle.filllaws.specs.Filling.{Stored, Flushed, Held, FramedAs, Framed, high, Partly, Full}
 use Rattle.filllaws.proofs.StoreLaws.{held-alike, held-flushed}
 use Rattle.filllaws.proofs.FillLaws.{ones-all}
 use Rattle.filllaws.proofs.SideLaws.{sides, width-of, zeros-of, lower-is, upper-is, end-is, end-small}
@@ -84,6 +84,52 @@ module _ (g : Shape) (xs : List ℕ) (f : Filling) (before s : List ℕ)
 
 -- ---- the block
 
+module _ {o : Form} (g : Shape) (xs : List ℕ) (before t : List ℕ) (f : FramedAs o g before t)
+    (all : length xs ≡ g .n) (bt : Bytes t) where
+  abbrev F : List ℕ
+  F = formBlock o (g .u) xs
+
+  bf : Bytes F
+  bf = form-bytes o (g .u) xs
+
+  long : length F ≡ g .end
+  long = form-length o (g .u) xs ∙ rw all (sym (end-is g before (f .fitting)))
+
+  pub header : Alike t F 0 13
+  unfolding stated listU listN
+  header =
+      let e = end-small g before (f .fitting) in
+      let w = f .fitting .within in
+      let l = f .fitting .below in
+      let size-read : beAt 4 t 0 ≡ beAt 4 F 0 = f .size-is ∙ sym (form-stated o (g .u) xs ∙ rw long (mod-eq-of-lt e)) in
+      let version-read : getD t 4 0 ≡ getD F 4 0 = f .version-is ∙ sym (form-version o (g .u) xs) in
+      let u-read : beAt 4 t 5 ≡ beAt 4 F 5 = f .u-is ∙ sym (form-reads-U o (g .u) xs ∙ mod-eq-of-lt (omega arith)) in
+      let n-read : beAt 4 t 9 ≡ beAt 4 F 9 =
+      f .n-is ∙ sym (form-reads-n o (g .u) xs ∙ rw all (mod-eq-of-lt (omega arith))) in
+      alike-append t F 0 4 13 (alike-read t F bt bf 4 0 size-read)
+      (alike-append t F 4 5 13
+      (λ i a b. let q : 4 ≡ i = omega arith in subst (λ k. getD t k 0 ≡ getD F k 0) q version-read)
+      (alike-append t F 5 9 13 (alike-read t F bt bf 4 5 u-read) (alike-read t F bt bf 4 9 n-read)))
+
+  -- a room that agrees with the block
+  pub agrees : Alike t F 0 (g .end) → t ≡ laid F before
+  unfolding laid
+  agrees a = ext-getD 0 t (F ++ drop (length F) before) same-long at
+    where
+      same-long : length t ≡ length (F ++ drop (length F) before)
+      same-long = f .long ∙ sym (length-append F (drop (length F) before)
+          ∙ rw (length-drop (length F) before, long) (omega (arith, f .fitting .room)))
+
+      at : (i : ℕ) → i < length t → getD t i 0 ≡ getD (F ++ drop (length F) before) i 0
+      at i h =
+          elim (decLt i (g .end)) [
+            | yes y ↦ a i (omega arith) y ∙ sym (List·getD-append F (drop (length F) before) 0 i (rw long y))
+            | no y ↦
+                let q : length F + (i - length F) ≡ i = omega (arith, long) in
+                f .behind i (omega arith)
+                ∙ sym (rw q at (getD-append-add F (drop (length F) before) (i - length F) 0) ∙ rw (getD-drop, q))
+          ]
+
 module _ (g : Shape) (xs : List ℕ) (before t : List ℕ) (f : Framed g before t) (all : length xs ≡ g .n)
     (bt : Bytes t) where
   abbrev B : List ℕ
@@ -91,43 +137,6 @@ module _ (g : Shape) (xs : List ℕ) (before t : List ℕ) (f : Framed g before 
 
   bb : Bytes B
   bb = block-bytes (g .u) xs
-
-  long : length B ≡ g .end
-  long = block-size (g .u) xs ∙ rw all (sym (end-is g before (f .fitting)))
-
-  header : Alike t B 0 13
-  unfolding stated listU listN
-  header =
-      let e = end-small g before (f .fitting) in
-      let w = f .fitting .within in
-      let l = f .fitting .below in
-      let size-read : beAt 4 t 0 ≡ beAt 4 B 0 = f .size-is ∙ sym (block-stated (g .u) xs ∙ rw long (mod-eq-of-lt e)) in
-      let version-read : getD t 4 0 ≡ getD B 4 0 = f .version-is ∙ sym (block-version (g .u) xs) in
-      let u-read : beAt 4 t 5 ≡ beAt 4 B 5 = f .u-is ∙ sym (block-U (g .u) xs ∙ mod-eq-of-lt (omega arith)) in
-      let n-read : beAt 4 t 9 ≡ beAt 4 B 9 = f .n-is ∙ sym (block-n (g .u) xs ∙ rw all (mod-eq-of-lt (omega arith))) in
-      alike-append t B 0 4 13 (alike-read t B bt bb 4 0 size-read)
-      (alike-append t B 4 5 13
-      (λ i a b. let q : 4 ≡ i = omega arith in subst (λ k. getD t k 0 ≡ getD B k 0) q version-read)
-      (alike-append t B 5 9 13 (alike-read t B bt bb 4 5 u-read) (alike-read t B bt bb 4 9 n-read)))
-
-  -- a room that agrees with the block
-  agrees : Alike t B 0 (g .end) → t ≡ laid B before
-  unfolding laid
-  agrees a = ext-getD 0 t (B ++ drop (length B) before) same-long at
-    where
-      same-long : length t ≡ length (B ++ drop (length B) before)
-      same-long = f .long ∙ sym (length-append B (drop (length B) before)
-          ∙ rw (length-drop (length B) before, long) (omega (arith, f .fitting .room)))
-
-      at : (i : ℕ) → i < length t → getD t i 0 ≡ getD (B ++ drop (length B) before) i 0
-      at i h =
-          elim (decLt i (g .end)) [
-            | yes y ↦ a i (omega arith) y ∙ sym (List·getD-append B (drop (length B) before) 0 i (rw long y))
-            | no y ↦
-                let q : length B + (i - length B) ≡ i = omega (arith, long) in
-                f .behind i (omega arith)
-                ∙ sym (rw q at (getD-append-add B (drop (length B) before) (i - length B) 0) ∙ rw (getD-drop, q))
-          ]
 
   module _ (some : 0 < g .n)
       (lows : (k : ℕ) → k < wordsFor (g .n * g .w)
@@ -172,8 +181,8 @@ module _ (g : Shape) (xs : List ℕ) (before t : List ℕ) (f : Framed g before 
         let l1 : 13 + 4 * (Z / 256) ≡ g .lower = rw (← z) (sym (s .lower)) in
         let l2 : g .lower + 8 * wordsFor (g .n * g .w) ≡ g .upper = sym (s .upper) in
         let l3 : g .upper + 8 * wordsFor (g .n + Z) ≡ g .end = rw (← z) (sym (s .end)) in
-        agrees
-        (alike-append t B 0 13 (g .end) header
+        agrees g xs before t f all bt
+        (alike-append t B 0 13 (g .end) (header g xs before t f all bt)
         (alike-append t B 13 (g .lower) (g .end)
         (rw l1 at (alike-reads t B bt bb 4 13 (Z / 256) (λ q h.
         let e : 13 + 4 * q ≡ 9 + 4 * (q + 1) = omega arith in
@@ -188,7 +197,7 @@ module _ (g : Shape) (xs : List ℕ) (before t : List ℕ) (f : Framed g before 
   unfolding size
   finished-none none =
       let e : g .end ≡ 13 = rw none at (end-is g before (f .fitting)) in
-      agrees (rw e header)
+      agrees g xs before t f all bt (rw e (header g xs before t f all bt))
 
 -- ---- all together
 

@@ -10,10 +10,9 @@ use lib.Bits.{bitOr}
 use lib.ListN.{length, getD, length-append}
 use lib.Pow.{shr-mono}
 use lib.Seq.{sets, length-sets, getD-set-same}
-use Rattle.rules.specs.Limits.{version}
 use Rattle.rules.specs.Bytes.{be, beAt}
 use Rattle.rules.specs.Runs.{wordsFor}
-use Rattle.rules.specs.List.{zeros, lower, upper}
+use Rattle.rules.specs.List.{zeros, lower, upper, Form, formVersion}
 use Rattle.laws.proofs.BitLaws.{placed-one}
 use Rattle.laws.proofs.ByteLaws.{length-be, sets-other, beAt-sets, read-sets}
 use Rattle.shape.specs.declared.Shape.{Shape}
@@ -22,7 +21,8 @@ use Rattle.listlaws.proofs.ValidLaws.{field-in}
 use Rattle.filllaws.specs.declared.Lows.{Lows}
 use Rattle.filllaws.specs.declared.Filling.{Filling}
 use Rattle.filllaws.specs.Filling.{Stored, Flushed, Lower, Lowered, Raised}
-use Rattle.filllaws.specs.Filling.{Fitting, Framed, high, Partly, Next, Ready, OneMore}
+use Rattle.filllaws.specs.Filling.{FittingAs, FramedAs, Framed, high, Partly}
+use Rattle.filllaws.specs.Filling.{Next, Ready, OneMore}
 use Rattle.filllaws.proofs.FillLaws.{lowered-none, lowered-alike, lowered-lt}
 use Rattle.filllaws.proofs.FillLaws.{lowered-more, raised-none, raised-below, raised-more}
 use Rattle.filllaws.proofs.StoreLaws.{stored-none, flushed-none}
@@ -44,14 +44,14 @@ number-is : (k v : ℕ) (d e : List ℕ) (at : ℕ) → e ≡ sets d at (be k v)
     → beAt k e at ≡ v
 number-is k v d e at q h l = rw q (read-sets k v d at h ∙ mod-eq-of-lt l)
 
-module _ (g : Shape) (s : List ℕ) (f : Fitting g s) where
-  pub framed-none : (s1 s2 s3 s4 : List ℕ) → s1 ≡ sets s 0 (be 4 (g .end)) → s2 ≡ sets s1 4 (version ∷ [])
-      → s3 ≡ sets s2 5 (be 4 (g .u)) → s4 ≡ sets s3 9 (be 4 (g .n)) → Framed g s s4
+module _ {o : Form} (g : Shape) (s : List ℕ) (f : FittingAs o g s) where
+  pub framed-none : (s1 s2 s3 s4 : List ℕ) → s1 ≡ sets s 0 (be 4 (g .end)) → s2 ≡ sets s1 4 (formVersion o ∷ [])
+      → s3 ≡ sets s2 5 (be 4 (g .u)) → s4 ≡ sets s3 9 (be 4 (g .n)) → FramedAs o g s s4
   framed-none s1 s2 s3 s4 e1 e2 e3 e4 =
       let h = header-fits g s f in
       let small = end-small g s f in
       let l1 : length s1 ≡ length s = rw e1 (length-sets s 0 (be 4 (g .end))) in
-      let l2 : length s2 ≡ length s1 = rw e2 (length-sets s1 4 (version ∷ [])) in
+      let l2 : length s2 ≡ length s1 = rw e2 (length-sets s1 4 (formVersion o ∷ [])) in
       let l3 : length s3 ≡ length s2 = rw e3 (length-sets s2 5 (be 4 (g .u))) in
       let l4 : length s4 ≡ length s3 = rw e4 (length-sets s3 9 (be 4 (g .n))) in
       let b1 = length-be 4 (g .end) in
@@ -63,13 +63,13 @@ module _ (g : Shape) (s : List ℕ) (f : Fitting g s) where
         size-is =
             number-kept (be 4 (g .n)) s3 s4 9 e4 4 0 (inl (omega arith))
             ∙ number-kept (be 4 (g .u)) s2 s3 5 e3 4 0 (inl (omega arith))
-            ∙ number-kept (version ∷ []) s1 s2 4 e2 4 0 (inl (omega arith))
+            ∙ number-kept (formVersion o ∷ []) s1 s2 4 e2 4 0 (inl (omega arith))
             ∙ number-is 4 (g .end) s s1 0 e1 (omega (arith, f .room)) small;
         version-is =
             byte-kept (be 4 (g .n)) s3 s4 9 e4 4 (inl (omega arith))
             ∙ byte-kept (be 4 (g .u)) s2 s3 5 e3 4 (inl (omega arith))
             ∙ ap (λ l. getD l 4 0) e2
-            ∙ getD-set-same s1 4 version 0 (omega (arith, f .room));
+            ∙ getD-set-same s1 4 (formVersion o) 0 (omega (arith, f .room));
         u-is =
             number-kept (be 4 (g .n)) s3 s4 9 e4 4 5 (inl (omega arith))
             ∙ number-is 4 (g .u) s2 s3 5 e3 (omega (arith, f .room)) (omega (arith, f .within));
@@ -77,7 +77,7 @@ module _ (g : Shape) (s : List ℕ) (f : Fitting g s) where
         behind = λ i l.
             byte-kept (be 4 (g .n)) s3 s4 9 e4 i (inr (omega arith))
             ∙ byte-kept (be 4 (g .u)) s2 s3 5 e3 i (inr (omega arith))
-            ∙ byte-kept (version ∷ []) s1 s2 4 e2 i (inr (omega arith))
+            ∙ byte-kept (formVersion o ∷ []) s1 s2 4 e2 i (inr (omega arith))
             ∙ byte-kept (be 4 (g .end)) s s1 0 e1 i (inr (omega arith));
       }
 

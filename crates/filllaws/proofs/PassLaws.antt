@@ -7,12 +7,12 @@ use Prim.Native.Nat.{ℕ, _+_, _-_, _*_, _/_, _%_, _^_, _≤_, _<_}
 use native.Mathlib.Omega.{arith}
 use lib.ListN.{length}
 use Rattle.rules.specs.Bytes.{beAt}
-use Rattle.rules.specs.List.{upper}
+use Rattle.rules.specs.List.{upper, Form}
 use Rattle.laws.proofs.ByteLaws.{Alike, beAt-same}
 use Rattle.shape.specs.declared.Shape.{Shape}
 use Rattle.listlaws.specs.Sound.{onesTo, After}
 use Rattle.filllaws.specs.declared.Filling.{Filling}
-use Rattle.filllaws.specs.Filling.{Stored, Flushed, Held, Raised, Framed, high, Partly}
+use Rattle.filllaws.specs.Filling.{Stored, Flushed, Held, Raised, FramedAs, Framed, high, Partly}
 use Rattle.filllaws.proofs.StoreLaws.{stored-apart, held-alike, held-flushed}
 use Rattle.filllaws.proofs.FillLaws.{raised-alike, pointed-more}
 
@@ -23,8 +23,8 @@ stored-alike : (k at : ℕ) (v : ℕ → ℕ) (a b : ℕ) (d e : List ℕ) → S
 stored-alike k at v a b d e s p q (inl h) i l u = s .others i (inl (omega arith))
 stored-alike k at v a b d e s p q (inr h) i l u = s .others i (inr (omega arith))
 
-framed-stored : (g : Shape) (before s t : List ℕ) (k at : ℕ) (v : ℕ → ℕ) (a b : ℕ) → Framed g before s
-    → Stored k at v a b s t → 13 ≤ at + k * a → at + k * b ≤ g .end → Framed g before t
+pub framed-stored : {o : Form} (g : Shape) (before s t : List ℕ) (k at : ℕ) (v : ℕ → ℕ) (a b : ℕ)
+    → FramedAs o g before s → Stored k at v a b s t → 13 ≤ at + k * a → at + k * b ≤ g .end → FramedAs o g before t
 framed-stored g before s t k at v a b f st l u = record {
   fitting = f .fitting;
   long = st .long ∙ f .long;

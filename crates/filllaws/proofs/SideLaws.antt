@@ -1,19 +1,22 @@
 -- Where the parts of a block lie, for any shape, and what one element more is to the numbers of the two runs.
-use mathlib.Core.Path.{_≡_, ap, _∙_, subst}
+use mathlib.Core.Path.{_≡_, refl, ap, _∙_, subst}
 use mathlib.Core.List.{List, [], _∷_, _++_}
 use Prim.Native.Nat.{ℕ, suc, _+_, _-_, _*_, _/_, _%_, _^_, _≤_, _<_}
 use native.Mathlib.Nat.{zero-mul}
 use native.Mathlib.Decide.{decLt}
 use native.Mathlib.Omega.{arith}
 use lib.ListN.{length, length-append}
+use Rattle.rules.specs.Limits.{limit}
 use Rattle.rules.specs.Runs.{wordsFor}
-use Rattle.rules.specs.List.{width, zeros, lower, upper, lowerAt, upperAt, size}
+use Rattle.rules.specs.List.{width, zeros, lower, upper, lowerAt, upperAt, mapAt, mapSize}
+use Rattle.rules.specs.List.{Form, twoRuns, bitmap, formSize}
 use Rattle.shape.specs.declared.Shape.{Shape}
+use Rattle.shape.specs.Shape.{mapShape, formShape}
 use Rattle.listlaws.proofs.BlockLaws.{size-is}
-use Rattle.shape.proofs.ShapeLaws.{shape-none, shape-some, shape-end, bounded}
+use Rattle.shape.proofs.ShapeLaws.{shape-none, shape-some, formShape-end, bounded}
 use Rattle.listlaws.specs.Sound.{least}
 use Rattle.listlaws.proofs.RisingLaws.{least-append}
-use Rattle.filllaws.specs.Filling.{Fitting, high}
+use Rattle.filllaws.specs.Filling.{FittingAs, Fitting, high}
 
 -- ---- the parts of a block
 
@@ -28,9 +31,9 @@ pub record Sides (g : Shape) (z : ℕ) : Type 0 where
   pub short : g .n * g .w ≤ 16777216
   pub many : g .n ≤ 16777216
 
-module _ (g : Shape) (s : List ℕ) (f : Fitting g s) where
+module _ {o : Form} (g : Shape) (s : List ℕ) (f : FittingAs o g s) where
   -- a room of the same length fits too
-  pub fitting-kept : (t : List ℕ) → length t ≡ length s → Fitting g t
+  pub fitting-kept : (t : List ℕ) → length t ≡ length s → FittingAs o g t
   fitting-kept t e = record {
     shape = f .shape;
     below = f .below;
@@ -38,6 +41,10 @@ module _ (g : Shape) (s : List ℕ) (f : Fitting g s) where
     room = omega (arith, f .room);
   }
 
+  pub end-is : g .end ≡ formSize o (g .u) (g .n)
+  end-is = ap (λ h. h .end) (f .shape) ∙ formShape-end o (g .u) (g .n)
+
+module _ (g : Shape) (s : List ℕ) (f : Fitting g s) where
   pub width-of : 0 < g .n → g .w ≡ width (g .u) (g .n)
   width-of some = ap (λ h. h .w) (f .shape ∙ shape-some (g .u) (g .n) some)
 
@@ -46,9 +53,6 @@ module _ (g : Shape) (s : List ℕ) (f : Fitting g s) where
 
   pub upper-is : 0 < g .n → g .upper ≡ upperAt (g .u) (g .n) (g .w)
   upper-is some = rw (width-of some) (ap (λ h. h .upper) (f .shape ∙ shape-some (g .u) (g .n) some))
-
-  pub end-is : g .end ≡ size (g .u) (g .n)
-  end-is = ap (λ h. h .end) (f .shape) ∙ shape-end (g .u) (g .n)
 
   sides-some : 0 < g .n → Sides g (zeros (g .u) (g .w))
   unfolding lowerAt upperAt
@@ -60,7 +64,7 @@ module _ (g : Shape) (s : List ℕ) (f : Fitting g s) where
         bits = rw w (ap (λ h. h .bits) e);
         lower = lower-is some;
         upper = rw (lower-is some) (upper-is some);
-        end = rw (upper-is some, w) (end-is ∙ size-is (g .u) (g .n) some);
+        end = rw (upper-is some, w) (end-is g s f ∙ size-is (g .u) (g .n) some);
         narrow = rw w (b .narrow);
         few = rw w (omega (arith, b .few, f .within));
         short = rw w (omega (arith, b .short, f .within));
@@ -100,14 +104,28 @@ module _ (g : Shape) (s : List ℕ) (f : Fitting g s) where
   pub zeros-of : 0 < g .n → g .bits - g .n ≡ zeros (g .u) (g .w)
   zeros-of some = omega (arith, sides-some some .bits)
 
-  pub header-fits : 13 ≤ g .end
-  header-fits = omega (arith, sides .lower, sides .upper, sides .end)
-
-  pub end-small : g .end < 2 ^ 32
+  runs-end : (13 ≤ g .end) × (g .end < 2 ^ 32)
   unfolding wordsFor
-  end-small =
-      let t = sides in
-      omega (arith, t .lower, t .upper, t .end, t .few, t .short, t .many)
+  runs-end =
+      let t = sides in (
+        omega (arith, t .lower, t .upper, t .end),
+        omega (arith, t .lower, t .upper, t .end, t .few, t .short, t .many),
+      )
+
+map-end : (U : ℕ) → U ≤ limit → (13 ≤ mapSize U) × (mapSize U < 2 ^ 32)
+unfolding mapSize mapAt wordsFor
+map-end U h = (omega arith, omega arith)
+
+-- a block has its header, and its length fits four bytes
+ends : {o : Form} (g : Shape) (s : List ℕ) → FittingAs o g s → (13 ≤ g .end) × (g .end < 2 ^ 32)
+ends {o = twoRuns} g s f = runs-end g s f
+ends {o = bitmap} g s f = rw (end-is g s f) (map-end (g .u) (f .within))
+
+pub header-fits : {o : Form} (g : Shape) (s : List ℕ) → FittingAs o g s → 13 ≤ g .end
+header-fits g s f = ends g s f .0
+
+pub end-small : {o : Form} (g : Shape) (s : List ℕ) → FittingAs o g s → g .end < 2 ^ 32
+end-small g s f = ends g s f .1
 
 -- ---- one element more
 

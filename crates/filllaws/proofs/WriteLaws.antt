@@ -8,13 +8,13 @@ use borrow.Author.Tests.{lt-ltb, le-ltb}
 use lib.ListN.{length}
 use Rattle.rules.specs.declared.Refusal.the-variants.{Accepted, Limit, Room, Lists}
 use Rattle.rules.specs.Limits.{limit}
-use Rattle.rules.specs.List.{rising, size, block}
+use Rattle.rules.specs.List.{rising, size, block, Form, twoRuns, bitmap, formSize}
 use Rattle.rules.specs.Write.{refused, laid, stored, writeList}
 use Rattle.shape.specs.declared.Shape.{Shape}
-use Rattle.shape.specs.Shape.{shapeOf}
-use Rattle.shape.proofs.ShapeLaws.{shape-u, shape-n, shape-end}
+use Rattle.shape.specs.Shape.{mapWidth, formShape}
+use Rattle.shape.proofs.ShapeLaws.{formShape-u, formShape-n, formShape-end, form-wide, form-narrow}
 use Rattle.listlaws.proofs.BlockLaws.{block-size}
-use Rattle.filllaws.specs.Filling.{Fitting}
+use Rattle.filllaws.specs.Filling.{FittingAs}
 
 -- ---- the answers
 
@@ -48,20 +48,30 @@ module _ (U : ℕ) (xs room : List ℕ) where
 
 -- ---- the shape
 
-module _ (U n : ℕ) (g : Shape) (e : g ≡ shapeOf U n) where
+module _ (o : Form) (U n : ℕ) (g : Shape) (e : g ≡ formShape o U n) where
   pub u-of : g .u ≡ U
-  u-of = ap (λ h. h .u) e ∙ shape-u U n
+  u-of = ap (λ h. h .u) e ∙ formShape-u o U n
 
   pub n-of : g .n ≡ n
-  n-of = ap (λ h. h .n) e ∙ shape-n U n
+  n-of = ap (λ h. h .n) e ∙ formShape-n o U n
 
-  pub end-of : g .end ≡ size U n
-  end-of = ap (λ h. h .end) e ∙ shape-end U n
+  pub end-of : g .end ≡ formSize o U n
+  end-of = ap (λ h. h .end) e ∙ formShape-end o U n
 
-  pub fitting-of : (room : List ℕ) → n ≤ U → U ≤ limit → g .end ≤ length room → Fitting g room
+  pub shape-of : g ≡ formShape o (g .u) (g .n)
+  shape-of = e ∙ sym (ap₂ (formShape o) u-of n-of)
+
+  pub fitting-of : (room : List ℕ) → n ≤ U → U ≤ limit → g .end ≤ length room → FittingAs o g room
   fitting-of room below within long = record {
-    shape = e ∙ sym (ap₂ shapeOf u-of n-of);
+    shape = shape-of;
     below = omega (arith, u-of, n-of);
     within = omega (arith, u-of);
     room = long;
   }
+
+  -- the width tells the form
+  pub bitmap-of : g .w ≡ mapWidth → o ≡ bitmap
+  bitmap-of h = form-wide o U n (sym (ap (λ g. g .w) e) ∙ h)
+
+  pub runs-of : (g .w ≡ mapWidth → ⊥) → o ≡ twoRuns
+  runs-of d = form-narrow o U n (λ h. d (ap (λ g. g .w) e ∙ h))

@@ -6,8 +6,11 @@
 --   Held s at v k r        the k low words of v stand in the run at byte at of s; r is the rest of v
 --   high w xs              the high part of the last of xs; 0 for the empty list
 --   Lowered, Raised        the lower run v of i elements, the upper run v of i elements up to high part h
---   Fitting g s            g is a shape, and s has room for its block
---   Framed g before room   the header stands in the room, and behind the block is what was there before
+--   FittingAs o g s        g is the shape of a list in the form o, and s has room for its block
+--   VersionOf g r          r is the version of a list of shape g, in whatever form that is
+--   Header g d e           e is d with the header of a block of shape g, in whatever form that is
+--   FramedAs o g before room  its header stands in the room, and behind the block is what was there before
+--   Fitting, Framed        those of a list in two runs
 --   Partly g xs f before room  of a block of shape g the elements xs are laid
 --   Next g xs x            x may follow xs
 --   Ready g f x room       some elements are laid, and x may follow
@@ -24,12 +27,13 @@ use mathlib.Core.List.{List, [], _∷_, _++_}
 use Prim.Native.Nat.{ℕ, _+_, _-_, _*_, _/_, _%_, _^_, _≤_, _<_}
 use lib.Count.{ones}
 use lib.ListN.{length, getD, take}
-use Rattle.rules.specs.Limits.{limit, version}
-use Rattle.rules.specs.Bytes.{beAt}
-use Rattle.rules.specs.List.{rising, lower, upper, block}
+use lib.Seq.{sets}
+use Rattle.rules.specs.Limits.{limit}
+use Rattle.rules.specs.Bytes.{be, beAt}
+use Rattle.rules.specs.List.{rising, lower, upper, block, Form, twoRuns, formVersion}
 use Rattle.rules.specs.Write.{laid}
 use Rattle.shape.specs.declared.Shape.{Shape}
-use Rattle.shape.specs.Shape.{shapeOf}
+use Rattle.shape.specs.Shape.{formShape}
 use Rattle.listlaws.specs.Sound.{onesTo, After, least}
 use Rattle.filllaws.specs.declared.Lows.{Lows}
 use Rattle.filllaws.specs.declared.Ups.{Ups}
@@ -69,20 +73,33 @@ pub record Raised (s : List ℕ) (at h i v : ℕ) (b : Ups) : Type 0 where
   pub stop : (b .stop ≤ 64 * (b .words + 1)) × (b .stop ≤ 256 * b .next + i)
   pub pointed : (q : ℕ) → 0 < q → q < b .next → After (onesTo v) (256 * q) (beAt 4 s (9 + 4 * q))
 
-pub record Fitting (g : Shape) (s : List ℕ) : Type 0 where
-  pub shape : g ≡ shapeOf (g .u) (g .n)
+pub record FittingAs (o : Form) (g : Shape) (s : List ℕ) : Type 0 where
+  pub shape : g ≡ formShape o (g .u) (g .n)
   pub below : g .n ≤ g .u
   pub within : g .u ≤ limit
   pub room : g .end ≤ length s
 
-pub record Framed (g : Shape) (before room : List ℕ) : Type 0 where
-  pub fitting : Fitting g before
+abbrev pub Fitting : Shape → List ℕ → Type 0
+Fitting g s = FittingAs twoRuns g s
+
+abbrev pub VersionOf : Shape → ℕ → Type 0
+VersionOf g r = (o : Form) → g ≡ formShape o (g .u) (g .n) → r ≡ formVersion o
+
+abbrev pub Header : Shape → List ℕ → List ℕ → Type 0
+Header g d e = (o : Form) → g ≡ formShape o (g .u) (g .n)
+    → e ≡ sets (sets (sets (sets d 0 (be 4 (g .end))) 4 (formVersion o ∷ [])) 5 (be 4 (g .u))) 9 (be 4 (g .n))
+
+pub record FramedAs (o : Form) (g : Shape) (before room : List ℕ) : Type 0 where
+  pub fitting : FittingAs o g before
   pub long : length room ≡ length before
   pub size-is : beAt 4 room 0 ≡ g .end
-  pub version-is : getD room 4 0 ≡ version
+  pub version-is : getD room 4 0 ≡ formVersion o
   pub u-is : beAt 4 room 5 ≡ g .u
   pub n-is : beAt 4 room 9 ≡ g .n
   pub behind : (i : ℕ) → g .end ≤ i → getD room i 0 ≡ getD before i 0
+
+abbrev pub Framed : Shape → List ℕ → List ℕ → Type 0
+Framed g before room = FramedAs twoRuns g before room
 
 unfoldable pub high : ℕ → List ℕ → ℕ
 high w xs = (least 0 xs - 1) / 2 ^ w

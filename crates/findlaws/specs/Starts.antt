@@ -1,5 +1,6 @@
 -- Where the terms of an index start.
 --
+--   Accepts s         s is accepted as a term of an index of some version
 --   Starts s t at       term number t of the index s starts at byte `at`
 --   TermThere s at      some term of it does
 --   TermAt s at b       the bytes b are the part of s that is the term which starts at byte `at`
@@ -13,8 +14,15 @@ use mathlib.Core.Path.{_≡_}
 use mathlib.Core.List.{List}
 use Prim.Native.Nat.{ℕ, _^_, _≤_, _<_}
 use lib.ListN.{length, getD}
+use Rattle.rules.specs.declared.Refusal.the-variants.{Accepted}
+use Rattle.rules.specs.ReadTerm.{termRefusal}
 use Rattle.rules.specs.Index.{indexT, termPart}
 use Rattle.laws.specs.Blocks.{blockAt}
+
+-- a term that some version of an index accepts
+pub record Accepts (s : List ℕ) : Type 0 where
+  pub version : ℕ
+  pub accepted : termRefusal version s ≡ Accepted
 
 pub record Starts (s : List ℕ) (t at : ℕ) : Type 0 where
   pub below : t < indexT s

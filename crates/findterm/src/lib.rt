@@ -4,9 +4,9 @@ ghost use mathlib.Core.Path.{_≡_};
 ghost use Prim.Native.Nat.{_<_};
 ghost use Rattle.rules.specs.declared.Refusal.the-variants.{Accepted};
 ghost use Rattle.rules.specs.Parts.{after};
-ghost use Rattle.rules.specs.ReadTerm.{listsOf, pagesOf, termRefusal};
+ghost use Rattle.rules.specs.ReadTerm.{listsOf, pagesOf};
 ghost use Rattle.rules.specs.Index.{indexT, termPart, indexRefusal};
-ghost use Rattle.findlaws.specs.Starts.{TermThere, TermAt};
+ghost use Rattle.findlaws.specs.Starts.{Accepts, TermThere, TermAt};
 use rules::INDEX_HEADER;
 use rules::LISTS_AT;
 
@@ -28,7 +28,7 @@ pub fn term_at(card: &[u8], at: usize) -> &[u8]
 
 // The bytes from list number k on: pages, counts, positions.
 pub fn lists_from(term: &[u8], k: usize) -> &[u8]
-    requires { ⌜ (termRefusal (now term) ≡ Accepted) × (k < 3) ⌝ }
+    requires { ⌜ Accepts (now term) × (k < 3) ⌝ }
     ensures { λ r. ⌜ now r ≡ after k (listsOf (now (term .entry))) ⌝ }
 {
     parts::blocks_from(term, LISTS_AT, k)
@@ -36,7 +36,7 @@ pub fn lists_from(term: &[u8], k: usize) -> &[u8]
 
 // The list of a term's pages.
 pub fn pages_of(term: &[u8]) -> &[u8]
-    requires { ⌜ termRefusal (now term) ≡ Accepted ⌝ }
+    requires { ⌜ Accepts (now term) ⌝ }
     ensures { λ r. ⌜ now r ≡ pagesOf (now (term .entry)) ⌝ }
 {
     parts::part_at(lists_from(term, 0), 0)

@@ -19,8 +19,8 @@ use Rattle.hostlaws.specs.Host.{HostScreenShown}
 pub check-list-unique : (s : List ℕ) → Determined {A = ℕ} (λ r. HostListChecked s r)
 check-list-unique s = by-equation (λ r. r) (λ r. r) (λ r. refl) _
 
-pub check-term-unique : (s : List ℕ) → Determined {A = ℕ} (λ r. HostTermChecked s r)
-check-term-unique s = by-equation (λ r. r) (λ r. r) (λ r. refl) _
+pub check-term-unique : (v : ℕ) (s : List ℕ) → Determined {A = ℕ} (λ r. HostTermChecked v s r)
+check-term-unique v s = by-equation (λ r. r) (λ r. r) (λ r. refl) _
 
 pub check-index-unique : (s : List ℕ) → Determined {A = ℕ} (λ r. HostIndexChecked s r)
 check-index-unique s = by-equation (λ r. r) (λ r. r) (λ r. refl) _
@@ -37,9 +37,9 @@ pub write-list-unique : (U : ℕ) (xs room : List ℕ)
     → Determined {A = HostWritten × List ℕ} (λ p. HostListWritten U xs room (p .0) (p .1))
 write-list-unique U xs room = told-unique _
 
-pub write-term-unique : (N : ℕ) (t : Word) (room : List ℕ)
-    → Determined {A = HostWritten × List ℕ} (λ p. HostTermWritten N t room (p .0) (p .1))
-write-term-unique N t room = told-unique _
+pub write-term-unique : (v N : ℕ) (t : Word) (room : List ℕ)
+    → Determined {A = HostWritten × List ℕ} (λ p. HostTermWritten v N t room (p .0) (p .1))
+write-term-unique v N t room = told-unique _
 
 -- what the calls of a session promise
 told-stream-unique : (t : ToldStream)
@@ -50,9 +50,9 @@ told-stream-unique =
     (λ t. (record { refusal = t .refusal; length = t .length; stream = t .stream }, t .room))
     (λ p. refl)
 
-pub begin-term-unique : (N P Q U : ℕ) (room : List ℕ)
-    → Determined {A = HostStreamed × List ℕ} (λ p. HostTermBegun N P Q U room (p .0) (p .1))
-begin-term-unique N P Q U room = told-stream-unique _
+pub begin-term-unique : (v N P Q U : ℕ) (room : List ℕ)
+    → Determined {A = HostStreamed × List ℕ} (λ p. HostTermBegun v N P Q U room (p .0) (p .1))
+begin-term-unique v N P Q U room = told-stream-unique _
 
 pub put-postings-unique : (s : Stream) (t : Word) (room : List ℕ)
     → Determined {A = HostStreamed × List ℕ} (λ p. HostPostingsPut s t room (p .0) (p .1))
@@ -62,9 +62,9 @@ pub end-term-unique : (s : Stream) (room : List ℕ)
     → Determined {A = HostStreamed × List ℕ} (λ p. HostTermEnded s room (p .0) (p .1))
 end-term-unique s room = told-stream-unique _
 
-pub close-index-unique : (buffer : List ℕ) (used N T : ℕ)
-    → Determined {A = HostWritten × List ℕ} (λ p. HostIndexClosed buffer used N T (p .0) (p .1))
-close-index-unique buffer used N T = told-unique _
+pub close-index-unique : (buffer : List ℕ) (used v N T : ℕ)
+    → Determined {A = HostWritten × List ℕ} (λ p. HostIndexClosed buffer used v N T (p .0) (p .1))
+close-index-unique buffer used v N T = told-unique _
 
 pub ask-unique : (s qs room : List ℕ)
     → Determined {A = HostAsked × List ℕ} (λ p. HostAnswered s qs room (p .0) (p .1))

@@ -13,13 +13,14 @@
 --
 --   HostListChecked s r                 jf_check_list answers r to the bytes s
 --   HostListWritten U xs room r after   jf_write_list answers r, and leaves the room as `after`
---   HostTermChecked s r                 jf_check_term
---   HostTermWritten N t room r after    jf_write_term, of the word t
---   HostTermBegun N P Q U room r after  jf_begin_term, of P pages and Q positions whose elements end at U
+--   HostTermChecked v s r               jf_check_term, for an index of version v [02 f]
+--   HostTermWritten v N t room r after  jf_write_term, of the word t for such an index
+--   HostTermBegun v N P Q U room r after  jf_begin_term, of P pages and Q positions whose elements end at U for such an
+--                                       index
 --   HostPostingsPut s t room r after    jf_put_postings, of the postings t that session s is handed
 --   HostTermEnded s room r after        jf_end_term, of session s
 --   HostIndexChecked s r                jf_check_index
---   HostIndexClosed buffer used N T r after  jf_close_index
+--   HostIndexClosed buffer used v N T r after  jf_close_index
 --   HostAnswered s qs room r after      jf_ask, with the questions qs on the card s
 --   HostScreenShown s b n ts pages counts r pages′ counts′  jf_screen, of n pages of the words ts from b on of the card
 --                                       s
@@ -110,14 +111,14 @@ HostListChecked s r = r ≡ number (listRefusal s)
 abbrev pub HostListWritten : ℕ → List ℕ → List ℕ → HostWritten → List ℕ → Type 0
 HostListWritten U xs room r after = toldOf r after ≡ told (writeList U xs room)
 
-abbrev pub HostTermChecked : List ℕ → ℕ → Type 0
-HostTermChecked s r = r ≡ number (termRefusal s)
+abbrev pub HostTermChecked : ℕ → List ℕ → ℕ → Type 0
+HostTermChecked v s r = r ≡ number (termRefusal v s)
 
-abbrev pub HostTermWritten : ℕ → Word → List ℕ → HostWritten → List ℕ → Type 0
-HostTermWritten N t room r after = toldOf r after ≡ told (writeTerm N t room)
+abbrev pub HostTermWritten : ℕ → ℕ → Word → List ℕ → HostWritten → List ℕ → Type 0
+HostTermWritten v N t room r after = toldOf r after ≡ told (writeTerm v N t room)
 
-abbrev pub HostTermBegun : ℕ → ℕ → ℕ → ℕ → List ℕ → HostStreamed → List ℕ → Type 0
-HostTermBegun N P Q U room r after = toldStreamOf r after ≡ toldStream (beginTerm N P Q U room)
+abbrev pub HostTermBegun : ℕ → ℕ → ℕ → ℕ → ℕ → List ℕ → HostStreamed → List ℕ → Type 0
+HostTermBegun v N P Q U room r after = toldStreamOf r after ≡ toldStream (beginTerm v N P Q U room)
 
 abbrev pub HostPostingsPut : Stream → Word → List ℕ → HostStreamed → List ℕ → Type 0
 HostPostingsPut s t room r after = toldStreamOf r after ≡ toldStream (putPostings s t room)
@@ -128,8 +129,8 @@ HostTermEnded s room r after = toldStreamOf r after ≡ toldStream (endTerm s ro
 abbrev pub HostIndexChecked : List ℕ → ℕ → Type 0
 HostIndexChecked s r = r ≡ number (indexRefusal s)
 
-abbrev pub HostIndexClosed : List ℕ → ℕ → ℕ → ℕ → HostWritten → List ℕ → Type 0
-HostIndexClosed buffer used N T r after = toldOf r after ≡ told (closeIndex buffer used N T)
+abbrev pub HostIndexClosed : List ℕ → ℕ → ℕ → ℕ → ℕ → HostWritten → List ℕ → Type 0
+HostIndexClosed buffer used v N T r after = toldOf r after ≡ told (closeIndex buffer used v N T)
 
 abbrev pub HostAnswered : List ℕ → List ℕ → List ℕ → HostAsked → List ℕ → Type 0
 HostAnswered s qs room r after = heardOf r after ≡ heard (ask s qs room)

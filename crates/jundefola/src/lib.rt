@@ -83,33 +83,37 @@ pub extern "C" fn jf_check_list(block: &[u8]) -> u32
     refusals::number_of(checklist::check_list(block))
 }
 
-// Writes a word of an index of n pages into the room.
+// Writes a word of an index of that version and of n pages into the room.
 #[no_mangle]
 pub extern "C" fn jf_write_term(
+    version: u32,
     n: u32,
     pages: &[u32],
     counts: &[u32],
     positions: &[u32],
     room: &mut [u8],
 ) -> HostWritten
-    ensures { λ r. ⌜ HostTermWritten n (lentWord (now (pages .entry)) (now (counts .entry)) (now (positions .entry)))
+    ensures { λ r. ⌜ HostTermWritten version n
+        (lentWord (now (pages .entry)) (now (counts .entry)) (now (positions .entry)))
         (now (room .entry)) r (now (room .exit)) ⌝ }
 {
-    written(writeterm::write_term(n, pages, counts, positions, room))
+    written(writeterm::write_term(version, n, pages, counts, positions, room))
 }
 
-// Announces a word that is handed over in runs: so many of n pages and so many positions, whose elements end at u.
+// Announces a word of such an index that is handed over in runs: so many of n pages and so many positions, whose
+// elements end at u.
 #[no_mangle]
 pub extern "C" fn jf_begin_term(
+    version: u32,
     n: u32,
     pages: u32,
     positions: u32,
     u: u32,
     room: &mut [u8],
 ) -> HostStreamed
-    ensures { λ r. ⌜ HostTermBegun n pages positions u (now (room .entry)) r (now (room .exit)) ⌝ }
+    ensures { λ r. ⌜ HostTermBegun version n pages positions u (now (room .entry)) r (now (room .exit)) ⌝ }
 {
-    streamed(beginterm::begin_term(n, pages, positions, u, room))
+    streamed(beginterm::begin_term(version, n, pages, positions, u, room))
 }
 
 // Lays the next postings of such a word behind those in the room.
@@ -136,20 +140,26 @@ pub extern "C" fn jf_end_term(stream: Stream, room: &mut [u8]) -> HostStreamed
     streamed(endterm::end_term(stream, room))
 }
 
-// The refusal of a term block.
+// The refusal of a term block of an index of that version.
 #[no_mangle]
-pub extern "C" fn jf_check_term(block: &[u8]) -> u32
-    ensures { λ r. ⌜ HostTermChecked (now (block .entry)) r ⌝ }
+pub extern "C" fn jf_check_term(version: u32, block: &[u8]) -> u32
+    ensures { λ r. ⌜ HostTermChecked version (now (block .entry)) r ⌝ }
 {
-    refusals::number_of(checkterm::check_term(block))
+    refusals::number_of(checkterm::check_term(version, block))
 }
 
-// Closes an index of t terms that lie from byte 11 on in the first `used` bytes of the buffer.
+// Closes an index of that version, of t terms that lie from byte 11 on in the first `used` bytes of the buffer.
 #[no_mangle]
-pub extern "C" fn jf_close_index(buffer: &mut [u8], used: usize, n: u32, t: u32) -> HostWritten
-    ensures { λ r. ⌜ HostIndexClosed (now (buffer .entry)) used n t r (now (buffer .exit)) ⌝ }
+pub extern "C" fn jf_close_index(
+    buffer: &mut [u8],
+    used: usize,
+    version: u32,
+    n: u32,
+    t: u32,
+) -> HostWritten
+    ensures { λ r. ⌜ HostIndexClosed (now (buffer .entry)) used version n t r (now (buffer .exit)) ⌝ }
 {
-    written(closeindex::close_index(buffer, used, n, t))
+    written(closeindex::close_index(buffer, used, version, n, t))
 }
 
 // The refusal of an index.

@@ -3,14 +3,16 @@
 ghost use mathlib.Core.Path.{_≡_};
 ghost use Prim.Native.Nat.{_<_};
 ghost use Rattle.rules.specs.declared.Refusal.the-variants.{Accepted};
-ghost use Rattle.rules.specs.ReadList.{decode, listRefusal};
+ghost use Rattle.rules.specs.ReadList.{formAt, decode};
 ghost use Rattle.rules.specs.ReadTerm.{pagesOf};
 ghost use Rattle.rules.specs.Index.{indexT, termPart, indexRefusal};
 ghost use Rattle.rules.specs.Questions.{pagesIn, byRank, byBound};
+ghost use Rattle.maplaws.specs.Maps.{FormValid};
 ghost use Rattle.bytetable.specs.Places.{PlacesOfOnes};
 ghost use Rattle.questions.specs.Wrote.{Wrote};
 ghost use Rattle.kinds.specs.Alone.{OpenedAlone};
 use bytetable::Table;
+use querylaws::LENGTH;
 use querylaws::Query;
 use walklaws::SPENT;
 
@@ -24,7 +26,7 @@ fn pages_in(card: &[u8], t: usize) -> &[u8]
 
 // The element of that rank, if there is one.
 fn put_ranked(table: &Table, pages: &[u8], rank: usize, room: &mut [u32]) -> usize
-    requires { ⌜ listRefusal (now pages) ≡ Accepted × PlacesOfOnes (now table) ⌝ }
+    requires { ⌜ FormValid (formAt (now pages)) (now pages) × PlacesOfOnes (now table) ⌝ }
     ensures { λ r. ⌜ Wrote (byRank (decode (now (pages .entry))) rank) (now (room .entry)) r (now (room .exit)) ⌝ }
 {
     let g = reading::shape_at(pages);
@@ -45,7 +47,7 @@ pub fn by_rank(table: &Table, card: &[u8], t: usize, rank: usize, room: &mut [u3
 
 // The numbers of a list of pages, as the one list of a query over its own bytes.
 fn open_alone(pages: &[u8]) -> [u32; 8]
-    requires { ⌜ listRefusal (now pages) ≡ Accepted ⌝ }
+    requires { ⌜ FormValid (formAt (now pages)) (now pages) ⌝ }
     ensures { λ r. ⌜ OpenedAlone (now (pages .entry)) r ⌝ }
 {
     openlists::numbers_at(pages, 0, pages.len())
@@ -61,7 +63,8 @@ pub fn by_bound(table: &Table, card: &[u8], t: u32, bound: usize, room: &mut [u3
     let mut page = [0u32; 1];
     let turn = query::batch(table, pages, &shapes, Query::new(), 1, bound, &mut page);
     if turn.mark == SPENT {
-        return replies::put(&[1, turn.rank], room);
+        return replies::put(&[1, shapes[LENGTH]], room);
     }
-    replies::put(&[2, turn.mark - 1, turn.rank], room)
+    let rank = rows::rank_in(pages, &shapes, turn.q, 0);
+    replies::put(&[2, turn.mark - 1, rank as u32], room)
 }

@@ -1,9 +1,10 @@
-// From one to one to the first element at or above the bound.
+// From one to one of an upper run to the first element at or above the bound.
 
 ghost use mathlib.Core.Path.{_≡_};
 ghost use Prim.Native.Nat.{_+_, _*_, _^_, _≤_, _<_};
 ghost use lib.ListN.{getD};
 ghost use Rattle.rules.specs.Runs.{field};
+ghost use Rattle.rules.specs.List.{twoRuns};
 ghost use Rattle.rules.specs.ReadList.{decode};
 ghost use Rattle.readlaws.specs.Open.{Open, OneAt};
 ghost use Rattle.walklaws.specs.Cursors.{spentMark};
@@ -14,15 +15,13 @@ use walklaws::Landing;
 use walklaws::Ones;
 use walklaws::SPENT;
 
-// The end where there is no element at or above the bound, in a list of n.
-pub fn none(n: usize) -> Landing
-    requires { ⌜ n < 2 ^ 32 ⌝ }
-    ensures { λ r. ⌜ (r .mark ≡ spentMark) × (r .bit ≡ 0) × (r .rank ≡ n) ⌝ }
+// The end where there is no element at or above the bound.
+pub fn none() -> Landing
+    ensures { λ r. ⌜ (r .mark ≡ spentMark) × (r .bit ≡ 0) ⌝ }
 {
     Landing {
         mark: SPENT,
         bit: 0,
-        rank: n as u32,
     }
 }
 
@@ -60,8 +59,8 @@ fn page_at(s: &[u8], g: Shape, bit: usize, rank: usize) -> usize
 pub fn land(s: &[u8], g: Shape, b: usize, from: Ones, looks: &mut u32) -> Landing
     requires { ⌜ Open (now s) g × Walking (now s) g from × Before (now s) b (from .rank)
         × (now looks ≤ 2 ^ 31 + from .k) ⌝ }
-    ensures { λ r. ⌜ Landed (now (s .entry)) b r
-        × Paid (from .k) (now (looks .entry)) (landingWord (now (s .entry)) b) (now (looks .exit)) ⌝ }
+    ensures { λ r. ⌜ Landed twoRuns (now (s .entry)) b r
+        × Paid (from .k) (now (looks .entry)) (landingWord twoRuns (now (s .entry)) b) (now (looks .exit)) ⌝ }
 {
     let mut at = from;
     while at.left != 0 || at.rank < g.n {
@@ -72,7 +71,6 @@ pub fn land(s: &[u8], g: Shape, b: usize, from: Ones, looks: &mut u32) -> Landin
             return Landing {
                 mark: (page + 1) as u32,
                 bit: bit as u32,
-                rank: one.rank as u32,
             };
         }
         let next = Ones {
@@ -83,5 +81,5 @@ pub fn land(s: &[u8], g: Shape, b: usize, from: Ones, looks: &mut u32) -> Landin
         at = next;
     }
     looks::to_end(s, g, at.k, looks);
-    none(g.n)
+    none()
 }

@@ -1,13 +1,13 @@
 -- What holds of blocks in bytes, each part by itself.
 --
---   Headed h s      what a block's first three tests leave, its header of h bytes
---   headTests h s r those tests, and r where all have passed
+--   Headed h last s what a block's first three tests leave, its header of h bytes, its versions 1 to last
+--   headTests h last s r   those tests, and r where all have passed
 --   Whole b         the block b states its own length
 --   blockAt h k s   the place of s at which block number k starts,
 --                   the first at h, by the lengths that those before it state
 --   Inside h f s    inside, its tests by name
 --   Lies h p s b    b are the bytes of s at place p, as many as stated there, h at the least and all within s
-use mathlib.Core.Bool.{cond, not}
+use mathlib.Core.Bool.{true, cond, not}
 use mathlib.Core.Path.{_≡_}
 use mathlib.Core.List.{List}
 use Prim.Native.Nat.{ℕ, zero, suc, _+_, _≤_}
@@ -15,20 +15,20 @@ use lib.Dec.{ltb, eqb}
 use lib.ListN.{length, getD, take, drop}
 use Rattle.rules.specs.declared.Refusal.{Refusal}
 use Rattle.rules.specs.declared.Refusal.the-variants.{Accepted, Short, Length, Version}
-use Rattle.rules.specs.Limits.{version}
+use Rattle.rules.specs.Limits.{upTo}
 use Rattle.rules.specs.Bytes.{beAt}
 use Rattle.rules.specs.ReadList.{stated}
 
-pub record Headed (h : ℕ) (s : List ℕ) : Type 0 where
+pub record Headed (h last : ℕ) (s : List ℕ) : Type 0 where
   pub header : h ≤ length s
   pub states : stated s ≡ length s
-  pub version-is : getD s 4 0 ≡ version
+  pub known : upTo last (getD s 4 0) ≡ true
 
-abbrev pub headTests : ℕ → List ℕ → Refusal → Refusal
-headTests h s r =
+abbrev pub headTests : ℕ → ℕ → List ℕ → Refusal → Refusal
+headTests h last s r =
     cond (ltb (length s) h) Short
     (cond (not (eqb (stated s) (length s))) Length
-    (cond (not (eqb (getD s 4 0) version)) Version
+    (cond (not (upTo last (getD s 4 0))) Version
     r))
 
 pub record Whole (b : List ℕ) : Type 0 where

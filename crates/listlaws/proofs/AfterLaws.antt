@@ -13,7 +13,7 @@ use lib.ListN.{length, length-append}
 use Rattle.rules.specs.Bytes.{Bytes, be, beAt}
 use Rattle.rules.specs.Runs.{bit, runBit}
 use Rattle.rules.specs.Counts.{onesBelow}
-use Rattle.rules.specs.List.{afterZero, pointer, pointers}
+use Rattle.rules.specs.List.{afterZero, pointer, fours}
 use Rattle.laws.proofs.BitLaws.{bit-cases}
 use Rattle.laws.proofs.ByteLaws.{bytes-be, bytes-cat, beAt-past, length-be, read-be}
 use Rattle.laws.proofs.CountLaws.{Steps, count-slope, ones-more, below-suc}
@@ -171,29 +171,27 @@ module _ (u b i : ℕ) (l : 256 * i + onesTo u b ≤ b) where
   unfolding pointer
   pointer-le = afterZero-le u b (256 * i) l
 
--- ---- as bytes
+-- ---- as bytes, four each
 
-pub length-pointers : (b u i c : ℕ) → length (pointers b u i c) ≡ 4 * c
-unfolding pointers
-length-pointers b u i zero = refl
-length-pointers b u i (suc c) =
-    rw (length-append, length-be 4 (pointer b u i)) (omega (arith, length-pointers b u (i + 1) c))
+pub length-fours : (f : ℕ → ℕ) (i c : ℕ) → length (fours f i c) ≡ 4 * c
+unfolding fours
+length-fours f i zero = refl
+length-fours f i (suc c) = rw (length-append, length-be 4 (f i)) (omega (arith, length-fours f (i + 1) c))
 
-pub read-pointers : (b u i c : ℕ) (t : List ℕ) (j : ℕ) → j < c
-    → beAt 4 (pointers b u i c ++ t) (4 * j) ≡ pointer b u (i + j) % 2 ^ 32
-unfolding pointers
-read-pointers b u i zero t j h = absurd (omega arith)
-read-pointers b u i (suc c) t zero h =
-    rw (append-assoc, add-zero i) (read-be 4 (pointer b u i) (pointers b u (i + 1) c ++ t))
-read-pointers b u i (suc c) t (suc j) h =
+pub read-fours : (f : ℕ → ℕ) (i c : ℕ) (t : List ℕ) (j : ℕ) → j < c
+    → beAt 4 (fours f i c ++ t) (4 * j) ≡ f (i + j) % 2 ^ 32
+unfolding fours
+read-fours f i zero t j h = absurd (omega arith)
+read-fours f i (suc c) t zero h = rw (append-assoc, add-zero i) (read-be 4 (f i) (fours f (i + 1) c ++ t))
+read-fours f i (suc c) t (suc j) h =
     let e : 4 * suc j ≡ 4 + 4 * j = omega arith in
     let g : i + suc j ≡ i + 1 + j = omega arith in
     rw (append-assoc, e, g)
-    (beAt-past 4 4 (be 4 (pointer b u i)) (pointers b u (i + 1) c ++ t) (4 * j) (length-be 4 (pointer b u i))
-    ∙ read-pointers b u (i + 1) c t j (omega arith))
+    (beAt-past 4 4 (be 4 (f i)) (fours f (i + 1) c ++ t) (4 * j) (length-be 4 (f i))
+    ∙ read-fours f (i + 1) c t j (omega arith))
 
-pub bytes-pointers : (b u i c : ℕ) → Bytes (pointers b u i c)
-unfolding pointers
-bytes-pointers b u i zero j = lit< tt
-bytes-pointers b u i (suc c) j = bytes-cat (be 4 (pointer b u i)) (pointers b u (i + 1) c) (bytes-be 4 (pointer b u i))
-    (λ k. bytes-pointers b u (i + 1) c k) j
+pub bytes-fours : (f : ℕ → ℕ) (i c : ℕ) → Bytes (fours f i c)
+unfolding fours
+bytes-fours f i zero j = lit< tt
+bytes-fours f i (suc c) j = bytes-cat (be 4 (f i)) (fours f (i + 1) c) (bytes-be 4 (f i))
+    (λ k. bytes-fours f (i + 1) c k) j

@@ -11,51 +11,79 @@ use lib.Seq.{getD-append-add}
 use Rattle.rules.specs.Limits.{version, listHeader}
 use Rattle.rules.specs.Bytes.{Bytes, be, beAt, sized, same}
 use Rattle.rules.specs.Runs.{runWord, wordsFor, words}
-use Rattle.rules.specs.List.{width, zeros, upper, lower, pointer, pointers, lowerAt, upperAt, size, runs, body, block}
+use Rattle.rules.specs.List.{width, zeros, upper, lower, pointer, pointers, lowerAt, upperAt, size, runs, body, headed}
+use Rattle.rules.specs.List.{block}
 use Rattle.rules.specs.ReadList.{stated, listU, listN}
 use Rattle.laws.proofs.ByteLaws.{length-be, beAt-past, read-be, length-words}
 use Rattle.laws.proofs.ByteLaws.{read-words, bytes-be, bytes-cat, bytes-words}
-use Rattle.listlaws.proofs.AfterLaws.{length-pointers, read-pointers, bytes-pointers}
+use Rattle.listlaws.proofs.AfterLaws.{length-fours, read-fours, bytes-fours}
 use Rattle.listlaws.proofs.RisingLaws.{and-parts}
 
--- ---- a header and what follows it
+-- ---- a header and what follows it, of any version
 
-module _ (L U n : ℕ) (X : List ℕ) where
-  abbrev framed : List ℕ
-  framed = be 4 L ++ (version ∷ (be 4 U ++ (be 4 n ++ X)))
+module _ (v U n : ℕ) (X : List ℕ) where
+  abbrev rest : List ℕ
+  rest = v ∷ (be 4 U ++ (be 4 n ++ X))
 
-  framed-version : getD framed 4 0 ≡ version
-  framed-version =
-      let e = length-be 4 L in
-      let g : length (be 4 L) + 0 ≡ 4 = omega arith in
-      rw g at (getD-append-add (be 4 L) (version ∷ (be 4 U ++ (be 4 n ++ X))) 0 0)
+  abbrev total : ℕ
+  total = 4 + length rest
 
-  past-5 : (k o : ℕ) → beAt k framed (5 + o) ≡ beAt k (be 4 U ++ (be 4 n ++ X)) o
+  headed-is : headed v U n X ≡ be 4 total ++ rest
+  unfolding sized
+  headed-is = refl
+
+  behind-length : (L : ℕ) → length (be 4 L ++ rest) ≡ 13 + length X
+  behind-length L =
+      rw (length-append, length-append, length-append, length-be 4 L, length-be 4 U, length-be 4 n) (omega arith)
+
+  pub headed-length : length (headed v U n X) ≡ 13 + length X
+  headed-length = ap length headed-is ∙ behind-length total
+
+  total-is : total ≡ length (headed v U n X)
+  total-is = sym (ap length headed-is ∙ length-append (be 4 total) rest
+      ∙ ap (λ (k : ℕ). k + length rest) (length-be 4 total))
+
+  pub headed-stated : stated (headed v U n X) ≡ length (headed v U n X) % 2 ^ 32
+  unfolding stated
+  headed-stated = ap (λ (l : List ℕ). beAt 4 l 0) headed-is ∙ read-be 4 total rest ∙ ap (λ (k : ℕ). k % 2 ^ 32) total-is
+
+  pub headed-version : getD (headed v U n X) 4 0 ≡ v
+  headed-version =
+      let e = length-be 4 total in
+      let g : length (be 4 total) + 0 ≡ 4 = omega arith in
+      ap (λ (l : List ℕ). getD l 4 0) headed-is ∙ rw g at (getD-append-add (be 4 total) rest 0 0)
+
+  past-5 : (k o : ℕ) → beAt k (headed v U n X) (5 + o) ≡ beAt k (be 4 U ++ (be 4 n ++ X)) o
   past-5 k o =
       let e : 5 + o ≡ 4 + (1 + o) = omega arith in
-      rw e (beAt-past k 4 (be 4 L) (version ∷ (be 4 U ++ (be 4 n ++ X))) (1 + o) (length-be 4 L)
-      ∙ beAt-past k 1 (version ∷ []) (be 4 U ++ (be 4 n ++ X)) o refl)
+      ap (λ (l : List ℕ). beAt k l (5 + o)) headed-is
+      ∙ rw e (beAt-past k 4 (be 4 total) rest (1 + o) (length-be 4 total)
+      ∙ beAt-past k 1 (v ∷ []) (be 4 U ++ (be 4 n ++ X)) o refl)
 
-  past-9 : (k o : ℕ) → beAt k framed (9 + o) ≡ beAt k (be 4 n ++ X) o
+  past-9 : (k o : ℕ) → beAt k (headed v U n X) (9 + o) ≡ beAt k (be 4 n ++ X) o
   past-9 k o =
       let e : 9 + o ≡ 5 + (4 + o) = omega arith in
       rw e (past-5 k (4 + o) ∙ beAt-past k 4 (be 4 U) (be 4 n ++ X) o (length-be 4 U))
 
-  past-header : (k o : ℕ) → beAt k framed (13 + o) ≡ beAt k X o
+  pub past-header : (k o : ℕ) → beAt k (headed v U n X) (13 + o) ≡ beAt k X o
   past-header k o =
       let e : 13 + o ≡ 9 + (4 + o) = omega arith in
       rw e (past-9 k (4 + o) ∙ beAt-past k 4 (be 4 n) X o (length-be 4 n))
 
-  framed-length : length framed ≡ 13 + length X
-  framed-length =
-      rw (length-append, length-append, length-append, length-be 4 L, length-be 4 U, length-be 4 n) (omega arith)
+  pub headed-U : listU (headed v U n X) ≡ U % 2 ^ 32
+  unfolding listU
+  headed-U = past-5 4 0 ∙ read-be 4 U (be 4 n ++ X)
 
-  framed-bytes : Bytes X → Bytes framed
-  framed-bytes b = bytes-cat (be 4 L) (version ∷ (be 4 U ++ (be 4 n ++ X))) (bytes-be 4 L) rest
+  pub headed-n : listN (headed v U n X) ≡ n % 2 ^ 32
+  unfolding listN
+  headed-n = past-9 4 0 ∙ read-be 4 n X
+
+  pub headed-bytes : v < 256 → Bytes X → Bytes (headed v U n X)
+  headed-bytes h b = rw headed-is (bytes-cat (be 4 total) rest (bytes-be 4 total) behind)
     where
-      rest : Bytes (version ∷ (be 4 U ++ (be 4 n ++ X)))
-      rest zero = lit< tt
-      rest (suc i) = bytes-cat (be 4 U) (be 4 n ++ X) (bytes-be 4 U) (bytes-cat (be 4 n) X (bytes-be 4 n) b) i
+      behind : Bytes rest
+      behind zero = h
+      behind (suc i) = bytes-cat (be 4 U) (be 4 n ++ X) (bytes-be 4 U) (bytes-cat (be 4 n) X (bytes-be 4 n) b) i
 
 -- ---- what follows the header
 
@@ -73,22 +101,22 @@ module _ (U n w : ℕ) (xs : List ℕ) where
   third = words (wordsFor (n + Z)) (upper w 0 xs)
 
   first-length : length first ≡ 4 * (Z / 256)
-  first-length = length-pointers (n + Z) (upper w 0 xs) 1 (Z / 256)
+  first-length = length-fours (pointer (n + Z) (upper w 0 xs)) 1 (Z / 256)
 
   runs-length : length (runs U n w xs) ≡ 4 * (Z / 256) + 8 * wordsFor (n * w) + 8 * wordsFor (n + Z)
   unfolding runs
-  runs-length = rw (length-append, length-append, length-pointers, length-words, length-words) (omega arith)
+  runs-length = rw (length-append, length-append, length-fours, length-words, length-words) (omega arith)
 
   runs-bytes : Bytes (runs U n w xs)
   unfolding runs
   runs-bytes =
-      bytes-cat first (second ++ third) (bytes-pointers (n + Z) (upper w 0 xs) 1 (Z / 256)) (bytes-cat second third
+      bytes-cat first (second ++ third) (bytes-fours (pointer (n + Z) (upper w 0 xs)) 1 (Z / 256)) (bytes-cat second third
       (bytes-words (wordsFor (n * w)) (lower w 0 xs)) (bytes-words (wordsFor (n + Z)) (upper w 0 xs)))
 
   runs-pointer : (q : ℕ) → q < Z / 256
       → beAt 4 (runs U n w xs) (4 * q) ≡ pointer (n + Z) (upper w 0 xs) (1 + q) % 2 ^ 32
   unfolding runs
-  runs-pointer q h = read-pointers (n + Z) (upper w 0 xs) 1 (Z / 256) (second ++ third) q h
+  runs-pointer q h = read-fours (pointer (n + Z) (upper w 0 xs)) 1 (Z / 256) (second ++ third) q h
 
   runs-lower : (k : ℕ) → k < wordsFor (n * w)
       → beAt 8 (runs U n w xs) (4 * (Z / 256) + 8 * k) ≡ lower w 0 xs / 2 ^ (64 * k) % 2 ^ 64
@@ -118,41 +146,27 @@ body-bytes U (x ∷ xs) i = runs-bytes U (length (x ∷ xs)) (width U (length (x
 -- ---- the block of any list
 
 module _ (U : ℕ) (xs : List ℕ) where
-  abbrev total : ℕ
-  total = 4 + length (version ∷ (be 4 U ++ (be 4 (length xs) ++ body U xs)))
-
-  block-is : block U xs ≡ framed total U (length xs) (body U xs)
-  unfolding block sized
+  block-is : block U xs ≡ headed version U (length xs) (body U xs)
+  unfolding block
   block-is = refl
 
-  total-is : total ≡ length (block U xs)
-  unfolding block sized
-  total-is = sym (length-append (be 4 total) (version ∷ (be 4 U ++ (be 4 (length xs) ++ body U xs)))
-      ∙ ap (λ (k : ℕ). k + length (version ∷ (be 4 U ++ (be 4 (length xs) ++ body U xs)))) (length-be 4 total))
-
   pub block-body : length (block U xs) ≡ 13 + length (body U xs)
-  block-body = ap length block-is ∙ framed-length total U (length xs) (body U xs)
+  block-body = ap length block-is ∙ headed-length version U (length xs) (body U xs)
 
   pub block-bytes : Bytes (block U xs)
-  block-bytes = rw block-is (framed-bytes total U (length xs) (body U xs) (body-bytes U xs))
+  block-bytes = rw block-is (headed-bytes version U (length xs) (body U xs) (lit< tt) (body-bytes U xs))
 
   pub block-stated : stated (block U xs) ≡ length (block U xs) % 2 ^ 32
-  unfolding stated
-  block-stated = ap (λ (l : List ℕ). beAt 4 l 0) block-is
-      ∙ read-be 4 total (version ∷ (be 4 U ++ (be 4 (length xs) ++ body U xs))) ∙ ap (λ (k : ℕ). k % 2 ^ 32) total-is
+  block-stated = rw block-is (headed-stated version U (length xs) (body U xs))
 
   pub block-version : getD (block U xs) 4 0 ≡ version
-  block-version = ap (λ (l : List ℕ). getD l 4 0) block-is ∙ framed-version total U (length xs) (body U xs)
+  block-version = ap (λ (l : List ℕ). getD l 4 0) block-is ∙ headed-version version U (length xs) (body U xs)
 
   pub block-U : listU (block U xs) ≡ U % 2 ^ 32
-  unfolding listU
-  block-U = ap (λ (l : List ℕ). beAt 4 l 5) block-is ∙ past-5 total U (length xs) (body U xs) 4 0
-      ∙ read-be 4 U (be 4 (length xs) ++ body U xs)
+  block-U = ap listU block-is ∙ headed-U version U (length xs) (body U xs)
 
   pub block-n : listN (block U xs) ≡ length xs % 2 ^ 32
-  unfolding listN
-  block-n = ap (λ (l : List ℕ). beAt 4 l 9) block-is ∙ past-9 total U (length xs) (body U xs) 4 0
-      ∙ read-be 4 (length xs) (body U xs)
+  block-n = ap listN block-is ∙ headed-n version U (length xs) (body U xs)
 
   -- with elements there are runs
   module _ (n w : ℕ) (len : length xs ≡ n) (some : 0 < n) (ew : w ≡ width U n) where
@@ -160,7 +174,7 @@ module _ (U : ℕ) (xs : List ℕ) where
     body-is = body-runs U n w xs len some ew
 
     past : (k o : ℕ) → beAt k (block U xs) (13 + o) ≡ beAt k (runs U n w xs) o
-    past k o = ap (λ (l : List ℕ). beAt k l (13 + o)) block-is ∙ past-header total U (length xs) (body U xs) k o
+    past k o = ap (λ (l : List ℕ). beAt k l (13 + o)) block-is ∙ past-header version U (length xs) (body U xs) k o
         ∙ ap (λ (l : List ℕ). beAt k l o) body-is
 
     pub block-length : length (block U xs) ≡ upperAt U n w + 8 * wordsFor (n + zeros U w)

@@ -4,8 +4,8 @@ pub mod ElementLaws
 pub mod UpperLaws
 pub mod LowerLaws
 pub mod BlockLaws
-pub mod ValidLaws
 pub mod RefusalLaws
+pub mod ValidLaws
 pub mod SoundLaws
 pub mod Theorems
 pub mod ReadLaws

@@ -12,8 +12,8 @@ use Rattle.rules.specs.declared.Refusal.the-variants.{Accepted}
 use Rattle.rules.specs.Bytes.{beAt}
 use Rattle.rules.specs.Runs.{bit, runBit, field}
 use Rattle.rules.specs.Counts.{onesBelow}
-use Rattle.rules.specs.List.{rising, zeros, upper}
-use Rattle.rules.specs.ReadList.{listU, listN, decode, listRefusal}
+use Rattle.rules.specs.List.{rising, zeros, upper, twoRuns}
+use Rattle.rules.specs.ReadList.{listU, listN, elements, decode, listRefusal}
 use Rattle.laws.proofs.CountLaws.{below-none, run-steps}
 use Rattle.laws.proofs.RunLaws.{ones-whole, ones-mono}
 use Rattle.listlaws.specs.Sound.{widthOf, upperOf, lowerOf, bitsOf, After, Sound}
@@ -21,7 +21,7 @@ use Rattle.listlaws.proofs.AfterLaws.{count-agree, after-le}
 use Rattle.listlaws.proofs.RisingLaws.{rising-at}
 use Rattle.listlaws.proofs.ElementLaws.{element-at, upper-agrees}
 use Rattle.listlaws.proofs.UpperLaws.{upper-set, upper-rank}
-use Rattle.listlaws.proofs.RefusalLaws.{accepted-framed}
+use Rattle.listlaws.proofs.RefusalLaws.{framed-form, decode-runs, alone-framed}
 use Rattle.listlaws.proofs.ValidLaws.{valid-parts, valid-n, read-is}
 use Rattle.listlaws.proofs.SoundLaws.{sound-iff}
 use Rattle.listlaws.proofs.Theorems.{accepted-block, accepted-bytes}
@@ -44,8 +44,12 @@ module _ (s : List ℕ) (a : listRefusal s ≡ Accepted) where
 
     pub accepted-sound : Sound s (listU s) (listN s) (widthOf s)
     accepted-sound =
-        let f = accepted-framed s a in
+        let f = alone-framed s a in
         sound-iff s (accepted-bytes s a) (f .0) some .0 (f .1)
+
+    -- the elements that are read
+    reads : decode s ≡ elements s (upperOf s) (lowerOf s) (widthOf s) (bitsOf s) 0 0
+    reads = decode-runs s (framed-form twoRuns s (alone-framed s a .0)) ∙ read-is s U n some
 
     -- ---- counts
 
@@ -77,14 +81,13 @@ module _ (s : List ℕ) (a : listRefusal s ≡ Accepted) where
     -- the one with h zeros and i ones below it is that of element number i
     pub element-of-rank : (h i : ℕ) → i < n → onesBelow s (upperOf s) (h + i) ≡ i → runBit s (upperOf s) (h + i) ≡ 1
         → getD (decode s) i 0 ≡ h * 2 ^ widthOf s + field s (lowerOf s) (i * widthOf s) (widthOf s)
-    unfolding decode
     element-of-rank h i l c e =
         let z : 0 + 0 + (h + i) ≡ h + i = omega arith in
         let m : h + i < bitsOf s = ones-within (h + i) (omega arith) in
         let t : h + i + suc (bitsOf s - suc (h + i)) ≡ bitsOf s = omega arith in
         let c' : onesBelow s (upperOf s) (0 + 0 + (h + i)) ≡ onesBelow s (upperOf s) (0 + 0) + i =
         rw z (c ∙ sym (ap (λ (k : ℕ). k + i) (below-none s (upperOf s)) ∙ zero-add i)) in
-        ap (λ (l : List ℕ). getD l i 0) (read-is s U n some)
+        ap (λ (l : List ℕ). getD l i 0) reads
         ∙ rw (zero-add h, zero-add i, t) at (element-at s (upperOf s) (lowerOf s) (widthOf s) h i
         (bitsOf s - suc (h + i)) 0 0 c' (rw (zero-add h, zero-add i) e))
 
@@ -98,9 +101,8 @@ module _ (s : List ℕ) (a : listRefusal s ≡ Accepted) where
         omega (arith, shr-mono {a = getD (decode s) i 0} {b = U} (widthOf s) (omega (arith, t .1)))
 
     run-agrees : (p : ℕ) → p < bitsOf s → runBit s (upperOf s) p ≡ bit (upper (widthOf s) 0 (decode s)) p
-    unfolding decode
     run-agrees p h = upper-agrees s (upperOf s) (lowerOf s) (widthOf s) (bitsOf s) p h
-        ∙ ap (λ (l : List ℕ). bit (upper (widthOf s) 0 l) p) (sym (read-is s U n some))
+        ∙ ap (λ (l : List ℕ). bit (upper (widthOf s) 0 l) p) (sym reads)
 
     -- every element has its one, below which are its high part in zeros and its number in ones
     pub rank-of-element : (i : ℕ) → i < n → (runBit s (upperOf s) (getD (decode s) i 0 / 2 ^ widthOf s + i) ≡ 1)

@@ -11,45 +11,49 @@ use lib.Pow.{shr-le}
 use Rattle.rules.specs.Bytes.{Bytes, beAt, same}
 use Rattle.rules.specs.Runs.{bit, runWord, runBit, field, wordsFor}
 use Rattle.rules.specs.Counts.{onesBelow}
-use Rattle.rules.specs.List.{rising, zeros, upper, lower, pointer, lowerAt, upperAt, size, block}
+use Rattle.rules.specs.List.{rising, zeros, upper, lower, pointer, lowerAt, upperAt, size, block, Form, twoRuns}
+use Rattle.rules.specs.List.{formVersion}
 use Rattle.rules.specs.ReadList.{stated, listU, listN, elements, readList, decode, isBlock}
 use Rattle.laws.proofs.ByteLaws.{Alike, alike-append, alike-byte, alike-same, alike-read, alike-reads}
 use Rattle.laws.proofs.PartLaws.{stated-lt}
 use Rattle.laws.proofs.CountLaws.{below-none, ones-slow, run-steps}
 use Rattle.laws.proofs.RunLaws.{run-agrees, run-spare, ones-whole, words-bits, bits-words}
-use Rattle.listlaws.specs.Sound.{widthOf, upperOf, lowerOf, bitsOf, After, Framed, Sound}
+use Rattle.listlaws.specs.Sound.{widthOf, upperOf, lowerOf, bitsOf, After, FramedAs, Framed, Sound}
 use Rattle.listlaws.proofs.AfterLaws.{run-after, after-le, after-unique}
 use Rattle.listlaws.proofs.RisingLaws.{and-parts}
 use Rattle.listlaws.proofs.ElementLaws.{elements-count, upper-number, upper-agrees, lower-number}
 use Rattle.listlaws.proofs.BlockLaws.{block-bytes, block-stated, block-version, block-U, block-n, block-pointer}
 use Rattle.listlaws.proofs.BlockLaws.{block-lower, block-upper, block-size, size-is, size-none, same-eq}
 use Rattle.listlaws.proofs.BlockLaws.{same-refl}
+use Rattle.listlaws.proofs.RefusalLaws.{framed-form, decode-runs}
 use Rattle.listlaws.proofs.ValidLaws.{read-is, read-none}
 
+-- framed bytes have the header of any bytes that are as long and state the same
+pub header-alike : (f : Form) (s t : List ℕ) → Bytes s → Bytes t → FramedAs f s → length s ≡ length t
+    → stated t ≡ length t % 2 ^ 32 → getD t 4 0 ≡ formVersion f → listU t ≡ listU s % 2 ^ 32
+    → listN t ≡ listN s % 2 ^ 32 → Alike s t 0 13
+unfolding stated listU listN
+header-alike f s t bs bt p e es ev eu en =
+    let read = alike-read s t bs bt in
+    let short : length s < 2 ^ 32 = rw (p .length-stated) at (stated-lt s bs) in
+    let same-length : beAt 4 s 0 ≡ beAt 4 t 0 =
+    p .length-stated ∙ sym (mod-eq-of-lt short) ∙ ap (λ (k : ℕ). k % 2 ^ 32) e ∙ sym es in
+    let same-U : beAt 4 s 5 ≡ beAt 4 t 5 = sym (eu ∙ mod-eq-of-lt (omega (arith, p .within))) in
+    let same-n : beAt 4 s 9 ≡ beAt 4 t 9 = sym (en ∙ mod-eq-of-lt (omega (arith, p .within, p .below))) in
+    alike-append s t 0 4 13 (read 4 0 same-length)
+    (alike-append s t 4 5 13 (alike-byte s t 4 (p .version-is ∙ sym ev))
+    (alike-append s t 5 9 13 (read 4 5 same-U) (read 4 9 same-n)))
+
 module _ (s : List ℕ) (bs : Bytes s) (f : Framed s) (xs : List ℕ) (len : length xs ≡ listN s) where
-  abbrev t : List ℕ
-  t = block (listU s) xs
-
-  length-lt : length s < 2 ^ 32
-  length-lt = rw (f .length-stated) at (stated-lt s bs)
-
-  lengths : length s ≡ length t
+  lengths : length s ≡ length (block (listU s) xs)
   lengths = f .length-is ∙ ap (size (listU s)) (sym len) ∙ sym (block-size (listU s) xs)
 
-  -- the header is that of the block
-  header-alike : Alike s t 0 13
+  block-header : Alike s (block (listU s) xs) 0 13
   unfolding stated listU listN
-  header-alike =
-      let read = alike-read s t bs (block-bytes (listU s) xs) in
-      let e0 : beAt 4 s 0 ≡ beAt 4 t 0 = f .length-stated ∙ sym (mod-eq-of-lt length-lt)
-      ∙ ap (λ (k : ℕ). k % 2 ^ 32) lengths ∙ sym (block-stated (listU s) xs) in
-      let e4 : getD s 4 0 ≡ getD t 4 0 = f .version-is ∙ sym (block-version (listU s) xs) in
-      let e5 : beAt 4 s 5 ≡ beAt 4 t 5 = sym (block-U (listU s) xs ∙ mod-eq-of-lt (omega (arith, f .within))) in
-      let e9 : beAt 4 s 9 ≡ beAt 4 t 9 =
-      sym len ∙ sym (block-n (listU s) xs ∙ mod-eq-of-lt (omega (arith, f .within, f .below))) in
-      alike-append s t 0 4 13 (read 4 0 e0)
-      (alike-append s t 4 5 13 (alike-byte s t 4 e4)
-      (alike-append s t 5 9 13 (read 4 5 e5) (read 4 9 e9)))
+  block-header =
+      header-alike twoRuns s (block (listU s) xs) bs (block-bytes (listU s) xs) f lengths (block-stated (listU s) xs)
+      (block-version (listU s) xs) (block-U (listU s) xs)
+      (block-n (listU s) xs ∙ ap (λ (k : ℕ). k % 2 ^ 32) len)
 
 module _ (s : List ℕ) (bs : Bytes s) (f : Framed s) where
   abbrev U : ℕ
@@ -70,8 +74,7 @@ module _ (s : List ℕ) (bs : Bytes s) (f : Framed s) where
     framed-length = f .length-is ∙ size-is U n some
 
     reads : decode s ≡ xs
-    unfolding decode
-    reads = read-is s U n some
+    reads = decode-runs s (framed-form twoRuns s f) ∙ read-is s U n some
 
     number-is : num ≡ field s (upperOf s) 0 (bitsOf s)
     number-is = upper-number s (upperOf s) (lowerOf s) (widthOf s) (bitsOf s)
@@ -135,7 +138,7 @@ module _ (s : List ℕ) (bs : Bytes s) (f : Framed s) where
         sound-same =
             alike-same s (block U xs) (lengths s bs f xs len)
             (rw framed-length
-            (alike-append s (block U xs) 0 13 (upperOf s + 8 * wordsFor (bitsOf s)) (header-alike s bs f xs len)
+            (alike-append s (block U xs) 0 13 (upperOf s + 8 * wordsFor (bitsOf s)) (block-header s bs f xs len)
             (alike-append s (block U xs) 13 (lowerOf s) (upperOf s + 8 * wordsFor (bitsOf s)) pointers-alike
             (alike-append s (block U xs) (lowerOf s) (upperOf s)
             (upperOf s + 8 * wordsFor (bitsOf s)) lower-alike upper-alike))))
@@ -163,13 +166,13 @@ module _ (s : List ℕ) (bs : Bytes s) (f : Framed s) where
                 λ q g h. rw (ap (λ (l : List ℕ). beAt 4 l (9 + 4 * q)) e ∙ pointer-reads q g h) (pointer-after q h);
           }
 
-    sound-block : Sound s (listU s) (listN s) (widthOf s) → isBlock s U (decode s) ≡ true
+    sound-block : Sound s (listU s) (listN s) (widthOf s) → isBlock twoRuns s U (decode s) ≡ true
     unfolding isBlock
     sound-block c =
         let len : length xs ≡ n = count-is ∙ sym (ones-whole s (upperOf s) (bitsOf s) (c .upper-spare)) ∙ c .ones-are in
         rw (reads, c .rises, ← sound-same len c) (same-refl s)
 
-    block-sound : isBlock s U (decode s) ≡ true → Sound s (listU s) (listN s) (widthOf s)
+    block-sound : isBlock twoRuns s U (decode s) ≡ true → Sound s (listU s) (listN s) (widthOf s)
     unfolding isBlock zeros
     block-sound a =
         let p = and-parts (rising 0 U xs) (same s (block U xs)) (rw reads at a) in
@@ -182,17 +185,16 @@ module _ (s : List ℕ) (bs : Bytes s) (f : Framed s) where
         same-sound len (p .0) e
 
     -- refusal 6, part by part
-    pub sound-iff : (isBlock s (listU s) (decode s) ≡ true) ↔ Sound s (listU s) (listN s) (widthOf s)
+    pub sound-iff : (isBlock twoRuns s (listU s) (decode s) ≡ true) ↔ Sound s (listU s) (listN s) (widthOf s)
     sound-iff = (block-sound, sound-block)
 
   reads-none : listN s ≡ 0 → decode s ≡ []
-  unfolding decode
-  reads-none z = ap (readList s U) z ∙ read-none s U
+  reads-none z = decode-runs s (framed-form twoRuns s f) ∙ ap (readList s U) z ∙ read-none s U
 
   -- a block without elements has nothing left to test
-  pub none-block : listN s ≡ 0 → isBlock s (listU s) (decode s) ≡ true
+  pub none-block : listN s ≡ 0 → isBlock twoRuns s (listU s) (decode s) ≡ true
   unfolding isBlock rising
   none-block z =
       let e : s ≡ block U [] = alike-same s (block U []) (lengths s bs f [] (sym z))
-      (rw (f .length-is ∙ ap (size U) z ∙ size-none U) (header-alike s bs f [] (sym z))) in
+      (rw (f .length-is ∙ ap (size U) z ∙ size-none U) (block-header s bs f [] (sym z))) in
       rw (reads-none z, ← e) (same-refl s)

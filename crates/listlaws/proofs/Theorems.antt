@@ -6,11 +6,11 @@ use mathlib.Core.List.{List}
 use Prim.Native.Nat.{ℕ}
 use Rattle.rules.specs.declared.Refusal.the-variants.{Accepted}
 use Rattle.rules.specs.Bytes.{Bytes, same}
-use Rattle.rules.specs.List.{rising, validList, block}
+use Rattle.rules.specs.List.{rising, validList, block, twoRuns}
 use Rattle.rules.specs.ReadList.{listU, decode, isBlock, listRefusal}
 use Rattle.listlaws.proofs.RisingLaws.{and-parts}
 use Rattle.listlaws.proofs.BlockLaws.{block-bytes, same-eq, same-refl}
-use Rattle.listlaws.proofs.RefusalLaws.{framed-accepted, accepted-framed}
+use Rattle.listlaws.proofs.RefusalLaws.{alone-accepted, alone-framed}
 use Rattle.listlaws.proofs.ValidLaws.{valid-parts, valid-from, valid-U, valid-read, valid-framed}
 
 -- Reading the block of a valid list gives the list.
@@ -35,7 +35,7 @@ pub accepted-block : (s : List ℕ) → listRefusal s ≡ Accepted
     → (validList (listU s) (decode s) ≡ true) × (s ≡ block (listU s) (decode s))
 unfolding isBlock
 accepted-block s a =
-    let f = accepted-framed s a in
+    let f = alone-framed s a in
     let p = and-parts (rising 0 (listU s) (decode s)) (same s (block (listU s) (decode s))) (f .1) in
     (valid-from (listU s) (decode s) (f .0 .within) (p .0), same-eq s (block (listU s) (decode s)) (p .1))
 
@@ -43,7 +43,7 @@ accepted-block s a =
 pub block-accepted : (U : ℕ) (xs : List ℕ) → validList U xs ≡ true → listRefusal (block U xs) ≡ Accepted
 unfolding isBlock
 block-accepted U xs v =
-    framed-accepted (block U xs) (valid-framed U xs v)
+    alone-accepted (block U xs) (valid-framed U xs v)
     (rw (decode-block U xs v, valid-U U xs v, valid-parts U xs v .1) (same-refl (block U xs)))
 
 -- Accepted are the blocks of valid lists, and nothing else.

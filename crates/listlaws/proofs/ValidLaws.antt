@@ -13,11 +13,12 @@ use lib.ListN.{length, getD}
 use lib.Pow.{pow-pos, shr-le, shr-mono, split}
 use Rattle.rules.specs.Limits.{limit}
 use Rattle.rules.specs.Runs.{bit, runBit, field, wordsFor}
-use Rattle.rules.specs.List.{rising, validList, width, zeros, upper, lower, lowerAt, upperAt, size, block}
+use Rattle.rules.specs.List.{rising, validList, width, zeros, upper, lower, lowerAt, upperAt, size, block, twoRuns}
 use Rattle.rules.specs.ReadList.{listU, listN, elements, readList, decode}
 use Rattle.laws.proofs.BitLaws.{bit-shr}
 use Rattle.laws.proofs.RunLaws.{field-is, words-bits, words-hold}
 use Rattle.laws.proofs.WidthLaws.{low-bits}
+use Rattle.listlaws.proofs.RefusalLaws.{version-form, decode-runs}
 use Rattle.listlaws.specs.Sound.{Framed}
 use Rattle.listlaws.proofs.RisingLaws.{and-parts, rising-parts, rising-length}
 use Rattle.listlaws.proofs.ElementLaws.{elements-zero, elements-one}
@@ -181,9 +182,9 @@ module _ (U : ℕ) (xs : List ℕ) (v : validList U xs ≡ true) where
   valid-short = omega (arith, valid-small)
 
   pub valid-read : decode (block U xs) ≡ xs
-  unfolding decode
   valid-read =
-      ap₂ (λ (a b : ℕ). readList s a b) valid-U valid-n
+      decode-runs s (version-form twoRuns s (block-version U xs))
+      ∙ ap₂ (λ (a b : ℕ). readList s a b) valid-U valid-n
       ∙ elim (decLt 0 n) [
         | yes a ↦ read-is s U n a ∙ read-back a
         | no b ↦ let z : length xs ≡ 0 = omega arith in ap (readList s U) z ∙ read-none s U ∙ sym (is-nil xs z)

@@ -6,7 +6,8 @@
 --   climbs lo xs     xs rises strictly, from lo at the least
 --   least lo xs      the least that may follow xs where it climbs from lo; lo for the empty list
 --   widthOf s, upperOf s, lowerOf s, bitsOf s   w, where the two runs start, and n + Z, of the block s with elements
---   Framed s         what the refusals 1 to 5 leave
+--   FramedAs f s     what the refusals 1 to 5 leave of a list in the form f
+--   Framed s         that of a list in two runs
 --   Sound s U n w    what refusal 6 leaves of n elements, at least 1
 use mathlib.Core.Bool.{Bool, true, _&&_}
 use mathlib.Core.Path.{_≡_}
@@ -15,11 +16,11 @@ use Prim.Native.Nat.{ℕ, suc, _+_, _*_, _/_, _%_, _^_, _≤_, _<_}
 use lib.Count.{ones}
 use lib.Dec.{leb}
 use lib.ListN.{length, getD}
-use Rattle.rules.specs.Limits.{limit, version, listHeader}
+use Rattle.rules.specs.Limits.{limit, listHeader}
 use Rattle.rules.specs.Bytes.{beAt}
 use Rattle.rules.specs.Runs.{runBit, wordsFor}
 use Rattle.rules.specs.Counts.{onesBelow}
-use Rattle.rules.specs.List.{rising, width, zeros, lowerAt, upperAt, size}
+use Rattle.rules.specs.List.{rising, width, zeros, lowerAt, upperAt, Form, twoRuns, formVersion, formSize}
 use Rattle.rules.specs.ReadList.{stated, listU, listN, elements}
 
 abbrev pub onesTo : ℕ → ℕ → ℕ
@@ -49,13 +50,16 @@ lowerOf s = lowerAt (listU s) (widthOf s)
 abbrev pub bitsOf : List ℕ → ℕ
 bitsOf s = listN s + zeros (listU s) (widthOf s)
 
-pub record Framed (s : List ℕ) : Type 0 where
+pub record FramedAs (f : Form) (s : List ℕ) : Type 0 where
   pub header : listHeader ≤ length s
   pub length-stated : stated s ≡ length s
-  pub version-is : getD s 4 0 ≡ version
+  pub version-is : getD s 4 0 ≡ formVersion f
   pub within : listU s ≤ limit
   pub below : listN s ≤ listU s
-  pub length-is : length s ≡ size (listU s) (listN s)
+  pub length-is : length s ≡ formSize f (listU s) (listN s)
+
+abbrev pub Framed : List ℕ → Type 0
+Framed s = FramedAs twoRuns s
 
 pub record Sound (s : List ℕ) (U n w : ℕ) : Type 0 where
   pub ones-are : onesBelow s (upperAt U n w) (64 * wordsFor (n + zeros U w)) ≡ n

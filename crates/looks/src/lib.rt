@@ -1,17 +1,15 @@
-// Words of the upper run handed out, each for one look, and the walks from word to word.
+// Words of a run handed out, each for one look, and the walks from word to word: of an upper run, or of a bitmap.
 
 ghost use mathlib.Core.Path.{_≡_};
 ghost use Prim.Native.Nat.{_+_, _-_, _*_, _/_, _^_, _≤_, _<_};
 ghost use lib.ListN.{length};
 ghost use Rattle.rules.specs.Runs.{runWord, wordsFor};
-ghost use Rattle.readlaws.specs.Open.{Open};
-ghost use Rattle.walklaws.specs.Walks.{Paid, Walking};
-ghost use Rattle.walklaws.specs.Walks.{AtOne};
+ghost use Rattle.walklaws.specs.Walks.{RunIn, Paid, Walking, AtOne};
 use shape::Shape;
 use walklaws::Ones;
 
-// Hands out word k of the upper run, and adds one look to the count that it is lent: a seek has the run's words from
-// here alone.
+// Hands out word k of the run, and adds one look to the count that it is lent: a seek has the run's words from here
+// alone.
 pub fn look(s: &[u8], upper: usize, k: usize, looks: &mut u32) -> u64
     requires { ⌜ (upper + 8 * k + 8 ≤ length (now s)) × (now looks < 2 ^ 32 - 1) ⌝ }
     ensures { λ r. ⌜ (r ≡ runWord (now (s .entry)) upper k) × (now (looks .exit) ≡ now (looks .entry) + 1) ⌝ }
@@ -22,7 +20,7 @@ pub fn look(s: &[u8], upper: usize, k: usize, looks: &mut u32) -> u64
 
 // Goes on from word k to the next, before which the run has `rank` ones.
 pub fn next_word(s: &[u8], g: Shape, k: usize, rank: usize, looks: &mut u32) -> Ones
-    requires { ⌜ Open (now s) g × (k + 1 < wordsFor (g .bits)) × (now looks ≤ 2 ^ 31 + k) ⌝ }
+    requires { ⌜ RunIn (now s) g × (k + 1 < wordsFor (g .bits)) × (now looks ≤ 2 ^ 31 + k) ⌝ }
     ensures { λ r. ⌜ (r .left ≡ runWord (now (s .entry)) (g .upper) (k + 1)) × (r .k ≡ k + 1) × (r .rank ≡ rank)
         × (now (looks .exit) ≡ now (looks .entry) + 1) ⌝ }
 {
@@ -36,7 +34,7 @@ pub fn next_word(s: &[u8], g: Shape, k: usize, rank: usize, looks: &mut u32) -> 
 
 // Passes words with no one left; there is one ahead.
 pub fn to_one(s: &[u8], g: Shape, from: Ones, looks: &mut u32) -> Ones
-    requires { ⌜ Open (now s) g × Walking (now s) g from × (from .rank < g .n) × (now looks ≤ 2 ^ 31 + from .k) ⌝ }
+    requires { ⌜ RunIn (now s) g × Walking (now s) g from × (from .rank < g .n) × (now looks ≤ 2 ^ 31 + from .k) ⌝ }
     ensures { λ r. ⌜ AtOne (now (s .entry)) g from r
         × Paid (from .k) (now (looks .entry)) (r .k) (now (looks .exit)) ⌝ }
 {
@@ -49,7 +47,7 @@ pub fn to_one(s: &[u8], g: Shape, from: Ones, looks: &mut u32) -> Ones
 
 // Passes all words up to the run's last.
 pub fn to_end(s: &[u8], g: Shape, from: usize, looks: &mut u32)
-    requires { ⌜ Open (now s) g × (from < wordsFor (g .bits)) × (now looks ≤ 2 ^ 31 + from) ⌝ }
+    requires { ⌜ RunIn (now s) g × (from < wordsFor (g .bits)) × (now looks ≤ 2 ^ 31 + from) ⌝ }
     ensures { λ _. ⌜ Paid (from + 1) (now (looks .entry)) (wordsFor (g .bits)) (now (looks .exit)) ⌝ }
 {
     let last = (g.bits + 63) / 64 - 1;

@@ -10,7 +10,7 @@ use lib.Dec.{eqb, ltb}
 use lib.ListN.{length, getD, length-append}
 use Rattle.rules.specs.declared.Refusal.the-variants.{Question}
 use Rattle.rules.specs.Refusal.{accepted}
-use Rattle.rules.specs.Index.{indexN, indexT, indexRefusal}
+use Rattle.rules.specs.Index.{indexV, indexN, indexT, indexRefusal}
 use Rattle.rules.specs.Seek.{Found, none, page}
 use Rattle.rules.specs.Common.{common}
 use Rattle.rules.specs.Plain.{firstFrom, commonPages, InPhrase, withStarts}
@@ -46,9 +46,9 @@ count-bound xs b = go (firstFrom b 0 xs)
     go (none n) = count-numbered (n ∷ [])
     go (page x i) = count-numbered (x ∷ (i ∷ []))
 
-count-common : (N : ℕ) (ls : List (List ℕ)) → Count (byCommon N ls)
+count-common : (v N : ℕ) (ls : List (List ℕ)) → Count (byCommon v N ls)
 unfolding byCommon
-count-common N ls = count-numbered (common N ls .seeks ∷ (common N ls .looks ∷ commonPages ls))
+count-common v N ls = count-numbered (common v N ls .seeks ∷ (common v N ls .looks ∷ commonPages ls))
 
 count-phrase : (ts : List InPhrase) → Count (byPhrase ts)
 unfolding byPhrase
@@ -60,13 +60,14 @@ unfolding answer
 count-answer s kind args =
     let rank : List ℕ = byRank (pagesIn s (getD args 0 0)) (getD args 1 0) in
     let bound : List ℕ = byBound (pagesIn s (getD args 0 0)) (getD args 1 0) in
-    let shared : List ℕ = byCommon (indexN s) (listsIn s args) in
+    let shared : List ℕ = byCommon (indexV s) (indexN s) (listsIn s args) in
     let phrase : List ℕ = byPhrase (phraseIn s args) in
     count-cond (eqb kind 1) rank (cond (eqb kind 2) bound (cond (eqb kind 3) shared phrase))
     (count-rank (pagesIn s (getD args 0 0)) (getD args 1 0))
     (count-cond (eqb kind 2) bound (cond (eqb kind 3) shared phrase)
     (count-bound (pagesIn s (getD args 0 0)) (getD args 1 0))
-    (count-cond (eqb kind 3) shared phrase (count-common (indexN s) (listsIn s args)) (count-phrase (phraseIn s args))))
+    (count-cond (eqb kind 3) shared phrase (count-common (indexV s) (indexN s) (listsIn s args))
+    (count-phrase (phraseIn s args))))
 
 -- ---- the answers of a run
 

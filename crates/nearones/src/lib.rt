@@ -1,7 +1,7 @@
 // The last element of a block, and the first one of its upper run from a place on.
 
 ghost use mathlib.Core.Path.{_≡_};
-ghost use Prim.Native.Nat.{_+_, _-_, _*_, _/_, _<_};
+ghost use Prim.Native.Nat.{_-_, _<_};
 ghost use lib.ListN.{getD};
 ghost use Rattle.rules.specs.Counts.{onesBelow};
 ghost use Rattle.rules.specs.ReadList.{decode};

@@ -7,8 +7,8 @@ use Rattle.rules.specs.Plain.{atLeast}
 use Rattle.commonlaws.specs.Readers.{pagesOf, sharedFrom}
 use Rattle.commonlaws.proofs.SharedLaws.{shared-le, from-le}
 use Rattle.commonlaws.proofs.TallyLaws.{rounds-tallied}
-use Rattle.walklaws.proofs.OpenLaws.{open-length}
-use Rattle.querylaws.specs.Lists.{numberOf, partAt, shapeIn, pagesAt, pagesIn, boundIn, Lists}
+use Rattle.readlaws.proofs.FormLaws.{form-length}
+use Rattle.querylaws.specs.Lists.{numberOf, partAt, formIn, shapeIn, pagesAt, pagesIn, boundIn, Lists}
 use Rattle.querylaws.specs.Queries.{newQuery, readerAt, leadIn, othersIn}
 use Rattle.querylaws.specs.Listings.{wholeIn}
 use Rattle.querylaws.proofs.ListLaws.{list-length}
@@ -28,7 +28,7 @@ whole-few s sh k l =
     rounds-tallied (boundIn sh) lead others 0 (lead-ready s sh k newQuery 0 a)
     (others-ready s sh k newQuery 0 a) n .listed in
     let at = l .each 0 (l .some) in
-    let m = open-length (partAt s sh 0) (shapeIn sh 0) (at .opened) in (
+    let m = form-length (formIn s sh 0) (partAt s sh 0) (shapeIn sh 0) (at .opened) in (
       rw (← new-rule s sh k l 0 n, t)
           (omega (
             arith,

@@ -9,12 +9,15 @@ use lib.Seq.{paste, length-paste, length-take-le, getD-take, getD-append-add}
 use Rattle.rules.specs.Common.{leadOf}
 use Rattle.rules.specs.Runs.{wordsFor}
 use Rattle.shape.specs.declared.Shape.{Shape}
-use Rattle.rules.specs.ReadList.{listU, listN, decode}
-use Rattle.shape.proofs.ShapeLaws.{shape-u, shape-end}
-use Rattle.listlaws.proofs.RefusalLaws.{accepted-framed}
-use Rattle.readlaws.specs.Open.{Open}
+use Rattle.rules.specs.List.{Form, twoRuns, bitmap}
+use Rattle.rules.specs.ReadList.{listU, listN, formAt, decode}
+use Rattle.shape.specs.Shape.{formShape}
+use Rattle.shape.proofs.ShapeLaws.{formShape-u}
+use Rattle.maplaws.specs.Maps.{FormValid}
+use Rattle.readlaws.specs.Open.{FormOpen}
+use Rattle.readlaws.proofs.FormLaws.{valid-opens, form-reads, map-reads}
 use Rattle.readlaws.proofs.ReadLaws.{open-reads}
-use Rattle.querylaws.specs.Lists.{numberOf, partAt, shapeIn, pagesAt, pagesIn, boundIn, ListAt}
+use Rattle.querylaws.specs.Lists.{numberOf, partAt, formIn, shapeIn, pagesAt, pagesIn, boundIn, ListAt}
 use Rattle.querylaws.proofs.SpanLaws.{span-same}
 use Rattle.openlists.specs.Places.{fromOf, toOf, placePart, placePages, placedIn, shapeAt, numbersAt, sourceOf}
 use Rattle.openlists.specs.Places.{PlaceOk, Places, Alike, Slots, Opened}
@@ -28,10 +31,10 @@ pub record Narrow (g : Shape) : Type 0 where
   pub lower-fits : g .lower < 2 ^ 32
   pub upper-fits : g .upper < 2 ^ 32
 
-pub open-narrow : (s : List ℕ) (g : Shape) → Open s g → Narrow g
+pub open-narrow : (f : Form) (s : List ℕ) (g : Shape) → FormOpen f s g → Narrow g
 unfolding wordsFor
-open-narrow s g o =
-    let r = open-reads s g o in record {
+open-narrow twoRuns s g o =
+    let r = open-reads s g (o .1) in record {
       u-fits = omega (arith, r .within);
       n-fits = omega (arith, r .within, r .below);
       w-fits = omega (arith, r .narrow);
@@ -39,6 +42,21 @@ open-narrow s g o =
       lower-fits = omega (arith, r .low, r .within, r .below, r .many);
       upper-fits = omega (arith, r .up, r .short, r .low, r .within, r .below, r .many);
     }
+open-narrow bitmap s g o =
+    let r = form-reads bitmap s g o in
+    let m = map-reads s g o in record {
+      u-fits = omega (arith, r .within);
+      n-fits = omega (arith, r .within, r .below);
+      w-fits = omega (arith, m .wide);
+      bits-fit = omega (arith, r .within, r .below, r .many);
+      lower-fits = omega (arith, m .low, r .within);
+      upper-fits = omega (arith, m .up, m .low, r .within);
+    }
+
+-- a valid block's shape ends where the block does
+pub shape-ends : (f : Form) (s : List ℕ) → FormValid f s → length s ≡ formShape f (listU s) (listN s) .end
+shape-ends f s a = sym (form-reads f s (formShape f (listU s) (listN s))
+    (valid-opens f s (formShape f (listU s) (listN s)) a refl) .ends)
 
 -- ---- numbers put into a slot
 
@@ -103,7 +121,7 @@ module _ (s ps : List ℕ) (lead : ℕ) where
         let n : length part ≡ toOf ps x - fromOf ps x =
         unfold placePart in length-take-le (toOf ps x - fromOf ps x) (drop (fromOf ps x) s)
         (omega (arith, length-drop (fromOf ps x) s, o .starts, o .ends)) in
-        sym n ∙ accepted-framed part (o .accepted) .0 .length-is ∙ sym (shape-end (listU part) (listN part))
+        sym n ∙ shape-ends (formAt part) part (o .accepted)
 
     slot-shape : (i : ℕ) → i < k → shapeIn r i ≡ shapeAt s ps (sourceOf lead i)
     unfolding shapeIn
@@ -127,17 +145,19 @@ module _ (s ps : List ℕ) (lead : ℕ) where
     unfolding boundIn shapeAt
     opened-bound a =
         let part : List ℕ = placePart s ps (sourceOf lead 0) in
-        f .slot 0 2 (p .some) (omega arith) ∙ shape-u (listU part) (listN part)
+        f .slot 0 2 (p .some) (omega arith) ∙ formShape-u (formAt part) (listU part) (listN part)
         ∙ a (sourceOf lead 0) (source-lt lead 0 k h (p .some))
 
     -- an accepted block with its numbers
     slot-open : (i : ℕ) → i < k → (numberOf r i 0 ≤ numberOf r i 1) × (numberOf r i 1 ≤ length s)
-        × Open (partAt s r i) (shapeIn r i)
+        × FormOpen (formIn s r i) (partAt s r i) (shapeIn r i)
+    unfolding formIn shapeAt
     slot-open i l =
         let o = source-ok i l in (
           rw (f .slot i 0 l (omega arith), f .slot i 1 l (omega arith)) (o .starts),
           rw (f .slot i 1 l (omega arith)) (o .ends),
-          rw (slot-part i l, slot-shape i l) (record { accepted = o .accepted; shape = unfold shapeAt in refl }),
+          rw (slot-part i l, slot-shape i l) (valid-opens (formAt (placePart s ps (sourceOf lead i)))
+              (placePart s ps (sourceOf lead i)) _ (o .accepted) refl),
         )
 
     slot-list : Alike s ps k → (i : ℕ) → i < k → ListAt s r i
@@ -161,4 +181,5 @@ module _ (s ps : List ℕ) (lead : ℕ) where
           lists = record { some = p .some; few = p .few; each = slot-list a };
           pages = unfold pagesIn in same ∙ source-order (placePages s ps) k lead h e;
           bound = opened-bound a;
+          source = λ i l. (sourceOf lead i, source-lt lead i k h l, slot-part i l);
         }

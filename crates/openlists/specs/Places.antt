@@ -13,6 +13,7 @@
 --   PlaceOk s ps i      an accepted block is there
 --   Places s ps k       so for each of the first k places; k from 1 to 8
 --   Alike s ps k        the lists there are of one U
+--   Edited v s ps k     and of the form that an index of version v gives them
 --   Slots s ps lead t r the first t slots of the numbers r are those of their places
 --   Opened s ps k r     the 64 numbers r place the k lists, the lead first and the others in their order
 use mathlib.Core.Bool.{cond}
@@ -21,12 +22,13 @@ use mathlib.Core.List.{List, [], _∷_}
 use Prim.Native.Nat.{ℕ, _+_, _-_, _*_, _^_, _≤_, _<_}
 use lib.Dec.{eqb, leb, ltb}
 use lib.ListN.{length, getD, take, drop}
-use Rattle.rules.specs.declared.Refusal.the-variants.{Accepted}
-use Rattle.rules.specs.ReadList.{listU, listN, decode, listRefusal}
+use Rattle.rules.specs.List.{formOf}
+use Rattle.rules.specs.ReadList.{listU, listN, formAt, decode}
 use Rattle.rules.specs.Common.{leadPages, otherPages}
 use Rattle.shape.specs.declared.Shape.{Shape}
-use Rattle.shape.specs.Shape.{shapeOf}
-use Rattle.querylaws.specs.Lists.{span, numberOf, pagesIn, boundIn, Lists}
+use Rattle.shape.specs.Shape.{formShape}
+use Rattle.maplaws.specs.Maps.{FormValid}
+use Rattle.querylaws.specs.Lists.{span, numberOf, partAt, pagesIn, boundIn, Lists}
 
 abbrev pub fromOf : List ℕ → ℕ → ℕ
 fromOf ps i = getD ps (2 * i) 0
@@ -55,7 +57,7 @@ abbrev pub numbersOf : ℕ → ℕ → Shape → List ℕ
 numbersOf a z g = a ∷ z ∷ g .u ∷ g .w ∷ g .bits ∷ g .lower ∷ g .upper ∷ g .n ∷ []
 
 unfoldable pub shapeAt : List ℕ → List ℕ → ℕ → Shape
-shapeAt s ps i = shapeOf (listU (placePart s ps i)) (listN (placePart s ps i))
+shapeAt s ps i = formShape (formAt (placePart s ps i)) (listU (placePart s ps i)) (listN (placePart s ps i))
 
 abbrev pub numbersAt : List ℕ → List ℕ → ℕ → List ℕ
 numbersAt s ps i = numbersOf (fromOf ps i) (toOf ps i) (shapeAt s ps i)
@@ -71,7 +73,7 @@ pub record PlaceOk (s ps : List ℕ) (i : ℕ) : Type 0 where
   pub room : 2 * i + 2 ≤ length ps
   pub starts : fromOf ps i ≤ toOf ps i
   pub ends : toOf ps i ≤ length s
-  pub accepted : listRefusal (placePart s ps i) ≡ Accepted
+  pub accepted : FormValid (formAt (placePart s ps i)) (placePart s ps i)
 
 pub record Places (s ps : List ℕ) (k : ℕ) : Type 0 where
   pub some : 0 < k
@@ -80,6 +82,10 @@ pub record Places (s ps : List ℕ) (k : ℕ) : Type 0 where
 
 abbrev pub Alike : List ℕ → List ℕ → ℕ → Type 0
 Alike s ps k = (i : ℕ) → i < k → listU (placePart s ps i) ≡ listU (placePart s ps 0)
+
+abbrev pub Edited : ℕ → List ℕ → List ℕ → ℕ → Type 0
+Edited v s ps k = (i : ℕ) → i < k
+    → formAt (placePart s ps i) ≡ formOf v (listU (placePart s ps i)) (listN (placePart s ps i))
 
 pub record Slots (s ps : List ℕ) (lead t : ℕ) (r : List ℕ) : Type 0 where
   pub room : length r ≡ 64
@@ -90,3 +96,4 @@ pub record Opened (s ps : List ℕ) (k : ℕ) (r : List ℕ) : Type 0 where
   pub lists : Lists s r k
   pub pages : pagesIn s r k ≡ leadPages (placedIn s ps k) ∷ otherPages (placedIn s ps k)
   pub bound : boundIn r ≡ listU (placePart s ps 0)
+  pub source : (i : ℕ) → i < k → (j : ℕ) × (j < k) × (partAt s r i ≡ placePart s ps j)

@@ -4,10 +4,10 @@ ghost use mathlib.Core.Path.{_≡_};
 ghost use Prim.Native.Nat.{_*_, _<_};
 ghost use lib.ListN.{length};
 ghost use lib.Seq.{paste};
-ghost use Rattle.rules.specs.declared.Refusal.the-variants.{Accepted};
-ghost use Rattle.rules.specs.ReadList.{listU, listN, listRefusal};
+ghost use Rattle.rules.specs.ReadList.{listU, listN, formAt};
 ghost use Rattle.rules.specs.Common.{leadOf};
-ghost use Rattle.shape.specs.Shape.{shapeOf};
+ghost use Rattle.shape.specs.Shape.{formShape};
+ghost use Rattle.maplaws.specs.Maps.{FormValid};
 ghost use Rattle.openlists.specs.Places.{bytesOf, placePart, placePages, placedIn, numbersOf, numbersAt};
 ghost use Rattle.openlists.specs.Places.{sourceOf, Within, PlaceOk, Places, Alike, Slots, Opened};
 use querylaws::BITS;
@@ -59,9 +59,10 @@ fn lead_of(card: &[u8], places: &[u32], k: usize) -> usize
 
 // The numbers of the accepted list from byte `from` up to byte `to`: where it is, and its shape.
 pub fn numbers_at(card: &[u8], from: usize, to: usize) -> [u32; 8]
-    requires { ⌜ Within (now card) from to × (listRefusal (bytesOf (now card) from to) ≡ Accepted) ⌝ }
-    ensures { λ r. ⌜ r ≡ numbersOf from to
-        (shapeOf (listU (bytesOf (now (card .entry)) from to)) (listN (bytesOf (now (card .entry)) from to))) ⌝ }
+    requires { ⌜ Within (now card) from to
+        × FormValid (formAt (bytesOf (now card) from to)) (bytesOf (now card) from to) ⌝ }
+    ensures { λ r. ⌜ r ≡ numbersOf from to (formShape (formAt (bytesOf (now (card .entry)) from to))
+        (listU (bytesOf (now (card .entry)) from to)) (listN (bytesOf (now (card .entry)) from to))) ⌝ }
 {
     let g = reading::shape_at(&card[from..to]);
     let mut row = [0u32; 8];

@@ -7,28 +7,31 @@ use native.Mathlib.Omega.{arith}
 use lib.ListN.{length, getD, drop, length-drop}
 use lib.Seq.{paste, length-paste, length-take-le}
 use Rattle.rules.specs.declared.Refusal.the-variants.{Accepted}
-use Rattle.rules.specs.ReadList.{listU, listN, listRefusal}
-use Rattle.rules.specs.ReadTerm.{pagesOf, countsOf, positionsOf}
-use Rattle.rules.specs.Index.{indexT, termPart, indexRefusal}
-use Rattle.shape.specs.Shape.{shapeOf}
-use Rattle.shape.proofs.ShapeLaws.{shape-end}
-use Rattle.listlaws.proofs.RefusalLaws.{accepted-framed}
+use Rattle.rules.specs.ReadList.{listU, listN, formAt, listRefusal}
+use Rattle.rules.specs.ReadTerm.{countsOf, positionsOf}
+use Rattle.rules.specs.Index.{indexV, indexT, termPart, indexRefusal}
+use Rattle.shape.specs.declared.Shape.{Shape}
+use Rattle.shape.specs.Shape.{formShape}
 use Rattle.termlaws.proofs.Theorems.{accepted-lists}
 use Rattle.cardlaws.proofs.Theorems.{accepted-term}
+use Rattle.readlaws.specs.Open.{Open}
+use Rattle.readlaws.proofs.ReadLaws.{open-reads}
+use Rattle.readlaws.proofs.FormLaws.{alone-opens}
 use Rattle.querylaws.specs.Lists.{numberOf, partAt, shapeIn}
 use Rattle.openlists.specs.Places.{bytesOf, Within, numbersOf}
 use Rattle.openlists.proofs.SlotLaws.{paste-in, paste-before}
 use Rattle.wordlists.specs.Lying.{listOf}
 use Rattle.openwords.specs.Slots.{Slot, Filled}
 
--- each of a word's lists is accepted
-pub list-accepted : (s : List ℕ) (t k : ℕ) → indexRefusal s ≡ Accepted → t < indexT s → k < 3
+-- counts and positions of a word are accepted, in two runs
+pub list-accepted : (s : List ℕ) (t k : ℕ) → indexRefusal s ≡ Accepted → t < indexT s → 0 < k → k < 3
     → listRefusal (listOf s t k) ≡ Accepted
-unfolding listOf pagesOf countsOf positionsOf
-list-accepted s t zero a h l = accepted-lists (termPart t s) (accepted-term s a t h .accepts) .pages
-list-accepted s t (suc zero) a h l = accepted-lists (termPart t s) (accepted-term s a t h .accepts) .counts
-list-accepted s t (suc (suc zero)) a h l = accepted-lists (termPart t s) (accepted-term s a t h .accepts) .positions
-list-accepted s t (suc (suc (suc k))) a h l = absurd (omega arith)
+unfolding listOf countsOf positionsOf
+list-accepted s t zero a h n l = absurd (omega arith)
+list-accepted s t (suc zero) a h n l = accepted-lists (indexV s) (termPart t s) (accepted-term s a t h .accepts) .counts
+list-accepted s t (suc (suc zero)) a h n l =
+    accepted-lists (indexV s) (termPart t s) (accepted-term s a t h .accepts) .positions
+list-accepted s t (suc (suc (suc k))) a h n l = absurd (omega arith)
 
 -- a list's shape by its eight numbers
 shape-from : (sh : List ℕ) (i : ℕ) (f : ℕ → ℕ) → ((j : ℕ) → j < 8 → numberOf sh i j ≡ f j) → shapeIn sh i ≡ (record {
@@ -71,20 +74,26 @@ slot-same s sh r i b l e o =
 
 module _ (s : List ℕ) (from to : ℕ) (b : List ℕ) (w : Within s from to) (bytes : bytesOf s from to ≡ b)
     (a : listRefusal b ≡ Accepted) where
-  abbrev numbers : List ℕ
-  numbers = numbersOf from to (shapeOf (listU b) (listN b))
+  abbrev shape : Shape
+  shape = formShape (formAt b) (listU b) (listN b)
 
-  ends-at : to - from ≡ shapeOf (listU b) (listN b) .end
+  abbrev numbers : List ℕ
+  numbers = numbersOf from to shape
+
+  opens : Open b shape
+  opens = alone-opens b a shape refl
+
+  ends-at : to - from ≡ shape .end
   ends-at =
       let n : length (bytesOf s from to) ≡ to - from =
       length-take-le (to - from) (drop from s) (omega (arith, length-drop from s, w .starts, w .ends)) in
-      sym n ∙ ap length bytes ∙ accepted-framed b a .0 .length-is ∙ sym (shape-end (listU b) (listN b))
+      sym n ∙ ap length bytes ∙ sym (open-reads b shape opens .ends)
 
   slot-made : (sh : List ℕ) (i : ℕ) → length sh ≡ 64 → i < 8 → ((j : ℕ) → j < 8 → numberOf sh i j ≡ getD numbers j 0)
       → Slot s sh i b
   slot-made sh i l h e =
       let p : partAt s sh i ≡ b = unfold partAt in rw (e 0 (omega arith), e 1 (omega arith)) bytes in
-      let g : shapeIn sh i ≡ shapeOf (listU b) (listN b) =
+      let g : shapeIn sh i ≡ shape =
       rw ends-at at (shape-from sh i (λ j. getD numbers j 0) e) in
       record {
         block = record {
@@ -92,7 +101,7 @@ module _ (s : List ℕ) (from to : ℕ) (b : List ℕ) (w : Within s from to) (b
           few = h;
           starts = omega (arith, e 0 (omega arith), e 1 (omega arith), w .starts);
           ends = omega (arith, e 1 (omega arith), w .ends);
-          opened = rw (p, g) (record { accepted = a; shape = refl });
+          opened = rw (p, g) opens;
         };
         part-is = p;
       }

@@ -2,14 +2,14 @@
 -- where they stand in the numbers that they are listed into.
 use mathlib.Core.Path.{_≡_, sym, ap, _∙_}
 use mathlib.Core.List.{List, [], _∷_, _++_, append-assoc}
-use Prim.Native.Nat.{ℕ, _+_, _-_, _≤_, _<_}
+use Prim.Native.Nat.{ℕ, _-_, _≤_, _<_}
 use native.Mathlib.Omega.{arith}
 use borrow.Rule.Slice.PartMut.{midOf, postOf, putMid, mid-len}
 use lib.ListN.{length, getD, take, drop, length-take}
 use lib.Seq.{getD-take, take-append-seam}
 use Rattle.rules.specs.declared.Refusal.the-variants.{Accepted}
 use Rattle.rules.specs.Write.{laid}
-use Rattle.rules.specs.Index.{indexN, indexRefusal}
+use Rattle.rules.specs.Index.{indexV, indexN, indexRefusal}
 use Rattle.rules.specs.Common.{Tally, commonFrom}
 use Rattle.rules.specs.Plain.{atLeast, commonPages}
 use Rattle.rules.specs.Questions.{listsIn}
@@ -31,7 +31,7 @@ module _ (s ts sh : List ℕ) (o : OpenedPages s ts sh) (b : ℕ) (room : List �
   abbrev ls : List (List ℕ)
   ls = listsIn s ts
 
-  tally-is : commonFrom (indexN s) ls b (length room)
+  tally-is : commonFrom (indexV s) (indexN s) ls b (length room)
       ≡ record { seeks = seeksOf (r .q); looks = looksOf (r .q); listed = x .pages }
   tally-is = sym (o .rule b (length room)) ∙ batched-rule s sh (length ts) (o .lists) b room r room′ x
 
@@ -39,7 +39,7 @@ module _ (s ts sh : List ℕ) (o : OpenedPages s ts sh) (b : ℕ) (room : List �
   unfolding screenPages
   pages-are =
       sym (ap (λ (t : Tally). t .listed) tally-is)
-      ∙ from-listed (indexN s) ls (opened-some s ts sh o) (o .rise) b (length room)
+      ∙ from-listed (indexV s) (indexN s) ls (opened-some s ts sh o) (o .rise) b (length room)
 
   pub room-is : room′ ≡ laid (screenPages b (length room) ls) room
   room-is = x .laid-out ∙ ap (λ (ps : List ℕ). laid ps room) pages-are
@@ -47,7 +47,7 @@ module _ (s ts sh : List ℕ) (o : OpenedPages s ts sh) (b : ℕ) (room : List �
   pub found-is : r .found ≡ length (screenPages b (length room) ls)
   found-is = x .found ∙ ap length pages-are
 
-  pub counts-are : seeksOf (r .q) ∷ looksOf (r .q) ∷ [] ≡ screenCounts (indexN s) b (length room) ls
+  pub counts-are : seeksOf (r .q) ∷ looksOf (r .q) ∷ [] ≡ screenCounts (indexV s) (indexN s) b (length room) ls
   unfolding screenCounts
   counts-are = rw tally-is
 
@@ -67,7 +67,7 @@ page-below s ts sh o b n i h =
     let all : List ℕ = atLeast b (commonPages (listsIn s ts)) in
     rw (getD-take n all i 0 (omega (arith, h, length-take n all)))
     (rising-below b (indexN s) all (from-rises 0 (indexN s) (commonPages (listsIn s ts))
-    (common-rises (indexN s) (listsIn s ts) (opened-some s ts sh o) (o .rise)) b) i
+    (common-rises (indexV s) (indexN s) (listsIn s ts) (opened-some s ts sh o) (o .rise)) b) i
     (omega (arith, h, length-take n all)))
 
 module _ (s ts sh : List ℕ) (a : indexRefusal s ≡ Accepted) (o : OpenedPages s ts sh) (b n : ℕ) (some : 0 < n)

@@ -13,7 +13,7 @@ use Rattle.rules.specs.declared.Screened.{Screened}
 use Rattle.rules.specs.Refusal.{accepted}
 use Rattle.rules.specs.Limits.{screenLimit}
 use Rattle.rules.specs.Write.{laid}
-use Rattle.rules.specs.Index.{indexN, indexT, indexRefusal}
+use Rattle.rules.specs.Index.{indexV, indexN, indexT, indexRefusal}
 use Rattle.rules.specs.Questions.{listsIn, wordsGood}
 use Rattle.rules.specs.Screen.{screenGood, screenPages, screenCounts, isFull, screening, unshown, showing, screen}
 use Rattle.listlaws.proofs.RisingLaws.{and-parts}
@@ -57,7 +57,8 @@ module _ (s : List ℕ) (b n : ℕ) (ts pages counts : List ℕ) where
     screen-question g = rw (a, g)
 
     pub screen-good : screenGood (indexT s) n ts ≡ true
-        → showing n (screenPages b n (listsIn s ts)) (screenCounts (indexN s) b n (listsIn s ts)) pages counts
+        → showing n (screenPages b n (listsIn s ts)) (screenCounts (indexV s) (indexN s) b n (listsIn s ts)) pages
+        counts
         ≡ screen s b n ts pages counts
     unfolding screen
     screen-good g = rw (a, g)

@@ -11,13 +11,13 @@ use lib.ListN.{length, getD, take}
 use Rattle.rules.specs.declared.Refusal.the-variants.{Accepted}
 use Rattle.rules.specs.declared.Screened.{Screened}
 use Rattle.rules.specs.Limits.{limit}
-use Rattle.rules.specs.Index.{indexN}
+use Rattle.rules.specs.Index.{indexV, indexN}
 use Rattle.rules.specs.Questions.{listsIn}
 use Rattle.rules.specs.Screen.{screenPages, screenCounts, isFull}
 
 pub record Lists (s : List ℕ) (b n : ℕ) (ts list : List ℕ) (found seeks looks : ℕ) : Type 0 where
   pub pages : take found list ≡ screenPages b n (listsIn s ts)
-  pub counts : seeks ∷ looks ∷ [] ≡ screenCounts (indexN s) b n (listsIn s ts)
+  pub counts : seeks ∷ looks ∷ [] ≡ screenCounts (indexV s) (indexN s) b n (listsIn s ts)
   pub few : found ≤ n
   pub low : found ≡ n → getD list (n - 1) 0 ≤ limit
 

@@ -1,6 +1,6 @@
 -- Where blocks lie in the bytes that hold them.
 --
---   headRefusal h s   the refusal of a block's first three tests, its header of h bytes
+--   headRefusal h last s   the refusal of a block's first three tests, its header of h bytes, its versions 1 to last
 --   frontRefusal h s  the refusal of the length that the block at the front of s states, its header of h bytes
 --   Held at s         the block at byte `at` of s states four bytes or more and lies within s
 --   Walkable from k s  blocks number 0 to k of s, the first at byte `from`, are held
@@ -13,8 +13,8 @@ use Rattle.rules.specs.Bytes.{beAt}
 use Rattle.rules.specs.Parts.{inside}
 use Rattle.laws.specs.Blocks.{headTests, blockAt}
 
-abbrev pub headRefusal : ℕ → List ℕ → Refusal
-headRefusal h s = headTests h s Accepted
+abbrev pub headRefusal : ℕ → ℕ → List ℕ → Refusal
+headRefusal h last s = headTests h last s Accepted
 
 abbrev pub frontRefusal : ℕ → List ℕ → Refusal
 frontRefusal h s = inside h (λ _. Accepted) s

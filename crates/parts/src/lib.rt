@@ -4,12 +4,13 @@ ghost use mathlib.Core.Path.{_≡_};
 ghost use Prim.Native.Nat.{_≤_};
 ghost use lib.ListN.{length, take, drop};
 ghost use Rattle.rules.specs.Refusal.{accepted};
+ghost use Rattle.rules.specs.Limits.{lastEdition, upTo};
 ghost use Rattle.rules.specs.Bytes.{beAt};
 ghost use Rattle.rules.specs.Parts.{after, part};
 ghost use Rattle.laws.specs.Blocks.{blockAt};
 ghost use Rattle.parts.specs.Places.{headRefusal, frontRefusal, Held, Walkable};
+use rules::LAST_EDITION;
 use rules::Refusal;
-use rules::VERSION;
 use rules::VERSION_AT;
 
 // Whether nothing is refused.
@@ -22,10 +23,21 @@ pub fn passed(r: Refusal) -> bool
     }
 }
 
-// The first three tests of a block whose header has h bytes: bytes enough, their number stated, and the version.
-pub fn check_head(block: &[u8], h: usize) -> Refusal
+// Whether an index may have that version.
+pub fn known(version: u32) -> bool
+    ensures { λ r. ⌜ r ≡ upTo lastEdition version ⌝ }
+{
+    if version == 0 {
+        return false;
+    }
+    version <= LAST_EDITION
+}
+
+// The first three tests of a block whose header has h bytes: bytes enough, their number stated, and a version of 1 to
+// `last`.
+pub fn check_head(block: &[u8], h: usize, last: u8) -> Refusal
     requires { ⌜ 5 ≤ h ⌝ }
-    ensures { λ r. ⌜ r ≡ headRefusal h (now (block .entry)) ⌝ }
+    ensures { λ r. ⌜ r ≡ headRefusal h last (now (block .entry)) ⌝ }
 {
     if block.len() < h {
         return Refusal::Short;
@@ -33,7 +45,10 @@ pub fn check_head(block: &[u8], h: usize) -> Refusal
     if numbers::read_u32(block, 0) as usize != block.len() {
         return Refusal::Length;
     }
-    if block[VERSION_AT] != VERSION {
+    if block[VERSION_AT] == 0 {
+        return Refusal::Version;
+    }
+    if last < block[VERSION_AT] {
         return Refusal::Version;
     }
     Refusal::Accepted

@@ -1,41 +1,53 @@
-// The last pointer before an element, found near the rank's share.
+// The last of a block's stored numbers before an element, found near the rank's share. Number i tells how many ones the
+// run has before the place that it leads to, and counts `zeros` for each i as well: 256 as a pointer, 0 in a bitmap.
 
 ghost use mathlib.Core.Path.{_≡_};
-ghost use Prim.Native.Nat.{_+_, _-_, _*_, _/_, _≤_, _<_};
+ghost use Prim.Native.Nat.{_+_, _*_, _≤_};
 ghost use lib.Dec.{leb};
-ghost use Rattle.readlaws.specs.Open.{Open, shapeIn, pointersIn, pointerOf, HighEnd, Among, LastBefore};
-ghost use Rattle.readlaws.specs.Open.{Sought};
+ghost use lib.ListN.{length};
+ghost use Rattle.rules.specs.ReadList.{formAt};
+ghost use Rattle.readlaws.specs.Open.{pointersIn, numberAt, zerosPer, HighEnd, Among, LastBefore, Comparable, Sought};
 use rules::LIST_HEADER;
+use rules::MAP_VERSION;
 use rules::POINTER_SIZE;
+use rules::VERSION_AT;
 use shape::Shape;
 
-// The number of the last pointer.
-pub fn last_pointer(g: Shape) -> usize
+// How many zeros the numbers of the block count for each i.
+pub fn zeros_per(block: &[u8]) -> usize
+    requires { ⌜ 13 ≤ length (now block) ⌝ }
+    ensures { λ r. ⌜ r ≡ zerosPer (formAt (now (block .entry))) ⌝ }
+{
+    if block[VERSION_AT] == MAP_VERSION {
+        return 0;
+    }
+    256
+}
+
+// Which number is the last.
+pub fn last_number(g: Shape) -> usize
     requires { ⌜ 13 ≤ g .lower ⌝ }
     ensures { λ r. ⌜ r ≡ pointersIn g ⌝ }
 {
     (g.lower - LIST_HEADER) / POINTER_SIZE
 }
 
-// Whether pointer number i has at most `rank` ones before it.
-fn precedes(block: &[u8], i: usize, rank: usize) -> bool
-    requires { ⌜ Open (now block) (shapeIn (now block)) × (i ≤ pointersIn (shapeIn (now block)))
-        × (rank < shapeIn (now block) .n) ⌝ }
-    ensures { λ r. ⌜ r ≡ leb (pointerOf (now (block .entry)) (shapeIn (now (block .entry))) i) (256 * i + rank) ⌝ }
+// Whether number i has at most `rank` ones before it.
+fn precedes(block: &[u8], i: usize, zeros: usize, rank: usize) -> bool
+    requires { ⌜ Comparable (now block) i zeros rank ⌝ }
+    ensures { λ r. ⌜ r ≡ leb (numberAt (now (block .entry)) i) (zeros * i + rank) ⌝ }
 {
-    reading::pointer_in(block, i) <= 256 * i + rank
+    reading::number_in(block, i) <= zeros * i + rank
 }
 
-// A pointer with at most `rank` ones before it, at the guess or below it, found in steps that double.
-fn low_near(block: &[u8], guess: usize, rank: usize) -> usize
-    requires { ⌜ Open (now block) (shapeIn (now block)) × (guess ≤ pointersIn (shapeIn (now block)))
-        × (rank < shapeIn (now block) .n) ⌝ }
-    ensures { λ r. ⌜ (r ≤ guess)
-        × (pointerOf (now (block .entry)) (shapeIn (now (block .entry))) r ≤ 256 * r + rank) ⌝ }
+// A number with at most `rank` ones before it, at the guess or below it, found in steps that double.
+fn low_near(block: &[u8], guess: usize, zeros: usize, rank: usize) -> usize
+    requires { ⌜ Comparable (now block) guess zeros rank ⌝ }
+    ensures { λ r. ⌜ (r ≤ guess) × (numberAt (now (block .entry)) r ≤ zeros * r + rank) ⌝ }
 {
     let mut i = guess;
     let mut step = 1;
-    while !precedes(block, i, rank) {
+    while !precedes(block, i, zeros, rank) {
         if i <= step {
             return 0;
         }
@@ -45,16 +57,15 @@ fn low_near(block: &[u8], guess: usize, rank: usize) -> usize
     i
 }
 
-// A pointer such that the next has more ones before it, or the last: at the guess or above it, found in the same way.
-fn high_near(block: &[u8], last: usize, guess: usize, rank: usize) -> usize
-    requires { ⌜ Open (now block) (shapeIn (now block)) × (last ≡ pointersIn (shapeIn (now block)))
-        × (guess ≤ last) × (rank < shapeIn (now block) .n) ⌝ }
-    ensures { λ r. ⌜ (guess ≤ r) × HighEnd (now (block .entry)) (shapeIn (now (block .entry))) rank r ⌝ }
+// A number such that the next has more ones before it, or the last: at the guess or above it, found in the same way.
+fn high_near(block: &[u8], last: usize, guess: usize, zeros: usize, rank: usize) -> usize
+    requires { ⌜ Comparable (now block) last zeros rank × (guess ≤ last) ⌝ }
+    ensures { λ r. ⌜ (guess ≤ r) × HighEnd (now (block .entry)) last zeros rank r ⌝ }
 {
     let mut i = guess + 1;
     let mut step = 1;
     while i <= last {
-        if !precedes(block, i, rank) {
+        if !precedes(block, i, zeros, rank) {
             return i - 1;
         }
         i += step;
@@ -63,42 +74,41 @@ fn high_near(block: &[u8], last: usize, guess: usize, rank: usize) -> usize
     last
 }
 
-// Pointers from number `low` to number `high`.
+// Numbers from `low` to `high`.
 struct Range {
     low: usize,
     high: usize,
 }
 
-// Pointers among which the last with at most `rank` ones before it is: some from that rank's share up, or some below
-// it.
-fn narrowed(block: &[u8], last: usize, n: usize, rank: usize) -> Range
-    requires { ⌜ Sought (now block) last n rank ⌝ }
-    ensures { λ r. ⌜ Among (now (block .entry)) (shapeIn (now (block .entry))) rank (r .low) (r .high) ⌝ }
+// Numbers among which the last with at most `rank` ones before it is: some from that rank's share up, or some below it.
+fn narrowed(block: &[u8], last: usize, n: usize, zeros: usize, rank: usize) -> Range
+    requires { ⌜ Sought (now block) last n zeros rank ⌝ }
+    ensures { λ r. ⌜ Among (now (block .entry)) last zeros rank (r .low) (r .high) ⌝ }
 {
     let guess = rank * last / n;
-    if precedes(block, guess, rank) {
-        let high = high_near(block, last, guess, rank);
+    if precedes(block, guess, zeros, rank) {
+        let high = high_near(block, last, guess, zeros, rank);
         return Range { low: guess, high };
     }
     let high = guess - 1;
-    let low = low_near(block, high, rank);
+    let low = low_near(block, high, zeros, rank);
     Range { low, high }
 }
 
-// The last pointer with at most `rank` ones before it, found by halving.
-pub fn pointer_before(block: &[u8], last: usize, n: usize, rank: usize) -> usize
-    requires { ⌜ Sought (now block) last n rank ⌝ }
-    ensures { λ r. ⌜ LastBefore (now (block .entry)) (shapeIn (now (block .entry))) rank r ⌝ }
+// The last number with at most `rank` ones before it, found by halving.
+pub fn number_before(block: &[u8], last: usize, n: usize, zeros: usize, rank: usize) -> usize
+    requires { ⌜ Sought (now block) last n zeros rank ⌝ }
+    ensures { λ r. ⌜ LastBefore (now (block .entry)) last zeros rank r ⌝ }
 {
     if last == 0 {
         return 0;
     }
-    let near = narrowed(block, last, n, rank);
+    let near = narrowed(block, last, n, zeros, rank);
     let mut low = near.low;
     let mut high = near.high;
     while low < high {
         let mid = high - (high - low) / 2;
-        if precedes(block, mid, rank) {
+        if precedes(block, mid, zeros, rank) {
             low = mid;
         } else {
             high = mid - 1;

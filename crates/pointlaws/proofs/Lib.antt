@@ -1,3 +1,4 @@
 pub mod NumberLaws
 pub mod PointLaws
 pub mod PointedLaws
+pub mod NumberedLaws

@@ -1,4 +1,5 @@
-// Where the search of a zero in a run stands, and the laws of the pointers that it gives; this crate has no function.
+// Where the search of a zero in a run stands, and the laws of the pointers that it gives and of a bitmap's numbers; this
+// crate has no function.
 
 // Words of a run that are passed, and the zeros in them.
 pub struct Passed {

@@ -28,15 +28,14 @@ fn add_page(room: &mut [u8], g: Layout, s: Stream, pages: &[u32], counts: &[u32]
     let first = g.pages;
     let sums = g.counts;
     let last = g.positions;
-    let page = pages[0] as usize;
     let sum = filled + counts[0] as usize - 1;
-    adding::add_one(
+    adding::add_page(
         &mut room[LISTS_AT..],
         first.lower,
         first.upper,
         first.w,
         laid,
-        page,
+        pages,
     );
     adding::add_one(
         &mut room[second..],
@@ -52,7 +51,7 @@ fn add_page(room: &mut [u8], g: Layout, s: Stream, pages: &[u32], counts: &[u32]
 // Lays the postings of any number of pages. The layout is worked out again, as the caller's stays in registers only
 // where it is lent to no function.
 fn add_word(room: &mut [u8], s: Stream, pages: &[u32], counts: &[u32], positions: &[u32])
-    requires { ⌜ Laying (layoutOf (s .n) (s .pages) (s .positions) (s .u)) s
+    requires { ⌜ Laying (layoutOf (s .version) (s .n) (s .pages) (s .positions) (s .u)) s
         (lentWord (now pages) (now counts) (now positions)) (now room) ⌝ }
     ensures { λ _. ⌜ now (room .exit)
         ≡ addedWord s (lentWord (now (pages .entry)) (now (counts .entry)) (now (positions .entry)))
@@ -63,7 +62,7 @@ fn add_word(room: &mut [u8], s: Stream, pages: &[u32], counts: &[u32], positions
     let filled = s.filled as usize;
     let second = g.second;
     let third = g.third;
-    adding::add_all(&mut room[LISTS_AT..], g.pages, laid, 0, pages);
+    adding::add_pages(&mut room[LISTS_AT..], g.pages, laid, pages);
     addlists::add_sums(&mut room[second..], g.counts, laid, filled, counts);
     addlists::add_places(
         &mut room[third..],
@@ -103,12 +102,8 @@ pub fn put_postings(
     if !sessions::is_live(s) {
         return sessions::ended(Refusal::Lists, 0);
     }
-    let g = sessions::layout(
-        s.n as usize,
-        s.pages as usize,
-        s.positions as usize,
-        s.u as usize,
-    );
+    let first = shape::pages_shape(s.version, s.n as usize, s.pages as usize);
+    let g = sessions::layout(first, s.positions as usize, s.u as usize);
     let size = g.size;
     if room.len() < size {
         return Streamed {

@@ -6,7 +6,7 @@ ghost use Prim.Native.Nat.{_<_};
 ghost use lib.ListN.{length};
 ghost use Rattle.bytetable.specs.Places.{PlacesOfOnes};
 ghost use Rattle.querylaws.specs.Lists.{Lists};
-ghost use Rattle.querylaws.specs.Queries.{movedIn, toldIn, Seekable, Running};
+ghost use Rattle.querylaws.specs.Queries.{movedIn, Seekable, Running};
 ghost use Rattle.querylaws.specs.Batches.{Batched};
 ghost use Rattle.querylaws.specs.Listings.{wholeIn, laidWithin, Tells};
 use bytetable::Table;
@@ -18,38 +18,29 @@ use querylaws::Turn;
 use walklaws::Cursor;
 use walklaws::SPENT;
 
-// The query, the cursor of it that is in hand, and the rank that the last seek by it told.
+// The query, and the cursor of it that is in hand.
 struct InHand {
     q: Query,
     hand: Cursor,
-    rank: u32,
 }
 
-// A seek for b on list i, by the cursor in hand: the query comes back as it was, the hand moved, and the rank told.
+// A seek for b on list i, by the cursor in hand: the query comes back as it was, and the hand moved.
 fn seek_in(table: &Table, card: &[u8], shapes: &[u32], mut s: InHand, i: usize, b: usize) -> InHand
     requires { ⌜ Seekable (now card) (now shapes) i (s .hand) × PlacesOfOnes (now table) ⌝ }
-    ensures { λ r. ⌜ (r .q ≡ s .q) × (r .hand ≡ movedIn (now (card .entry)) (now (shapes .entry)) i (s .hand) b)
-        × (r .rank ≡ toldIn (now (card .entry)) (now (shapes .entry)) i (s .hand) b) ⌝ }
+    ensures { λ r. ⌜ (r .q ≡ s .q) × (r .hand ≡ movedIn (now (card .entry)) (now (shapes .entry)) i (s .hand) b) ⌝ }
 {
     let from = rows::number(shapes, i, FROM);
     let to = rows::number(shapes, i, TO);
-    let moved = seek::seek(table, &card[from..to], rows::shape_in(shapes, i), s.hand, b);
-    let hand = moved.cursor;
+    let hand = seek::seek(table, &card[from..to], rows::shape_in(shapes, i), s.hand, b);
     s.hand = hand;
-    s.rank = moved.rank;
     s
 }
 
 // What the loop gives back.
-fn turn_of(q: Query, mark: u32, rank: u32, found: usize) -> Turn
-    ensures { λ r. ⌜ r ≡ record { q = q; mark = mark; rank = rank; found = found } ⌝ }
+fn turn_of(q: Query, mark: u32, found: usize) -> Turn
+    ensures { λ r. ⌜ r ≡ record { q = q; mark = mark; found = found } ⌝ }
 {
-    Turn {
-        q,
-        mark,
-        rank,
-        found,
-    }
+    Turn { q, mark, found }
 }
 
 // Lists the pages from b0 on that the first k lists share, until the room is full or none is left. It is the one loop
@@ -73,14 +64,14 @@ pub fn batch(
     let mut found = 0;
     loop {
         let hand = q.cursors[i];
-        let s = seek_in(table, card, shapes, InHand { q, hand, rank: 0 }, i, b);
+        let s = seek_in(table, card, shapes, InHand { q, hand }, i, b);
         let back = s.q;
         q = back;
         let c = s.hand;
         q.cursors[i] = c;
         let mark = c.mark;
         if mark == SPENT {
-            return turn_of(q, mark, s.rank, found);
+            return turn_of(q, mark, found);
         }
         let page = mark as usize - 1;
         if 0 < i && b < page {
@@ -94,7 +85,7 @@ pub fn batch(
             room[found] = mark - 1;
             found += 1;
             if room.len() <= found {
-                return turn_of(q, mark, s.rank, found);
+                return turn_of(q, mark, found);
             }
             i = 0;
             b = mark as usize;
@@ -114,7 +105,6 @@ pub fn list_common(table: &Table, card: &[u8], shapes: &[u32], k: usize, room: &
     let mut s = Turn {
         q,
         mark: 0,
-        rank: 0,
         found: 0,
     };
     if 0 < room.len() {

@@ -11,7 +11,7 @@ use Rattle.walklaws.specs.declared.Cursor.{Cursor}
 use Rattle.walklaws.specs.Cursors.{spentMark}
 use Rattle.querylaws.specs.declared.Query.{Query}
 use Rattle.querylaws.specs.declared.Turn.{Turn}
-use Rattle.querylaws.specs.Queries.{cursorIn, withCursor, movedIn, toldIn, Running, Turned}
+use Rattle.querylaws.specs.Queries.{cursorIn, withCursor, movedIn, Running, Turned}
 use Rattle.querylaws.specs.Batches.{Turns, Batched}
 use Rattle.querylaws.proofs.RunLaws.{Midst, midst-start, midst-none, midst-some, midst-larger, midst-same}
 use Rattle.querylaws.proofs.RunLaws.{midst-page}
@@ -20,36 +20,30 @@ use Rattle.querylaws.proofs.TurnLaws.{turned-unique, turned-like}
 -- ---- one batch and one room
 
 module _ (s sh : List ℕ) (k : ℕ) where
-  pub turns-unique : (n : ℕ) (q : Query) (b m : ℕ) (ps ps′ : List ℕ) (t t′ : Turn) → Turns s sh k n q b m ps t
-      → Turns s sh k n q b m ps′ t′ → (ps ≡ ps′) × (t .q ≡ t′ .q) × (t .mark ≡ t′ .mark) × (t .rank ≡ t′ .rank)
+  pub turns-unique : (n : ℕ) (q : Query) (b : ℕ) (ps ps′ : List ℕ) (t t′ : Turn) → Turns s sh k n q b ps t
+      → Turns s sh k n q b ps′ t′ → (ps ≡ ps′) × (t .q ≡ t′ .q) × (t .mark ≡ t′ .mark)
   unfolding Turns
-  turns-unique zero q b m ps ps′ t t′ h h′ = (
-    h .0 ∙ sym (h′ .0),
-    h .1 ∙ sym (h′ .1),
-    h .2 ∙ sym (h′ .2),
-    h .3 ∙ sym (h′ .3),
-  )
-  turns-unique (suc n) q b m [] [] t t′ h h′ =
+  turns-unique zero q b ps ps′ t t′ h h′ = (h .0 ∙ sym (h′ .0), h .1 ∙ sym (h′ .1), h .2 ∙ sym (h′ .2))
+  turns-unique (suc n) q b [] [] t t′ h h′ =
       let e = turned-unique s sh k q b t t′ (h .0) (h′ .0) in
-      (refl, e .0, e .1, e .2)
-  turns-unique (suc n) q b m [] (p ∷ ps) t t′ h h′ =
+      (refl, e .0, e .1)
+  turns-unique (suc n) q b [] (p ∷ ps) t t′ h h′ =
       absurd (h′ .3 (turned-unique s sh k q b (h′ .0) t (h′ .1) (h .0) .1 ∙ h .1))
-  turns-unique (suc n) q b m (p ∷ ps) [] t t′ h h′ =
+  turns-unique (suc n) q b (p ∷ ps) [] t t′ h h′ =
       absurd (h .3 (turned-unique s sh k q b (h .0) t′ (h .1) (h′ .0) .1 ∙ h′ .1))
-  turns-unique (suc n) q b m (p ∷ ps) (p′ ∷ ps′) t t′ h h′ =
+  turns-unique (suc n) q b (p ∷ ps) (p′ ∷ ps′) t t′ h h′ =
       let e = turned-unique s sh k q b (h′ .0) (h .0) (h′ .1) (h .1) in
       let same : p ≡ p′ = omega (arith, h .2, h′ .2, e .1) in
-      let rest =
-      turns-unique n (h .0 .q) (h .0 .mark) (h .0 .rank) ps ps′ t t′ (h .4) (rw (e .0, e .1, e .2) at (h′ .4)) in
-      (ap₂ (λ (x : ℕ) (xs : List ℕ). x ∷ xs) same (rest .0), rest .1, rest .2, rest .3)
+      let rest = turns-unique n (h .0 .q) (h .0 .mark) ps ps′ t t′ (h .4) (rw (e .0, e .1) at (h′ .4)) in
+      (ap₂ (λ (x : ℕ) (xs : List ℕ). x ∷ xs) same (rest .0), rest .1, rest .2)
 
   pub batched-unique : (q : Query) (b : ℕ) (room : List ℕ) (r r′ : Turn) (room₁ room₂ : List ℕ)
       → Batched s sh k q b room r room₁ → Batched s sh k q b room r′ room₂ → (r ≡ r′) × (room₁ ≡ room₂)
   batched-unique q b room r r′ room₁ room₂ h h′ =
-      let e = turns-unique (length room) q b 0 (h .pages) (h′ .pages) r r′ (h .turns) (h′ .turns) in
+      let e = turns-unique (length room) q b (h .pages) (h′ .pages) r r′ (h .turns) (h′ .turns) in
       let found : r .found ≡ r′ .found = h .found ∙ ap length (e .0) ∙ sym (h′ .found) in (
-        ap₂ (λ (x : Query) (m : ℕ). record { q = x; mark = m; rank = r .rank; found = r .found }) (e .1) (e .2)
-            ∙ ap₂ (λ (m n : ℕ). record { q = r′ .q; mark = r′ .mark; rank = m; found = n }) (e .3) found,
+        ap₂ (λ (x : Query) (m : ℕ). record { q = x; mark = m; found = r .found }) (e .1) (e .2)
+            ∙ ap (λ (n : ℕ). record { q = r′ .q; mark = r′ .mark; found = n }) found,
         h .laid-out ∙ ap (λ (xs : List ℕ). laid xs room) (e .0) ∙ sym (h′ .laid-out),
       )
 
@@ -60,28 +54,28 @@ unfolding laid
 length-laid ps room h = omega (arith, length-append ps (drop (length ps) room), length-drop (length ps) room)
 
 module _ (s sh : List ℕ) (k : ℕ) where
-  pub turns-size : (n : ℕ) (q : Query) (b m : ℕ) (ps : List ℕ) (t : Turn) → Turns s sh k n q b m ps t
+  pub turns-size : (n : ℕ) (q : Query) (b : ℕ) (ps : List ℕ) (t : Turn) → Turns s sh k n q b ps t
       → (length ps ≤ n) × (t .mark < spentMark → n ≤ length ps)
   unfolding Turns
-  turns-size zero q b m ps t x = rw (x .0) (omega arith, λ h. omega arith)
-  turns-size (suc n) q b m [] t x = (omega arith, λ h. absurd (omega (arith, x .1)))
-  turns-size (suc n) q b m (c ∷ ps) t x =
-      let rest = turns-size n (x .0 .q) (x .0 .mark) (x .0 .rank) ps t (x .4) in
+  turns-size zero q b ps t x = rw (x .0) (omega arith, λ h. omega arith)
+  turns-size (suc n) q b [] t x = (omega arith, λ h. absurd (omega (arith, x .1)))
+  turns-size (suc n) q b (c ∷ ps) t x =
+      let rest = turns-size n (x .0 .q) (x .0 .mark) ps t (x .4) in
       (omega (arith, rest .0), λ h. omega (arith, rest .1 h))
 
   pub batched-long : (q : Query) (b : ℕ) (room : List ℕ) (r : Turn) (room′ : List ℕ)
       → Batched s sh k q b room r room′ → length room′ ≡ length room
   batched-long q b room r room′ x =
-      let size = turns-size (length room) q b 0 (x .pages) r (x .turns) in
+      let size = turns-size (length room) q b (x .pages) r (x .turns) in
       ap length (x .laid-out) ∙ length-laid (x .pages) room (size .0)
 
 -- ---- a batch of one page
 
 module _ (s sh : List ℕ) (k : ℕ) (q : Query) (b : ℕ) where
-  one-turn : (ps : List ℕ) (t : Turn) → Turns s sh k 1 q b 0 ps t → Turned s sh k q b t
+  one-turn : (ps : List ℕ) (t : Turn) → Turns s sh k 1 q b ps t → Turned s sh k q b t
   unfolding Turns
   one-turn [] t h = h .0
-  one-turn (p ∷ ps) t h = turned-like s sh k q b (h .0) t (sym (h .4 .1)) (sym (h .4 .2)) (sym (h .4 .3)) (h .1)
+  one-turn (p ∷ ps) t h = turned-like s sh k q b (h .0) t (sym (h .4 .1)) (sym (h .4 .2)) (h .1)
 
   pub batched-one : (room : List ℕ) (r : Turn) (room′ : List ℕ) → length room ≡ 1
       → Batched s sh k q b room r room′ → Turned s sh k q b r
@@ -100,21 +94,20 @@ laid-more ps room p h =
 
 module _ (s sh : List ℕ) (k : ℕ) (q₀ : Query) (b₀ : ℕ) (room₀ : List ℕ) where
   -- the pages ps were found from q₀ on and lie in the room, and the page behind them is to be found from q on
-  pub record Behind (ps : List ℕ) (q : Query) (b m found : ℕ) (room : List ℕ) : Type 0 where
+  pub record Behind (ps : List ℕ) (q : Query) (b found : ℕ) (room : List ℕ) : Type 0 where
     pub sized : length ps ≡ found
     pub space : found < length room₀
     pub long : length room ≡ length room₀
     pub laid-out : room ≡ laid ps room₀
-    pub goes-on : (qs : List ℕ) (t : Turn) → Turns s sh k (length room₀ - found) q b m qs t
-        → Turns s sh k (length room₀) q₀ b₀ 0 (ps ++ qs) t
+    pub goes-on : (qs : List ℕ) (t : Turn) → Turns s sh k (length room₀ - found) q b qs t
+        → Turns s sh k (length room₀) q₀ b₀ (ps ++ qs) t
 
   -- so, and list i of q is to be sought for b
   pub record Amid (q : Query) (b i found : ℕ) (room : List ℕ) : Type 0 where
     pub pages : List ℕ
     pub from : Query
     pub bound : ℕ
-    pub last : ℕ
-    pub behind : Behind pages from bound last found room
+    pub behind : Behind pages from bound found room
     pub midst : Midst s sh k from bound q b i
     pub within : i < k
 
@@ -125,19 +118,17 @@ module _ (s sh : List ℕ) (k : ℕ) (q₀ : Query) (b₀ : ℕ) (room₀ : List
         pages = [];
         from = q₀;
         bound = b₀;
-        last = 0;
         behind = record { sized = refl; space = h; long = refl; laid-out = refl; goes-on = λ qs t x. rw all at x };
         midst = midst-start s sh k q₀ b₀ r;
         within = r .apt .lists .some;
       }
 
-  -- list i was sought for b, which moved its cursor to c and told r
-  pub record Step (q : Query) (b i found : ℕ) (room : List ℕ) (c : Cursor) (r : ℕ) : Type 0 where
+  -- list i was sought for b, which moved its cursor to c
+  pub record Step (q : Query) (b i found : ℕ) (room : List ℕ) (c : Cursor) : Type 0 where
     pub amid : Amid q b i found room
     pub moved : c ≡ movedIn s sh i (cursorIn q i) b
-    pub told : r ≡ toldIn s sh i (cursorIn q i) b
 
-  module _ (q : Query) (b i found : ℕ) (room : List ℕ) (c : Cursor) (r : ℕ) (x : Step q b i found room c r) where
+  module _ (q : Query) (b i found : ℕ) (room : List ℕ) (c : Cursor) (x : Step q b i found room c) where
     abbrev a : Amid q b i found room
     a = x .amid
 
@@ -149,11 +140,11 @@ module _ (s sh : List ℕ) (k : ℕ) (q₀ : Query) (b₀ : ℕ) (room₀ : List
 
     -- no page is left
     pub amid-none : c .mark ≡ spentMark
-        → Batched s sh k q₀ b₀ room₀ (record { q = withCursor q i c; mark = c .mark; rank = r; found = found }) room
+        → Batched s sh k q₀ b₀ room₀ (record { q = withCursor q i c; mark = c .mark; found = found }) room
     unfolding Turns
     amid-none e =
-        let t : Turn = record { q = withCursor q i c; mark = c .mark; rank = r; found = found } in
-        let u = midst-none s sh k (a .from) (a .bound) q b i (a .midst) (a .within) c w found r (x .told) e in record {
+        let t : Turn = record { q = withCursor q i c; mark = c .mark; found = found } in
+        let u = midst-none s sh k (a .from) (a .bound) q b i (a .midst) (a .within) c w found e in record {
           pages = a .pages;
           turns = rw append-nil at (a .behind .goes-on [] t (rw more-left (u, e)));
           found = sym (a .behind .sized);
@@ -167,7 +158,6 @@ module _ (s sh : List ℕ) (k : ℕ) (q₀ : Query) (b₀ : ℕ) (room₀ : List
         pages = a .pages;
         from = a .from;
         bound = a .bound;
-        last = a .last;
         behind = a .behind;
         midst = midst-larger s sh k (a .from) (a .bound) q b i (a .midst) (a .within) c w e g l;
         within = a .midst .apt .lists .some;
@@ -180,7 +170,6 @@ module _ (s sh : List ℕ) (k : ℕ) (q₀ : Query) (b₀ : ℕ) (room₀ : List
           pages = a .pages;
           from = a .from;
           bound = a .bound;
-          last = a .last;
           behind = a .behind;
           midst = midst-same s sh k (a .from) (a .bound) q b i (a .midst) (a .within) c w e g;
           within = l;
@@ -189,13 +178,13 @@ module _ (s sh : List ℕ) (k : ℕ) (q₀ : Query) (b₀ : ℕ) (room₀ : List
         -- where there is none, all share the page
         module _ (l : k ≤ i + 1) where
           abbrev turn : Turn
-          turn = record { q = withCursor q i c; mark = c .mark; rank = r; found = found + 1 }
+          turn = record { q = withCursor q i c; mark = c .mark; found = found + 1 }
 
           abbrev more : List ℕ
           more = a .pages ++ (c .mark - 1) ∷ []
 
           turned : Turned s sh k (a .from) (a .bound) turn
-          turned = midst-page s sh k (a .from) (a .bound) q b i (a .midst) (a .within) c w e (found + 1) r (x .told) g l
+          turned = midst-page s sh k (a .from) (a .bound) q b i (a .midst) (a .within) c w e (found + 1) g l
 
           room-more : set room found (c .mark - 1) ≡ laid more room₀
           room-more =
@@ -207,8 +196,8 @@ module _ (s sh : List ℕ) (k : ℕ) (q₀ : Query) (b₀ : ℕ) (room₀ : List
           sized-more = length-append (a .pages) ((c .mark - 1) ∷ []) ∙ omega (arith, a .behind .sized)
 
           turns-more : (qs : List ℕ) (t : Turn)
-              → Turns s sh k (length room₀ - (found + 1)) (turn .q) (turn .mark) (turn .rank) qs t
-              → Turns s sh k (length room₀) q₀ b₀ 0 (more ++ qs) t
+              → Turns s sh k (length room₀ - (found + 1)) (turn .q) (turn .mark) qs t
+              → Turns s sh k (length room₀) q₀ b₀ (more ++ qs) t
           unfolding Turns
           turns-more qs t x =
               let some : c .mark ≡ c .mark - 1 + 1 =
@@ -223,7 +212,6 @@ module _ (s sh : List ℕ) (k : ℕ) (q₀ : Query) (b₀ : ℕ) (room₀ : List
             pages = more;
             from = turn .q;
             bound = turn .mark;
-            last = turn .rank;
             behind = record {
               sized = sized-more;
               space = m;
@@ -241,7 +229,7 @@ module _ (s sh : List ℕ) (k : ℕ) (q₀ : Query) (b₀ : ℕ) (room₀ : List
           unfolding Turns
           amid-full m =
               let none-left : length room₀ - (found + 1) ≡ 0 = omega arith in
-              let whole = turns-more [] turn (rw none-left (refl, refl, refl, refl)) in record {
+              let whole = turns-more [] turn (rw none-left (refl, refl, refl)) in record {
                 pages = more;
                 turns = rw append-nil at whole;
                 found = sym sized-more;

@@ -111,39 +111,39 @@ module _ (s sh : List ℕ) (k : ℕ) (w : Tally) where
         ∙ rw (append-nil ps))
 
   -- with the pages qs that are found from here on, n of them or until none is left, they are w
-  comes-turns : (n : ℕ) (q : Query) (b m : ℕ) (ps qs : List ℕ) (t : Turn) → Running s sh k q b → Comes n q b ps
-      → Turns s sh k n q b m qs t → w ≡ record { seeks = seeksOf (t .q); looks = looksOf (t .q); listed = ps ++ qs }
+  comes-turns : (n : ℕ) (q : Query) (b : ℕ) (ps qs : List ℕ) (t : Turn) → Running s sh k q b → Comes n q b ps
+      → Turns s sh k n q b qs t → w ≡ record { seeks = seeksOf (t .q); looks = looksOf (t .q); listed = ps ++ qs }
   unfolding Turns
-  comes-turns zero q b m ps qs t g x y =
+  comes-turns zero q b ps qs t g x y =
       rw (y .0, y .1, append-nil ps)
       (sym x
       ∙ ap (counted (seeksOf q) (looksOf q) ps) (rounds-done (boundIn sh) (leadIn s sh q) (othersIn s sh k q) b)
       ∙ counted-all (seeksOf q) (looksOf q) ps)
-  comes-turns (suc n) q b m ps [] t g x y = rw (append-nil ps) (comes-end n q b ps (g .apt) x t (y .0) (y .1))
-  comes-turns (suc n) q b m ps (c ∷ qs) t g x y =
+  comes-turns (suc n) q b ps [] t g x y = rw (append-nil ps) (comes-end n q b ps (g .apt) x t (y .0) (y .1))
+  comes-turns (suc n) q b ps (c ∷ qs) t g x y =
       let u = y .0 in
       let e : u .mark - 1 ≡ c = omega (arith, y .2) in
       let next = rw e at (comes-step n q b ps (g .apt) x u (y .1) (y .3)) in
       rw (append-snoc ps c qs)
-      at (comes-turns n (u .q) (u .mark) (u .rank) (ps ++ c ∷ []) qs t (y .1 .running (u .mark) (y .3) (omega arith))
+      at (comes-turns n (u .q) (u .mark) (ps ++ c ∷ []) qs t (y .1 .running (u .mark) (y .3) (omega arith))
       next (y .4))
 
 -- no count of a batch has wrapped
-turns-narrow : (s sh : List ℕ) (k n : ℕ) (q : Query) (b m : ℕ) (qs : List ℕ) (t : Turn)
-    → Turns s sh k (suc n) q b m qs t
+turns-narrow : (s sh : List ℕ) (k n : ℕ) (q : Query) (b : ℕ) (qs : List ℕ) (t : Turn)
+    → Turns s sh k (suc n) q b qs t
     → (length (t .q .cursors) ≡ 8) × (seeksOf (t .q) ≤ 2 ^ 28) × (looksOf (t .q) ≤ 2 ^ 29)
 unfolding Turns
-turns-narrow s sh k n q b m [] t y = (y .0 .eight, y .0 .narrow .0, y .0 .narrow .1)
-turns-narrow s sh k zero q b m (c ∷ qs) t y = rw (y .4 .1) (y .1 .eight, y .1 .narrow .0, y .1 .narrow .1)
-turns-narrow s sh k (suc n) q b m (c ∷ qs) t y =
-    turns-narrow s sh k n (y .0 .q) (y .0 .mark) (y .0 .rank) qs t (y .4)
+turns-narrow s sh k n q b [] t y = (y .0 .eight, y .0 .narrow .0, y .0 .narrow .1)
+turns-narrow s sh k zero q b (c ∷ qs) t y = rw (y .4 .1) (y .1 .eight, y .1 .narrow .0, y .1 .narrow .1)
+turns-narrow s sh k (suc n) q b (c ∷ qs) t y =
+    turns-narrow s sh k n (y .0 .q) (y .0 .mark) qs t (y .4)
 
 pub batched-narrow : (s sh : List ℕ) (k : ℕ) (q : Query) (b : ℕ) (room : List ℕ) (r : Turn) (room′ : List ℕ)
     → 0 < length room → Batched s sh k q b room r room′
     → (length (r .q .cursors) ≡ 8) × (seeksOf (r .q) < 2 ^ 32) × (looksOf (r .q) < 2 ^ 32)
 batched-narrow s sh k q b room r room′ h x =
     let e : suc (length room - 1) ≡ length room = omega arith in
-    let n = turns-narrow s sh k (length room - 1) q b 0 (x .pages) r (rw e (x .turns)) in
+    let n = turns-narrow s sh k (length room - 1) q b (x .pages) r (rw e (x .turns)) in
     (n .0, omega (arith, n .1), omega (arith, n .2))
 
 -- the rule from a bound on, until as many pages as the room has places are listed
@@ -152,7 +152,7 @@ pub batched-rule : (s sh : List ℕ) (k : ℕ) → Lists s sh k → (b : ℕ) (r
     → ruleIn s sh k b (length room) ≡ record { seeks = seeksOf (r .q); looks = looksOf (r .q); listed = x .pages }
 batched-rule s sh k l b room r room′ x =
     let n : ℕ = length room in
-    comes-turns s sh k (ruleIn s sh k b n) n newQuery b 0 [] (x .pages) r (new-running s sh k l b)
+    comes-turns s sh k (ruleIn s sh k b n) n newQuery b [] (x .pages) r (new-running s sh k l b)
     (rw (new-seeks, new-looks) (counted-none (restOf s sh k newQuery b n) ∙ new-rule s sh k l b n)) (x .turns)
 
 -- ---- all pages
@@ -228,13 +228,13 @@ module _ (s sh : List ℕ) (k : ℕ) where
   abbrev pub Reached : Query → ℕ → ℕ → List ℕ → Type 0
   Reached q b found ps = ((b ≡ spentMark) × Ended q found ps) ⊎ ((b < spentMark) × Partway q b found ps)
 
-  pub reached-more : (n : ℕ) (q : Query) (b m found : ℕ) (ps qs : List ℕ) (t : Turn) → b < spentMark
-      → Partway q b found ps → Turns s sh k n q b m qs t → Reached (t .q) (t .mark) (found + length qs) (ps ++ qs)
+  pub reached-more : (n : ℕ) (q : Query) (b found : ℕ) (ps qs : List ℕ) (t : Turn) → b < spentMark
+      → Partway q b found ps → Turns s sh k n q b qs t → Reached (t .q) (t .mark) (found + length qs) (ps ++ qs)
   unfolding Turns
-  reached-more zero q b m found ps qs t h p x =
+  reached-more zero q b found ps qs t h p x =
       let none : found + 0 ≡ found = omega arith in
       rw (x .0, x .1, x .2, append-nil ps, none) (inr (h, p))
-  reached-more (suc n) q b m found ps [] t h p x =
+  reached-more (suc n) q b found ps [] t h p x =
       let none : found + 0 ≡ found = omega arith in
       rw (append-nil ps, none)
       (inl (
@@ -246,27 +246,27 @@ module _ (s sh : List ℕ) (k : ℕ) where
           tells = partway-end q b found ps p t (x .0) (x .1);
         },
       ))
-  reached-more (suc n) q b m found ps (c ∷ qs) t h p x =
+  reached-more (suc n) q b found ps (c ∷ qs) t h p x =
       let u = x .0 in
       let e : u .mark - 1 ≡ c = omega (arith, x .2) in
       let one : found + 1 + length qs ≡ found + suc (length qs) = omega arith in
       let next = rw e at (partway-step q b found ps p u (x .1) (x .3)) in
       let later = turned-later s sh k q b (p .running .apt) u (x .1) (x .3) in
-      let rest = reached-more n (u .q) (u .mark) (u .rank) (found + 1) (ps ++ c ∷ []) qs t (later .1) next (x .4) in
+      let rest = reached-more n (u .q) (u .mark) (found + 1) (ps ++ c ∷ []) qs t (later .1) next (x .4) in
       rw (append-snoc ps c qs, one) at rest
 
   -- the bound grows
-  pub reached-later : (n : ℕ) (q : Query) (b m found : ℕ) (ps qs : List ℕ) (t : Turn) → b < spentMark
-      → Partway q b found ps → Turns s sh k n q b m qs t → (b ≤ t .mark) × (0 < n → b < t .mark)
+  pub reached-later : (n : ℕ) (q : Query) (b found : ℕ) (ps qs : List ℕ) (t : Turn) → b < spentMark
+      → Partway q b found ps → Turns s sh k n q b qs t → (b ≤ t .mark) × (0 < n → b < t .mark)
   unfolding Turns
-  reached-later zero q b m found ps qs t h p x = (omega (arith, x .2), λ z. absurd (omega arith))
-  reached-later (suc n) q b m found ps [] t h p x = (omega (arith, x .1), λ z. omega (arith, x .1))
-  reached-later (suc n) q b m found ps (c ∷ qs) t h p x =
+  reached-later zero q b found ps qs t h p x = (omega (arith, x .2), λ z. absurd (omega arith))
+  reached-later (suc n) q b found ps [] t h p x = (omega (arith, x .1), λ z. omega (arith, x .1))
+  reached-later (suc n) q b found ps (c ∷ qs) t h p x =
       let u = x .0 in
       let next = partway-step q b found ps p u (x .1) (x .3) in
       let later = turned-later s sh k q b (p .running .apt) u (x .1) (x .3) in
       let rest =
-      reached-later n (u .q) (u .mark) (u .rank) (found + 1) (ps ++ (u .mark - 1) ∷ []) qs t (later .1) next (x .4) in
+      reached-later n (u .q) (u .mark) (found + 1) (ps ++ (u .mark - 1) ∷ []) qs t (later .1) next (x .4) in
       (omega (arith, later .0, rest .0), λ z. omega (arith, later .0, rest .0))
 
 -- ---- the pages so far in the room
@@ -294,13 +294,13 @@ module _ (s sh : List ℕ) (k : ℕ) (room₀ : List ℕ) where
   pub listing-first : Lists s sh k → (r : Turn) (room : List ℕ) → Batched s sh k newQuery 0 room₀ r room
       → Listing (r .q) (r .mark) (r .found) room
   listing-first l r room x =
-      let size = turns-size s sh k (length room₀) newQuery 0 0 (x .pages) r (x .turns) in
+      let size = turns-size s sh k (length room₀) newQuery 0 (x .pages) r (x .turns) in
       record {
         ps = x .pages;
         reached =
             rw (x .found)
             (rw (zero-add (length (x .pages)))
-            at (reached-more s sh k (length room₀) newQuery 0 0 0 [] (x .pages) r (omega arith) (partway-start s sh k l)
+            at (reached-more s sh k (length room₀) newQuery 0 0 [] (x .pages) r (omega arith) (partway-start s sh k l)
             (x .turns)));
         full = size .1;
         room-is = x .laid-out ∙ sym (laid-within-all (x .pages) room₀ (size .0));
@@ -322,7 +322,7 @@ module _ (s sh : List ℕ) (k : ℕ) (room₀ : List ℕ) where
               ps = g .ps ++ x .pages;
               reached =
                   rw (x .found)
-                  (reached-more s sh k (length rest) q b 0 found (g .ps) (x .pages) r (listing-on .0) (listing-on .1)
+                  (reached-more s sh k (length rest) q b found (g .ps) (x .pages) r (listing-on .0) (listing-on .1)
                   (x .turns));
               full = λ z. omega (arith, full, length-append (g .ps) (x .pages));
               room-is = g .room-is ∙ sym (laid-within-full (g .ps) (x .pages) room₀ full);
@@ -332,7 +332,7 @@ module _ (s sh : List ℕ) (k : ℕ) (room₀ : List ℕ) where
         pub listing-less : 0 < length rest → spentMark - r .mark < spentMark - b
         listing-less z =
             let later =
-            reached-later s sh k (length rest) q b 0 found (g .ps) (x .pages) r (listing-on .0) (listing-on .1)
+            reached-later s sh k (length rest) q b found (g .ps) (x .pages) r (listing-on .0) (listing-on .1)
             (x .turns) in
             omega (arith, later .1 z, listing-on .0)
 

@@ -6,28 +6,18 @@ use native.Mathlib.Nat.{mul-le-mul-left}
 use native.Mathlib.Omega.{arith}
 use lib.ListN.{getD, getD-replicate}
 use Rattle.rules.specs.Limits.{limit}
-use Rattle.rules.specs.Seek.{fresh}
-use Rattle.rules.specs.Common.{Reader, readersOf}
 use Rattle.commonlaws.specs.Readers.{leftIn}
 use Rattle.commonlaws.specs.Next.{roundsTo}
 use Rattle.commonlaws.proofs.SharedLaws.{from-le}
 use Rattle.commonlaws.proofs.CommonLaws.{fresh-ready}
 use Rattle.walklaws.specs.Cursors.{unused, ruleCursor}
 use Rattle.walklaws.proofs.MoveLaws.{unused-held}
-use Rattle.querylaws.specs.Lists.{span, pagesAt, pagesIn, boundIn, Lists}
+use Rattle.querylaws.specs.Lists.{formIn, pagesAt, pagesIn, boundIn, Lists}
 use Rattle.querylaws.specs.Queries.{cursorIn, newQuery, readerAt, leadIn, othersIn}
 use Rattle.querylaws.specs.Queries.{total, seeksOf, looksOf, Apt, Running}
-use Rattle.querylaws.specs.Listings.{ruleOn, ruleIn}
+use Rattle.querylaws.specs.Listings.{freshAt, readersIn, ruleOn, ruleIn}
 use Rattle.querylaws.proofs.SpanLaws.{span-cons, span-same}
 use Rattle.querylaws.proofs.ListLaws.{list-rises, list-length}
-
-abbrev freshOn : List ℕ → Reader
-freshOn l = record { pages = l; cursor = fresh }
-
-span-fresh : (f : ℕ → List ℕ) (n i : ℕ) → span (λ j. freshOn (f j)) i n ≡ readersOf (span f i n)
-unfolding span readersOf
-span-fresh f zero i = refl
-span-fresh f (suc n) i = ap (λ (l : List Reader). freshOn (f i) ∷ l) (span-fresh f n (i + 1))
 
 new-cursor : (i : ℕ) → i < 8 → cursorIn newQuery i ≡ unused
 unfolding newQuery
@@ -42,7 +32,7 @@ unfolding looksOf total newQuery unused
 new-looks = refl
 
 module _ (s sh : List ℕ) where
-  new-reader : (i : ℕ) → i < 8 → readerAt s sh newQuery i ≡ freshOn (pagesAt s sh i)
+  new-reader : (i : ℕ) → i < 8 → readerAt s sh newQuery i ≡ freshAt s sh i
   unfolding readerAt ruleCursor unused
   new-reader i h = rw (new-cursor i h)
 
@@ -51,9 +41,9 @@ module _ (s sh : List ℕ) where
     new-apt b = record {
       lists = l;
       eight = unfold newQuery in refl;
-      held = λ i h. rw (new-cursor i (omega (arith, l .few))) (unused-held (boundIn sh) (pagesAt s sh i));
+      held = λ i h. rw (new-cursor i (omega (arith, l .few))) (unused-held (formIn s sh i) (boundIn sh) (pagesAt s sh i));
       ready = λ i h. rw (new-reader i (omega (arith, l .few)))
-          (fresh-ready (boundIn sh) b (pagesAt s sh i) (list-rises s sh i (l .each i h)));
+          (fresh-ready (formIn s sh i) (boundIn sh) b (pagesAt s sh i) (list-rises s sh i (l .each i h)));
     }
 
     pub new-running : (b : ℕ) → Running s sh k newQuery b
@@ -76,7 +66,7 @@ module _ (s sh : List ℕ) where
         → roundsTo (boundIn sh) (leadIn s sh newQuery) (othersIn s sh k newQuery) b n ≡ ruleIn s sh k b n
     new-rule b n =
         let z : k - 0 ≡ k = omega arith in
-        let e = rw z at (span-cons (pagesAt s sh) 0 k (l .some)) in
-        let o = span-same (readerAt s sh newQuery) (λ j. freshOn (pagesAt s sh j)) (k - 1) 1
+        let e = rw z at (span-cons (freshAt s sh) 0 k (l .some)) in
+        let o = span-same (readerAt s sh newQuery) (freshAt s sh) (k - 1) 1
         (λ j g h. new-reader j (omega (arith, l .few, l .some))) in
-        rw (new-reader 0 (omega arith), o, span-fresh (pagesAt s sh) (k - 1) 1) (unfold pagesIn ruleOn in rw e)
+        rw (new-reader 0 (omega arith), o) (unfold readersIn ruleOn in rw e)

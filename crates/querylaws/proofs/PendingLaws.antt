@@ -9,8 +9,8 @@ use native.Mathlib.Omega.{arith}
 use borrow.Author.Tests.{lt-ltb, le-ltb}
 use lib.Dec.{ltb}
 use lib.ListN.{length}
-use Rattle.rules.specs.Seek.{Cursor, fresh, on, spent, none, page, Sought, seek}
-use Rattle.rules.specs.Common.{Reader}
+use Rattle.rules.specs.Seek.{Cursor, fresh, on, spent, none, page, Sought}
+use Rattle.rules.specs.Common.{Reader, seekBy, movedBy}
 use Rattle.seeklaws.proofs.SeekLaws.{seek-first, cursorAt-on}
 use Rattle.commonlaws.specs.Readers.{Ready, AllReady, moved}
 use Rattle.commonlaws.specs.Next.{Next, stop, plus, nextCommon, midway}
@@ -68,7 +68,7 @@ pub record Moves (U b i : ℕ) (f g : ℕ → Reader) : Type 0 where
 
 module _ (U k b : ℕ) (f g : ℕ → Reader) where
   abbrev this : ℕ → Sought
-  this i = seek U (f i .pages) (f i .cursor) b
+  this i = seekBy U (f i) b
 
   others-same : Moves U b 0 f g → span f 1 (k - 1) ≡ span g 1 (k - 1)
   others-same m = span-same f g (k - 1) 1 (λ n l h. sym (m .there n (λ e. omega arith)))
@@ -105,7 +105,7 @@ module _ (U k b : ℕ) (f g : ℕ → Reader) where
     unfolding pending
     pending-none zero h m n e =
         next-none U (f 0) (span f 1 (k - 1)) b (ready 0 h) (all-ready 1 (k - 1) (omega arith)) n e
-        ∙ rw (others-same m, m .here) (unfold moved in refl)
+        ∙ rw (others-same m, m .here) (unfold moved movedBy in refl)
     pending-none (suc j) h m n e =
         rw (span-cons f (suc j) k h)
         (midway-none U (f 0) b (cursorRank (f 0 .cursor)) (span f 1 j) (f (suc j))
@@ -117,8 +117,8 @@ module _ (U k b : ℕ) (f g : ℕ → Reader) where
     lands i h m d r e =
         let a = ready i h in
         let t = sought-first U b (f i) a d r e in
-        let stands = seek-first U (f i .pages) (a .rises) (f i .cursor) b (a .placed) (a .behind) .cursor in
-        rw (m .here) (unfold moved cursorRank in rw (stands, t .0, cursorAt-on (f i .pages) r (t .1)))
+        let stands = seek-first (f i .form) U (f i .pages) (a .rises) (f i .cursor) b (a .placed) (a .behind) .cursor in
+        rw (m .here) (unfold moved movedBy seekBy cursorRank in rw (stands, t .0, cursorAt-on (f i .pages) r (t .1)))
 
     -- a seek that finds page d leaves what listAfter says
     pub pending-page : (i : ℕ) → i < k → Moves U b i f g → (d r : ℕ) → this i .found ≡ page d r

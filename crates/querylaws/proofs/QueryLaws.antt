@@ -8,7 +8,8 @@ use native.Mathlib.Omega.{arith}
 use borrow.Author.Tests.{eq-eqb, ne-eqb}
 use lib.ListN.{length, getD, set, drop, length-set, length-drop}
 use lib.Seq.{drop-cons, getD-set-same, getD-set-other}
-use Rattle.rules.specs.Seek.{none, page, Sought, seek}
+use Rattle.rules.specs.Seek.{none, page, Sought}
+use Rattle.rules.specs.Common.{seekBy, movedBy}
 use Rattle.seeklaws.specs.Cursors.{firstAt, cursorAt, floor}
 use Rattle.seeklaws.proofs.SeekLaws.{seek-answered}
 use Rattle.commonlaws.specs.Readers.{moved}
@@ -20,9 +21,9 @@ use Rattle.walklaws.specs.Cursors.{spentMark, unused, markOf, held, rankIn, rul
 use Rattle.walklaws.proofs.CursorLaws.{held-rule}
 use Rattle.walklaws.proofs.MoveLaws.{moved-held, moved-rule, moved-seeks, moved-looks, moved-found}
 use Rattle.querylaws.specs.declared.Query.{Query}
-use Rattle.querylaws.specs.Lists.{pagesAt, boundIn, ListAt}
-use Rattle.querylaws.specs.Queries.{cursorIn, withCursor, readerAt, leadIn, othersIn, movedIn, toldIn, total}
-use Rattle.querylaws.specs.Queries.{seeksOf, looksOf, listAfter, seekOn, toldOn, Apt}
+use Rattle.querylaws.specs.Lists.{formIn, pagesAt, boundIn, ListAt}
+use Rattle.querylaws.specs.Queries.{cursorIn, withCursor, readerAt, leadIn, othersIn, movedIn, total}
+use Rattle.querylaws.specs.Queries.{seeksOf, looksOf, listAfter, seekOn, Apt}
 use Rattle.querylaws.proofs.PendingLaws.{pending, Moves, pending-end, pending-none, pending-page}
 use Rattle.querylaws.proofs.ListLaws.{list-within, list-rises}
 
@@ -76,10 +77,6 @@ left s sh k q i b = plus (seeksOf q) (looksOf q) (toCome s sh k q i b)
 abbrev pub endOf : List ℕ → List ℕ → ℕ → Query → ℕ → ℕ → Query
 endOf s sh k q i b = seekOn s sh (toCome s sh k q i b .seeks) q i b
 
--- and the number that the last of them answers
-abbrev pub toldOf : List ℕ → List ℕ → ℕ → Query → ℕ → ℕ → ℕ
-toldOf s sh k q i b = toldOn s sh (toCome s sh k q i b .seeks) q i b
-
 -- where all lists are sought nothing is left
 none-left : (s sh : List ℕ) (k : ℕ) (q : Query) (b : ℕ) → 0 < k → toCome s sh k q k b .seeks ≡ 0
 none-left s sh k q b h =
@@ -102,18 +99,18 @@ module _ (s sh : List ℕ) (k : ℕ) (q : Query) (b : ℕ) (a : Apt s sh k q b) 
   after = withCursor q i next
 
   abbrev this : Sought
-  this = seek (boundIn sh) (readerAt s sh q i .pages) (readerAt s sh q i .cursor) b
+  this = seekBy (boundIn sh) (readerAt s sh q i) b
 
-  next-held : Held (boundIn sh) (pagesAt s sh i) next
-  next-held = moved-held (boundIn sh) (pagesAt s sh i) (list-rises s sh i list)
+  next-held : Held (formIn s sh i) (boundIn sh) (pagesAt s sh i) next
+  next-held = moved-held (formIn s sh i) (boundIn sh) (pagesAt s sh i) (list-rises s sh i list)
       (list-within s sh i list) (cursorIn q i) (a .held i h) b
 
   pub seek-moves : Moves (boundIn sh) b i (readerAt s sh q) (readerAt s sh after)
-  unfolding readerAt moved
+  unfolding readerAt moved movedBy seekBy
   seek-moves = record {
     here = rw (
       getD-set-same (q .cursors) i next unused inside,
-      moved-rule (boundIn sh) (pagesAt s sh i) (list-rises s sh i list)
+      moved-rule (formIn s sh i) (boundIn sh) (pagesAt s sh i) (list-rises s sh i list)
           (list-within s sh i list) (cursorIn q i) (a .held i h) b,
     );
     there = λ j n. rw (getD-set-other (q .cursors) i j next unused n);
@@ -138,30 +135,30 @@ module _ (s sh : List ℕ) (k : ℕ) (q : Query) (b : ℕ) (a : Apt s sh k q b) 
   seek-seeks = omega (
     arith,
     total-set (λ c. c .seeks) (q .cursors) i next inside,
-    moved-seeks (boundIn sh) (pagesAt s sh i) (list-rises s sh i list)
+    moved-seeks (formIn s sh i) (boundIn sh) (pagesAt s sh i) (list-rises s sh i list)
         (list-within s sh i list) (cursorIn q i) (a .held i h) b,
   )
 
   seek-looks : looksOf after ≡ looksOf q + this .looks
-  unfolding looksOf readerAt
+  unfolding looksOf readerAt seekBy
   seek-looks = omega (
     arith,
     total-set (λ c. c .looks) (q .cursors) i next inside,
-    moved-looks (boundIn sh) (pagesAt s sh i) (list-rises s sh i list)
+    moved-looks (formIn s sh i) (boundIn sh) (pagesAt s sh i) (list-rises s sh i list)
         (list-within s sh i list) (cursorIn q i) (a .held i h) b,
   )
 
   -- what the mark of the cursor says of the rule's seek
-  found : this .found ≡ foundBy (boundIn sh) (pagesAt s sh i) next
-  unfolding readerAt
-  found = sym (moved-found (boundIn sh) (pagesAt s sh i) (list-rises s sh i list)
+  found : this .found ≡ foundBy (formIn s sh i) (boundIn sh) (pagesAt s sh i) next
+  unfolding readerAt seekBy
+  found = sym (moved-found (formIn s sh i) (boundIn sh) (pagesAt s sh i) (list-rises s sh i list)
       (list-within s sh i list) (cursorIn q i) (a .held i h) b)
 
   found-none : next .mark ≡ spentMark → this .found ≡ none (length (pagesAt s sh i))
   found-none e = found ∙ (unfold foundBy in rw (eq-eqb (next .mark) spentMark e))
 
   found-page : (next .mark ≡ spentMark → ⊥)
-      → this .found ≡ page (next .mark - 1) (rankIn (boundIn sh) (pagesAt s sh i) next)
+      → this .found ≡ page (next .mark - 1) (rankIn (formIn s sh i) (boundIn sh) (pagesAt s sh i) next)
   found-page e = found ∙ (unfold foundBy in rw (ne-eqb (next .mark) spentMark e))
 
   -- after a seek the cursor is not fresh
@@ -170,11 +167,11 @@ module _ (s sh : List ℕ) (k : ℕ) (q : Query) (b : ℕ) (a : Apt s sh k q b) 
   mark-some =
       let p = a .held i h in
       let rises = list-rises s sh i list in
-      let e = held-rule (boundIn sh) (pagesAt s sh i) rises (list-within s sh i list) (cursorIn q i) p in
-      rw (seek-answered (boundIn sh) (pagesAt s sh i) rises
-      (ruleCursor (boundIn sh) (pagesAt s sh i) (cursorIn q i)) b (rw e (p .placed)) .cursor)
+      let e = held-rule (formIn s sh i) (boundIn sh) (pagesAt s sh i) rises (list-within s sh i list) (cursorIn q i) p in
+      rw (seek-answered (formIn s sh i) (boundIn sh) (pagesAt s sh i) rises
+      (ruleCursor (formIn s sh i) (boundIn sh) (pagesAt s sh i) (cursorIn q i)) b (rw e (p .placed)) .cursor)
       (at-some (pagesAt s sh i)
-      (firstAt (max (floor (boundIn sh) (pagesAt s sh i) (ruleCursor (boundIn sh) (pagesAt s sh i) (cursorIn q i))) b)
+      (firstAt (max (floor (boundIn sh) (pagesAt s sh i) (ruleCursor (formIn s sh i) (boundIn sh) (pagesAt s sh i) (cursorIn q i))) b)
       (pagesAt s sh i)))
 
   -- what is left after it
@@ -194,7 +191,7 @@ module _ (s sh : List ℕ) (k : ℕ) (q : Query) (b : ℕ) (a : Apt s sh k q b) 
   here-page : (next .mark ≡ spentMark → ⊥)
       → toCome s sh k q i b ≡ plus 1 (this .looks) (toCome s sh k after (listAfter i b then) then)
   here-page e = pending-page (boundIn sh) k b (readerAt s sh q) (readerAt s sh after) (a .ready) i h seek-moves then
-      (rankIn (boundIn sh) (pagesAt s sh i) next) (found-page e)
+      (rankIn (formIn s sh i) (boundIn sh) (pagesAt s sh i) next) (found-page e)
 
   pub left-none : next .mark ≡ spentMark → left s sh k q i b ≡ plus (seeksOf after) (looksOf after)
       (stop (none (length (pagesAt s sh 0))) (leadIn s sh after) (othersIn s sh k after))
@@ -219,42 +216,6 @@ module _ (s sh : List ℕ) (k : ℕ) (q : Query) (b : ℕ) (a : Apt s sh k q b) 
       let m : toCome s sh k q i b .seeks ≡ suc n = ap (λ (n : Next). n .seeks) (here-page e) ∙ omega arith in
       rw m (unfold seekOn in refl)
 
-  -- and what the last of them answers
-  abbrev told : ℕ
-  told = toldIn s sh i (cursorIn q i) b
-
-  pub some-left : 0 < toCome s sh k q i b .seeks
-  unfolding plus
-  some-left = elim (ℕ-discrete (next .mark) spentMark) [
-    | yes e ↦ omega (arith, ap (λ (n : Next). n .seeks) (here-none e))
-    | no e ↦ omega (arith, ap (λ (n : Next). n .seeks) (here-page e))
-  ]
-
-  pub told-none : next .mark ≡ spentMark → toldOf s sh k q i b ≡ told
-  unfolding plus stop
-  told-none e = rw (ap (λ (n : Next). n .seeks) (here-none e)) (unfold toldOn in refl)
-
-  pub told-last : (next .mark ≡ spentMark → ⊥) → listAfter i b then ≡ k → toldOf s sh k q i b ≡ told
-  unfolding plus
-  told-last e j =
-      let z = none-left s sh k after then (a .lists .some) in
-      let m : toCome s sh k q i b .seeks ≡ 1 =
-      ap (λ (n : Next). n .seeks) (here-page e) ∙ rw j (omega (arith, z)) in
-      rw m (unfold toldOn in refl)
-
-  pub told-page : (next .mark ≡ spentMark → ⊥) → 0 < toCome s sh k after (listAfter i b then) then .seeks
-      → toldOf s sh k q i b ≡ toldOf s sh k after (listAfter i b then) then
-  unfolding plus
-  told-page e l =
-      let j : ℕ = listAfter i b then in
-      let n : ℕ = toCome s sh k after j then .seeks in
-      let m : toCome s sh k q i b .seeks ≡ suc (suc (n - 1)) =
-      ap (λ (x : Next). x .seeks) (here-page e) ∙ omega arith in
-      let p : suc (n - 1) ≡ n = omega arith in
-      let first : toldOn s sh (suc (suc (n - 1))) q i b ≡ toldOn s sh (suc (n - 1)) after j then =
-      unfold toldOn in refl in
-      ap (λ (x : ℕ). toldOn s sh x q i b) m ∙ first ∙ ap (λ (x : ℕ). toldOn s sh x after j then) p
-
   pub page-least : (next .mark ≡ spentMark → ⊥) → b ≤ next .mark - 1
   page-least e = sought-least (boundIn sh) b (readerAt s sh q i) (a .ready i h) (next .mark - 1)
-      (rankIn (boundIn sh) (pagesAt s sh i) next) (found-page e)
+      (rankIn (formIn s sh i) (boundIn sh) (pagesAt s sh i) next) (found-page e)

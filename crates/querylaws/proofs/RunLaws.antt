@@ -6,7 +6,7 @@ use native.Mathlib.Nat.{mul-le-mul-left}
 use native.Mathlib.Omega.{arith}
 use lib.ListN.{length}
 use Rattle.rules.specs.Seek.{Found, none, page}
-use Rattle.commonlaws.specs.Readers.{pagesOf, Ready, AllReady, wordsOf, leftIn}
+use Rattle.commonlaws.specs.Readers.{Ready, AllReady, wordsOf, leftIn}
 use Rattle.commonlaws.specs.Next.{Next, stop, plus}
 use Rattle.commonlaws.specs.Outcomes.{Ends, Came}
 use Rattle.commonlaws.proofs.SharedLaws.{from-mono}
@@ -17,15 +17,14 @@ use Rattle.walklaws.specs.Cursors.{spentMark}
 use Rattle.querylaws.specs.declared.Query.{Query}
 use Rattle.querylaws.specs.declared.Turn.{Turn}
 use Rattle.querylaws.specs.Lists.{pagesAt, boundIn}
-use Rattle.querylaws.specs.Queries.{cursorIn, withCursor, readerAt, leadIn, othersIn, movedIn, toldIn, seeksOf}
+use Rattle.querylaws.specs.Queries.{cursorIn, withCursor, readerAt, leadIn, othersIn, movedIn, seeksOf}
 use Rattle.querylaws.specs.Queries.{looksOf, markFound, nextFor, listAfter, Seekable, Apt, Running, Turned}
-use Rattle.querylaws.proofs.SpanLaws.{length-span, span-cons, span-ready, span-pages}
+use Rattle.querylaws.proofs.SpanLaws.{length-span, span-cons, span-ready}
 use Rattle.querylaws.proofs.PendingLaws.{cursorRank, listAfter-larger, listAfter-same, listAfter-le, pending}
 use Rattle.querylaws.proofs.PendingLaws.{pending-end}
 use Rattle.querylaws.proofs.ListLaws.{list-within, list-length, span-words}
 use Rattle.querylaws.proofs.QueryLaws.{total-at, left, seek-apt, seek-seeks, mark-some, left-none, left-page}
-use Rattle.querylaws.proofs.QueryLaws.{endOf, toldOf, end-all, end-none, end-page, told-none, told-last}
-use Rattle.querylaws.proofs.QueryLaws.{told-page, some-left, page-least}
+use Rattle.querylaws.proofs.QueryLaws.{endOf, end-all, end-none, end-page, page-least}
 
 apt-more : (s sh : List ℕ) (k : ℕ) (q : Query) (b d : ℕ) → Apt s sh k q b → b ≤ d → Apt s sh k q d
 apt-more s sh k q b d a l = record {
@@ -53,14 +52,14 @@ module _ (s sh : List ℕ) (k : ℕ) (q : Query) (b : ℕ) (a : Apt s sh k q b) 
   pub came : Came (boundIn sh) b (leadIn s sh q) (othersIn s sh k q) (nextFor s sh k q b)
   came = next-came (boundIn sh) (leadIn s sh q) (othersIn s sh k q) b lead-ready others-ready
 
-  words-bound : wordsOf (boundIn sh) (leadIn s sh q .pages ∷ pagesOf (othersIn s sh k q)) ≤ 2 ^ 23
+  words-bound : wordsOf (boundIn sh) (leadIn s sh q ∷ othersIn s sh k q) ≤ 2 ^ 23
   unfolding readerAt
   words-bound =
       let z : k - 0 ≡ k = omega arith in
-      let e = rw z at (span-cons (pagesAt s sh) 0 k some) in
-      let w = span-words (boundIn sh) (pagesAt s sh) (list-within s sh 0 (a .lists .each 0 some)) k 0
+      let e = rw z at (span-cons (readerAt s sh q) 0 k some) in
+      let w = span-words (boundIn sh) (readerAt s sh q) (list-within s sh 0 (a .lists .each 0 some)) k 0
       (λ j l m. list-length s sh j (a .lists .each j (omega arith))) in
-      rw (span-pages (readerAt s sh q) (k - 1) 1) (omega (arith, rw e at w, a .lists .few))
+      omega (arith, rw e at w, a .lists .few)
 
 pub record Narrow (seeks looks : ℕ) : Type 0 where
   pub seeks-few : seeks ≤ 2 ^ 28
@@ -97,10 +96,9 @@ module _ (s sh : List ℕ) (k : ℕ) (q₀ : Query) (b₀ : ℕ) where
     pub within : i ≤ k
     pub same : left s sh k q i b ≡ left s sh k q₀ 0 b₀
     pub ends : endOf s sh k q i b ≡ endOf s sh k q₀ 0 b₀
-    pub told : i < k → toldOf s sh k q i b ≡ toldOf s sh k q₀ 0 b₀
 
   pub midst-start : Running s sh k q₀ b₀ → Midst q₀ b₀ 0
-  midst-start r = record { running = r; apt = r .apt; within = omega arith; same = refl; ends = refl; told = λ h. refl }
+  midst-start r = record { running = r; apt = r .apt; within = omega arith; same = refl; ends = refl }
 
   -- where it ends with the answer f
   module _ (f : Found) (t : Turn) (b : ℕ) (r : Running s sh k q₀ b₀) (a : Apt s sh k (t .q) b)
@@ -142,15 +140,14 @@ module _ (s sh : List ℕ) (k : ℕ) (q₀ : Query) (b₀ : ℕ) where
             looks = rw (lead-is, others-are) (omega (arith, seeks-are, looks-are, n .carried .paid, r .looks));
           }
 
-      turned-from : t .q ≡ endOf s sh k q₀ 0 b₀ → t .rank ≡ toldOf s sh k q₀ 0 b₀ → t .mark ≡ markFound f
+      turned-from : t .q ≡ endOf s sh k q₀ 0 b₀ → t .mark ≡ markFound f
           → ((c j : ℕ) → f ≡ page c j → b ≤ c)
           → Turned s sh k q₀ b₀ t
-      turned-from p i e h =
+      turned-from p e h =
           let n = next-narrow s sh k q₀ b₀ r in record {
             query = unfold pending in p;
             eight = a .eight;
             mark = e ∙ ap markFound found-is;
-            rank = unfold pending in i;
             lead = lead-is;
             others = others-are;
             seeks = seeks-are;
@@ -173,15 +170,15 @@ module _ (s sh : List ℕ) (k : ℕ) (q₀ : Query) (b₀ : ℕ) where
     omega (arith, ap (λ (n : Next). n .looks) (m .same)),
   )
 
-  midst-end : (n r : ℕ) (q : Query) (b i : ℕ) → Midst q b i → k ≤ i → r ≡ toldOf s sh k q₀ 0 b₀
-      → Turned s sh k q₀ b₀ (record { q = q; mark = b + 1; rank = r; found = n })
-  midst-end n r q b i m h x =
+  midst-end : (n : ℕ) (q : Query) (b i : ℕ) → Midst q b i → k ≤ i
+      → Turned s sh k q₀ b₀ (record { q = q; mark = b + 1; found = n })
+  midst-end n q b i m h =
       let e : i ≡ k = omega (arith, m .within) in
       let p = pending-end (boundIn sh) k b (readerAt s sh q) (m .apt .lists .some) in
       let end = ap (plus (seeksOf q) (looksOf q)) p in
-      turned-from (page b (cursorRank (leadIn s sh q .cursor))) (record { q = q; mark = b + 1; rank = r; found = n }) b
+      turned-from (page b (cursorRank (leadIn s sh q .cursor))) (record { q = q; mark = b + 1; found = n }) b
       (m .running) (m .apt) (sym end ∙ rw e at (m .same))
-      (sym (end-all s sh k q b (m .apt .lists .some)) ∙ rw e at (m .ends)) x (unfold markFound in refl)
+      (sym (end-all s sh k q b (m .apt .lists .some)) ∙ rw e at (m .ends)) (unfold markFound in refl)
       (λ c j z. let x : b ≡ c = cc in omega arith)
 
   module _ (q : Query) (b i : ℕ) (m : Midst q b i) where
@@ -199,20 +196,19 @@ module _ (s sh : List ℕ) (k : ℕ) (q₀ : Query) (b₀ : ℕ) where
         }
 
     module _ (h : i < k) (c : Cursor) (w : c ≡ movedIn s sh i (cursorIn q i) b) where
-      pub midst-none : (n r : ℕ) → r ≡ toldIn s sh i (cursorIn q i) b → c .mark ≡ spentMark
-          → Turned s sh k q₀ b₀ (record { q = withCursor q i c; mark = c .mark; rank = r; found = n })
-      midst-none n r x =
+      pub midst-none : (n : ℕ) → c .mark ≡ spentMark
+          → Turned s sh k q₀ b₀ (record { q = withCursor q i c; mark = c .mark; found = n })
+      midst-none n =
           rw w
           (λ e.
           turned-from (none (length (pagesAt s sh 0))) (record {
             q = withCursor q i (movedIn s sh i (cursorIn q i) b);
             mark = movedIn s sh i (cursorIn q i) b .mark;
-            rank = r;
             found = n;
           }) b (m .running)
           (seek-apt s sh k q b (m .apt) i h b (omega arith)) (sym (left-none s sh k q b (m .apt) i h e) ∙ m .same)
           (sym (end-none s sh k q b (m .apt) i h e) ∙ m .ends)
-          (x ∙ sym (told-none s sh k q b (m .apt) i h e) ∙ m .told h) (e ∙ (unfold markFound in refl))
+          (e ∙ (unfold markFound in refl))
           (λ c j z. let x : _≡_ {A = ℕ} 0 1 = cc in absurd (omega arith)))
 
       pub midst-some : 0 < c .mark
@@ -235,9 +231,6 @@ module _ (s sh : List ℕ) (k : ℕ) (q₀ : Query) (b₀ : ℕ) where
         within = l;
         same = rw (← a) (sym (left-page s sh k q b (m .apt) i h e) ∙ m .same);
         ends = rw (← a) (sym (end-page s sh k q b (m .apt) i h e) ∙ m .ends);
-        told = λ g.
-            rw (← a) (sym (told-page s sh k q b (m .apt) i h e
-            (some-left s sh k (withCursor q i next) then (next-apt e) (listAfter i b then) (rw a g))) ∙ m .told h);
       })
 
       -- the seeks that may follow are fewer
@@ -260,14 +253,8 @@ module _ (s sh : List ℕ) (k : ℕ) (q₀ : Query) (b₀ : ℕ) where
         midst-same g = step-to e (i + 1) (listAfter-same i b (c .mark - 1) g) (omega arith)
 
         -- of which there is none where all share the page
-        told-here : (0 < i → b < c .mark - 1 → ⊥) → k ≤ i + 1 → toldIn s sh i (cursorIn q i) b ≡ toldOf s sh k q₀ 0 b₀
-        told-here g l =
-            let j : listAfter i b (movedIn s sh i (cursorIn q i) b .mark - 1) ≡ k =
-            listAfter-same i b _ (rw w at g) ∙ omega arith in
-            sym (told-last s sh k q b (m .apt) i h (rw w at e) j) ∙ m .told h
-
-        pub midst-page : (n r : ℕ) → r ≡ toldIn s sh i (cursorIn q i) b → (0 < i → b < c .mark - 1 → ⊥) → k ≤ i + 1
-            → Turned s sh k q₀ b₀ (record { q = withCursor q i c; mark = c .mark; rank = r; found = n })
-        midst-page n r x g l =
+        pub midst-page : (n : ℕ) → (0 < i → b < c .mark - 1 → ⊥) → k ≤ i + 1
+            → Turned s sh k q₀ b₀ (record { q = withCursor q i c; mark = c .mark; found = n })
+        midst-page n g l =
             let some : c .mark - 1 + 1 ≡ c .mark = omega (arith, midst-some) in
-            rw some at (midst-end n r (withCursor q i c) (c .mark - 1) (i + 1) (midst-same g) l (x ∙ told-here g l))
+            rw some at (midst-end n (withCursor q i c) (c .mark - 1) (i + 1) (midst-same g) l)

@@ -53,8 +53,3 @@ module _ (f : ℕ → Reader) where
     h i (omega arith) (omega arith),
     span-ready U b n (i + 1) (λ j l m. h j (omega arith) (omega arith)),
   )
-
-  pub span-pages : (n i : ℕ) → pagesOf (span f i n) ≡ span (λ j. f j .pages) i n
-  unfolding span pagesOf
-  span-pages zero i = refl
-  span-pages (suc n) i = ap (λ (l : List (List ℕ)). f i .pages ∷ l) (span-pages n (i + 1))

@@ -69,24 +69,18 @@ module _ (s sh : List ℕ) (k : ℕ) (q : Query) (b : ℕ) (a : Apt s sh k q b) 
 
 module _ (s sh : List ℕ) (k : ℕ) (q : Query) (b : ℕ) where
   pub turned-unique : (t t′ : Turn) → Turned s sh k q b t → Turned s sh k q b t′
-      → (t .q ≡ t′ .q) × (t .mark ≡ t′ .mark) × (t .rank ≡ t′ .rank)
-  turned-unique t t′ u u′ = (
-    u .query ∙ sym (u′ .query),
-    u .mark ∙ sym (u′ .mark),
-    u .rank ∙ sym (u′ .rank),
-  )
+      → (t .q ≡ t′ .q) × (t .mark ≡ t′ .mark)
+  turned-unique t t′ u u′ = (u .query ∙ sym (u′ .query), u .mark ∙ sym (u′ .mark))
 
-  -- query, mark and rank are all that it speaks of
-  pub turned-like : (t t′ : Turn) → t .q ≡ t′ .q → t .mark ≡ t′ .mark → t .rank ≡ t′ .rank → Turned s sh k q b t
-      → Turned s sh k q b t′
-  turned-like t t′ e m i u =
-      subst (λ (r : Query). Turned s sh k q b (record { q = r; mark = t′ .mark; rank = t′ .rank; found = t′ .found })) e
-      (subst (λ (n : ℕ). Turned s sh k q b (record { q = t .q; mark = n; rank = t′ .rank; found = t′ .found })) m
+  -- query and mark are all that it speaks of
+  pub turned-like : (t t′ : Turn) → t .q ≡ t′ .q → t .mark ≡ t′ .mark → Turned s sh k q b t → Turned s sh k q b t′
+  turned-like t t′ e m u =
+      subst (λ (r : Query). Turned s sh k q b (record { q = r; mark = t′ .mark; found = t′ .found })) e
+      (subst (λ (n : ℕ). Turned s sh k q b (record { q = t .q; mark = n; found = t′ .found })) m
       (record {
         query = u .query;
         eight = u .eight;
         mark = u .mark;
-        rank = sym i ∙ u .rank;
         lead = u .lead;
         others = u .others;
         seeks = u .seeks;

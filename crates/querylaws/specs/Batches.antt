@@ -1,9 +1,9 @@
 -- Common pages that are found one after another, as many as a room has places.
 --
---   Turns s sh k n q b m ps t         ps are the next pages from b on that the k lists share, n of them, or fewer where
+--   Turns s sh k n q b ps t           ps are the next pages from b on that the k lists share, n of them, or fewer where
 --                                     none is left; t is the query behind them, with the mark of the last (b where n is
---                                     0), or spentMark where none is left, and the last number told (m where n is 0)
---   Batched s sh k q b room r room′   r is that query, mark and number for as many pages as the room has places, with
+--                                     0), or spentMark where none is left
+--   Batched s sh k q b room r room′   r is that query and mark for as many pages as the room has places, with
 --                                     how many were found; room′ is the room with them at its front
 use mathlib.Core.Path.{_≡_}
 use mathlib.Core.List.{List, [], _∷_}
@@ -15,15 +15,15 @@ use Rattle.querylaws.specs.declared.Query.{Query}
 use Rattle.querylaws.specs.declared.Turn.{Turn}
 use Rattle.querylaws.specs.Queries.{Turned}
 
-unfoldable pub Turns : List ℕ → List ℕ → ℕ → ℕ → Query → ℕ → ℕ → List ℕ → Turn → Type 0
-Turns s sh k zero q b m ps t = (ps ≡ []) × (t .q ≡ q) × (t .mark ≡ b) × (t .rank ≡ m)
-Turns s sh k (suc n) q b m [] t = Turned s sh k q b t × (t .mark ≡ spentMark)
-Turns s sh k (suc n) q b m (p ∷ ps) t = (u : Turn) × Turned s sh k q b u × (u .mark ≡ p + 1) × (u .mark ≡ spentMark → ⊥)
-    × Turns s sh k n (u .q) (u .mark) (u .rank) ps t
+unfoldable pub Turns : List ℕ → List ℕ → ℕ → ℕ → Query → ℕ → List ℕ → Turn → Type 0
+Turns s sh k zero q b ps t = (ps ≡ []) × (t .q ≡ q) × (t .mark ≡ b)
+Turns s sh k (suc n) q b [] t = Turned s sh k q b t × (t .mark ≡ spentMark)
+Turns s sh k (suc n) q b (p ∷ ps) t = (u : Turn) × Turned s sh k q b u × (u .mark ≡ p + 1) × (u .mark ≡ spentMark → ⊥)
+    × Turns s sh k n (u .q) (u .mark) ps t
 
 pub record Batched (s sh : List ℕ) (k : ℕ) (q : Query) (b : ℕ) (room : List ℕ) (r : Turn) (room′ : List ℕ)
     : Type 0 where
   pub pages : List ℕ
-  pub turns : Turns s sh k (length room) q b 0 pages r
+  pub turns : Turns s sh k (length room) q b pages r
   pub found : r .found ≡ length pages
   pub laid-out : room′ ≡ laid pages room

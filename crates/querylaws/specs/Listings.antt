@@ -1,6 +1,8 @@
 -- What listing and counting common pages answer.
 --
---   ruleOn U ls b n     the step rule on the lists ls, the first of which leads, from b on until n pages are listed
+--   freshAt s sh i      a fresh reader of list i that sh places in the card s
+--   readersIn s sh k    those of the first k lists
+--   ruleOn U rs b n     the step rule on the readers rs, the first of which leads, from b on until n pages are listed
 --   ruleIn s sh k b n   that, on the first k lists that sh places in the card s
 --   wholeIn s sh k      the same from 0 on, with no end to the pages
 --   Tells t r           r counts the pages, seeks and looks of t
@@ -10,18 +12,24 @@ use mathlib.Core.List.{List, [], _∷_}
 use Prim.Native.Nat.{ℕ, _+_}
 use lib.ListN.{length, getD, take}
 use Rattle.rules.specs.Seek.{fresh}
-use Rattle.rules.specs.Common.{Tally, readersOf, nothing}
+use Rattle.rules.specs.Common.{Reader, Tally, nothing}
 use Rattle.rules.specs.Write.{laid}
 use Rattle.commonlaws.specs.Next.{roundsTo}
 use Rattle.querylaws.specs.declared.Listed.{Listed}
-use Rattle.querylaws.specs.Lists.{pagesIn, boundIn}
+use Rattle.querylaws.specs.Lists.{span, formIn, pagesAt, pagesIn, boundIn}
 
-unfoldable pub ruleOn : ℕ → List (List ℕ) → ℕ → ℕ → Tally
+abbrev pub freshAt : List ℕ → List ℕ → ℕ → Reader
+freshAt s sh i = record { form = formIn s sh i; pages = pagesAt s sh i; cursor = fresh }
+
+unfoldable pub readersIn : List ℕ → List ℕ → ℕ → List Reader
+readersIn s sh k = span (freshAt s sh) 0 k
+
+unfoldable pub ruleOn : ℕ → List Reader → ℕ → ℕ → Tally
 ruleOn U [] b n = nothing
-ruleOn U (l ∷ ls) b n = roundsTo U (record { pages = l; cursor = fresh }) (readersOf ls) b n
+ruleOn U (r ∷ rs) b n = roundsTo U r rs b n
 
 abbrev pub ruleIn : List ℕ → List ℕ → ℕ → ℕ → ℕ → Tally
-ruleIn s sh k b n = ruleOn (boundIn sh) (pagesIn s sh k) b n
+ruleIn s sh k b n = ruleOn (boundIn sh) (readersIn s sh k) b n
 
 abbrev pub wholeIn : List ℕ → List ℕ → ℕ → Tally
 wholeIn s sh k = ruleIn s sh k 0 (length (getD (pagesIn s sh k) 0 []) + 1)

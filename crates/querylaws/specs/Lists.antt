@@ -4,6 +4,7 @@
 --   numberOf sh i j number j of list i: 0 and 1 where it starts and ends in the card,
 --                   2 to 7 U, w, bits, lower, upper and n
 --   partAt s sh i   the bytes of list i
+--   formIn s sh i   its form
 --   shapeIn sh i    its shape, by its numbers
 --   pagesAt s sh i  its pages
 --   pagesIn s sh k  the pages of each of the first k lists
@@ -14,9 +15,10 @@ use mathlib.Core.Path.{_≡_}
 use mathlib.Core.List.{List, [], _∷_}
 use Prim.Native.Nat.{ℕ, zero, suc, _+_, _-_, _*_, _≤_, _<_}
 use lib.ListN.{length, getD, take, drop}
-use Rattle.rules.specs.ReadList.{listU, decode}
+use Rattle.rules.specs.List.{Form}
+use Rattle.rules.specs.ReadList.{listU, formAt, decode}
 use Rattle.shape.specs.declared.Shape.{Shape}
-use Rattle.readlaws.specs.Open.{Open}
+use Rattle.readlaws.specs.Open.{FormOpen}
 
 unfoldable pub span : {A : Type 0} → (ℕ → A) → ℕ → ℕ → List A
 span f i zero = []
@@ -27,6 +29,9 @@ numberOf sh i j = getD sh (8 * i + j) 0
 
 unfoldable pub partAt : List ℕ → List ℕ → ℕ → List ℕ
 partAt s sh i = take (numberOf sh i 1 - numberOf sh i 0) (drop (numberOf sh i 0) s)
+
+unfoldable pub formIn : List ℕ → List ℕ → ℕ → Form
+formIn s sh i = formAt (partAt s sh i)
 
 unfoldable pub shapeIn : List ℕ → ℕ → Shape
 shapeIn sh i = record {
@@ -53,7 +58,7 @@ pub record ListAt (s sh : List ℕ) (i : ℕ) : Type 0 where
   pub few : i < 8
   pub starts : numberOf sh i 0 ≤ numberOf sh i 1
   pub ends : numberOf sh i 1 ≤ length s
-  pub opened : Open (partAt s sh i) (shapeIn sh i)
+  pub opened : FormOpen (formIn s sh i) (partAt s sh i) (shapeIn sh i)
   pub bound : listU (partAt s sh i) ≡ boundIn sh
 
 pub record Lists (s sh : List ℕ) (k : ℕ) : Type 0 where

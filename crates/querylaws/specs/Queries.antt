@@ -7,7 +7,6 @@
 --   leadIn s sh q       the first of them
 --   othersIn s sh k q   those behind it, of k in all
 --   movedIn s sh i c b  the cursor c of list i after a seek for b
---   toldIn s sh i c b   the number that this seek answers: the rank of its page, or the list's n
 --   total f cs          f of each cursor, summed
 --   seeksOf q, looksOf q  the seeks and the looks of all cursors
 --   markFound a         the mark of an answer: page + 1, or spentMark
@@ -15,13 +14,11 @@
 --   listAfter i b d     the list to be sought after number i was sought for b and found d: the lead again after a
 --                       larger page, else the next
 --   seekOn s sh n q i b the query after n seeks: of list i for b, and each later one of listAfter for the page found
---   toldOn s sh n q i b the number that the last of these seeks answers; 0 where there is none
 --   Seekable s sh i c   c is a cursor that seeks on list i have made, and its counts have room for one more
 --   Apt s sh k q b      the k lists are there, seeks on them made their cursors, and none has passed a page from b on
 --   Running s sh k q b  so, and no count will wrap
---   Turned s sh k q b t t is the query after the seeks for its next page at or above b, with the mark of that page and
---                       the number that the last of them answers: its readers and totals are the rule's, and from
---                       behind a page that was found it is Running
+--   Turned s sh k q b t t is the query after the seeks for its next page at or above b, with the mark of that page: its
+--                       readers and totals are the rule's, and from behind a page that was found it is Running
 use mathlib.Core.Bool.{cond, _&&_}
 use mathlib.Core.Path.{_≡_}
 use mathlib.Core.List.{List, [], _∷_}
@@ -33,10 +30,10 @@ use Rattle.rules.specs.Common.{Reader}
 use Rattle.commonlaws.specs.Readers.{Ready, reachedBy, leftIn}
 use Rattle.commonlaws.specs.Next.{Next, nextCommon}
 use Rattle.walklaws.specs.declared.Cursor.{Cursor}
-use Rattle.walklaws.specs.Cursors.{spentMark, unused, ruleCursor, Held, rankFor, movedTo}
+use Rattle.walklaws.specs.Cursors.{spentMark, unused, ruleCursor, Held, movedTo}
 use Rattle.querylaws.specs.declared.Query.{Query}
 use Rattle.querylaws.specs.declared.Turn.{Turn}
-use Rattle.querylaws.specs.Lists.{span, pagesAt, boundIn, ListAt, Lists}
+use Rattle.querylaws.specs.Lists.{span, formIn, pagesAt, boundIn, ListAt, Lists}
 
 abbrev pub cursorIn : Query → ℕ → Cursor
 cursorIn q i = getD (q .cursors) i unused
@@ -48,7 +45,11 @@ unfoldable pub newQuery : Query
 newQuery = record { cursors = replicate 8 unused }
 
 unfoldable pub readerAt : List ℕ → List ℕ → Query → ℕ → Reader
-readerAt s sh q i = record { pages = pagesAt s sh i; cursor = ruleCursor (boundIn sh) (pagesAt s sh i) (cursorIn q i) }
+readerAt s sh q i = record {
+  form = formIn s sh i;
+  pages = pagesAt s sh i;
+  cursor = ruleCursor (formIn s sh i) (boundIn sh) (pagesAt s sh i) (cursorIn q i);
+}
 
 abbrev pub leadIn : List ℕ → List ℕ → Query → Reader
 leadIn s sh q = readerAt s sh q 0
@@ -57,10 +58,7 @@ abbrev pub othersIn : List ℕ → List ℕ → ℕ → Query → List Reader
 othersIn s sh k q = span (readerAt s sh q) 1 (k - 1)
 
 abbrev pub movedIn : List ℕ → List ℕ → ℕ → Cursor → ℕ → Cursor
-movedIn s sh i c b = movedTo (boundIn sh) (pagesAt s sh i) c b
-
-abbrev pub toldIn : List ℕ → List ℕ → ℕ → Cursor → ℕ → ℕ
-toldIn s sh i c b = rankFor (boundIn sh) (pagesAt s sh i) c b
+movedIn s sh i c b = movedTo (formIn s sh i) (boundIn sh) (pagesAt s sh i) c b
 
 unfoldable pub total : (Cursor → ℕ) → List Cursor → ℕ
 total f [] = 0
@@ -88,23 +86,16 @@ seekOn s sh (suc n) q i b =
     let c : Cursor = movedIn s sh i (cursorIn q i) b in
     seekOn s sh n (withCursor q i c) (listAfter i b (c .mark - 1)) (c .mark - 1)
 
-unfoldable pub toldOn : List ℕ → List ℕ → ℕ → Query → ℕ → ℕ → ℕ
-toldOn s sh zero q i b = 0
-toldOn s sh (suc zero) q i b = toldIn s sh i (cursorIn q i) b
-toldOn s sh (suc (suc n)) q i b =
-    let c : Cursor = movedIn s sh i (cursorIn q i) b in
-    toldOn s sh (suc n) (withCursor q i c) (listAfter i b (c .mark - 1)) (c .mark - 1)
-
 pub record Seekable (s sh : List ℕ) (i : ℕ) (c : Cursor) : Type 0 where
   pub list : ListAt s sh i
-  pub held : Held (boundIn sh) (pagesAt s sh i) c
+  pub held : Held (formIn s sh i) (boundIn sh) (pagesAt s sh i) c
   pub seeks : c .seeks < 2 ^ 31
   pub looks : c .looks < 2 ^ 31
 
 pub record Apt (s sh : List ℕ) (k : ℕ) (q : Query) (b : ℕ) : Type 0 where
   pub lists : Lists s sh k
   pub eight : length (q .cursors) ≡ 8
-  pub held : (i : ℕ) → i < k → Held (boundIn sh) (pagesAt s sh i) (cursorIn q i)
+  pub held : (i : ℕ) → i < k → Held (formIn s sh i) (boundIn sh) (pagesAt s sh i) (cursorIn q i)
   pub ready : (i : ℕ) → i < k → Ready (boundIn sh) b (readerAt s sh q i)
 
 -- each page of the lead that is left costs at most k seeks, and each look is paid for by a seek or a word passed
@@ -117,7 +108,6 @@ pub record Turned (s sh : List ℕ) (k : ℕ) (q : Query) (b : ℕ) (t : Turn) :
   pub query : t .q ≡ seekOn s sh (nextFor s sh k q b .seeks) q 0 b
   pub eight : length (t .q .cursors) ≡ 8
   pub mark : t .mark ≡ markFound (nextFor s sh k q b .found)
-  pub rank : t .rank ≡ toldOn s sh (nextFor s sh k q b .seeks) q 0 b
   pub lead : leadIn s sh (t .q) ≡ nextFor s sh k q b .lead
   pub others : othersIn s sh k (t .q) ≡ nextFor s sh k q b .others
   pub seeks : seeksOf (t .q) ≡ seeksOf q + nextFor s sh k q b .seeks

@@ -38,12 +38,11 @@ impl Query {
     }
 }
 
-// A query behind pages that were found, the mark of the last, page + 1, or SPENT where none is left, the rank that the
-// last seek told, and how many pages they are.
+// A query behind pages that were found, the mark of the last, page + 1, or SPENT where none is left, and how many pages
+// they are.
 pub struct Turn {
     pub q: Query,
     pub mark: u32,
-    pub rank: u32,
     pub found: usize,
 }
 

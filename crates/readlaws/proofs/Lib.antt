@@ -1,5 +1,6 @@
 pub mod OneLaws
-pub mod NearLaws
 pub mod LastLaws
 pub mod ReadLaws
+pub mod FormLaws
+pub mod NearLaws
 pub mod PartLaws

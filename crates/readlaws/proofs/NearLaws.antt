@@ -1,12 +1,11 @@
--- Laws of the pointers near a rank's share of them.
-use mathlib.Core.Path.{_≡_, refl, ap, _∙_}
+-- Laws of the stored numbers near a rank's share of them.
+use mathlib.Core.Path.{_≡_}
 use mathlib.Core.List.{List}
 use Prim.Native.Nat.{ℕ, zero, suc, _+_, _-_, _*_, _/_, _^_, _≤_, _<_}
 use native.Mathlib.Nat.{mul-comm, mul-le-mul, mul-le-mul-right, div-lt-iff-lt-mul}
 use native.Mathlib.Omega.{arith}
-use Rattle.shape.specs.declared.Shape.{Shape}
-use Rattle.readlaws.specs.Open.{Open, shapeIn, pointersIn, pointerOf, HighEnd, Sought}
-use Rattle.readlaws.proofs.ReadLaws.{open-reads, pointer-reads}
+use Rattle.readlaws.specs.Open.{numberAt, HighEnd, Comparable}
+use Rattle.readlaws.proofs.FormLaws.{number-first}
 
 -- ---- the share
 
@@ -19,49 +18,48 @@ share-le rank last n h =
     div-lt-iff-lt-mul {k = n} {x = rank * last} {y = last + 1} (omega arith) .1 m in
     omega arith
 
-pub share-fits : (s : List ℕ) (g : Shape) → Open s g → (rank last : ℕ) → rank < g .n → last ≤ pointersIn g
-    → rank * last < 2 ^ 64
-share-fits s g o rank last h l =
-    let r = open-reads s g o in
-    let m : rank * last ≤ 2 ^ 25 * 2 ^ 25 =
-    mul-le-mul {n₁ = rank} {m₁ = last} {n₂ = 2 ^ 25} {m₂ = 2 ^ 25} (omega arith) (omega arith) in
-    omega arith
+module _ (s : List ℕ) (last zeros rank : ℕ) (p : Comparable s last zeros rank) where
+  pub share-fits : rank * last < 2 ^ 64
+  share-fits =
+      let m : rank * last ≤ 2 ^ 25 * 2 ^ 25 =
+      mul-le-mul {n₁ = rank} {m₁ = last} {n₂ = 2 ^ 25} {m₂ = 2 ^ 25} (omega (arith, p .small))
+      (omega (arith, p .few)) in
+      omega arith
 
--- ---- what is sought, by the shape
+  -- the zeros that a number counts are few
+  pub zeros-small : zeros * last ≤ 2 ^ 24
+  zeros-small =
+      let m : zeros * last ≤ 256 * 2 ^ 16 =
+      mul-le-mul {n₁ = zeros} {m₁ = last} {n₂ = 256} {m₂ = 2 ^ 16} (p .zeros-few) (p .few) in
+      omega arith
 
-pub own-shape : (s : List ℕ) (g : Shape) → Open s g → Open s (shapeIn s)
-own-shape s g o = record { accepted = o .accepted; shape = refl }
-
-pub sought : (s : List ℕ) (g : Shape) → Open s g → (last rank : ℕ) → last ≡ pointersIn g → rank < g .n
-    → Sought s last (g .n) rank × (g .upper ≡ shapeIn s .upper)
-sought s g o last rank e h = (
-  record {
-    opened = own-shape s g o;
-    pointers = e ∙ ap pointersIn (o .shape);
-    elements = ap (λ (k : Shape). k .n) (o .shape);
-    below = h;
-  },
-  ap (λ (k : Shape). k .upper) (o .shape),
-)
+  -- a lower number can be compared too
+  pub compares-lower : (i : ℕ) → i ≤ last → Comparable s i zeros rank
+  compares-lower i l = record {
+    stored = omega (arith, p .stored);
+    few = omega (arith, p .few);
+    zeros-few = p .zeros-few;
+    small = p .small;
+  }
 
 -- ---- the ends of a search
 
-module _ (s : List ℕ) (g : Shape) (o : Open s g) (rank : ℕ) where
-  -- pointer number 0 is before every one
-  pub first-before : pointerOf s g 0 ≤ 256 * 0 + rank
-  first-before = omega (arith, pointer-reads s g o 0 0 (omega arith) (λ e. refl) (λ h. absurd (omega arith)) .defined)
+module _ (s : List ℕ) (last zeros rank : ℕ) where
+  -- number 0 is before every one
+  pub first-before : numberAt s 0 ≤ zeros * 0 + rank
+  first-before = omega (arith, number-first s)
 
   -- so one with more ones before it has a lower one
-  pub more-some : (i : ℕ) → 256 * i + rank < pointerOf s g i → 0 < i
+  pub more-some : (i : ℕ) → zeros * i + rank < numberAt s i → 0 < i
   more-some zero h = absurd (omega (arith, first-before, h))
   more-some (suc i) h = omega arith
 
   -- behind the last there is none
-  pub last-ends : (i : ℕ) → i ≡ pointersIn g → HighEnd s g rank i
+  pub last-ends : (i : ℕ) → i ≡ last → HighEnd s last zeros rank i
   last-ends i e = record { within = omega arith; beyond = λ h. absurd (omega arith) }
 
-  -- below a pointer with more ones before it
-  pub below-ends : (i : ℕ) → 0 < i → i ≤ pointersIn g → 256 * i + rank < pointerOf s g i → HighEnd s g rank (i - 1)
+  -- below a number with more ones before it
+  pub below-ends : (i : ℕ) → 0 < i → i ≤ last → zeros * i + rank < numberAt s i → HighEnd s last zeros rank (i - 1)
   below-ends i some l more =
       let e : i - 1 + 1 ≡ i = omega arith in
       record { within = omega arith; beyond = λ h. rw e more }

@@ -26,7 +26,8 @@ split-ones : (x d : ℕ) → ones x ≡ ones (x / 2 ^ d * 2 ^ d) + ones (x % 2 ^
 split-ones x d =
     let q : ℕ = x / 2 ^ d in
     let a : ones (q * 2 ^ d) ≡ ones q + ones 0 = rw add-zero at (ones-cat d q 0 (pow-pos d)) in
-    let b : ones (q * 2 ^ d + x % 2 ^ d) ≡ ones q + ones (x % 2 ^ d) = ones-cat d q (x % 2 ^ d) (mod-lt x (pow-pos d)) in
+    let b : ones (q * 2 ^ d + x % 2 ^ d) ≡ ones q + ones (x % 2 ^ d) =
+    ones-cat d q (x % 2 ^ d) (mod-lt x (pow-pos d)) in
     ap ones (sym (split x d)) ∙ omega (arith, a, b, ones-zero)
 
 -- no one of the run where the word has none

@@ -1,4 +1,4 @@
--- Laws of the upper run of an accepted block as a list of its own, and of its ones from a place or a pointer on.
+-- Laws of the run of an open block: of its ones from a place on, and of it as a list of its own.
 use mathlib.Core.Path.{_≡_, sym, ap, _∙_}
 use mathlib.Core.List.{List}
 use Prim.Native.Nat.{ℕ, _+_, _-_, _*_, _/_, _^_, _≤_, _<_}
@@ -9,9 +9,9 @@ use Rattle.rules.specs.Counts.{onesBelow}
 use Rattle.fields.specs.Words.{nextOne}
 use Rattle.fields.proofs.WordLaws.{next-le}
 use Rattle.laws.proofs.CountLaws.{ones-part}
-use Rattle.laws.proofs.RunLaws.{run-part, words-hold, ones-flat}
+use Rattle.laws.proofs.RunLaws.{run-part, words-hold}
 use Rattle.shape.specs.declared.Shape.{Shape}
-use Rattle.readlaws.specs.Open.{Open, PointerAt, LastBefore, OneAt, OneAhead}
+use Rattle.readlaws.specs.Open.{Open, RunOf, OneAt, OneAhead, onesIn}
 use Rattle.readlaws.proofs.OneLaws.{count-lt, next-counts, next-set}
 use Rattle.readlaws.proofs.ReadLaws.{Reading, open-reads}
 
@@ -56,61 +56,45 @@ module _ (s : List ℕ) (g : Shape) (o : Open s g) (start : ℕ) (some : onesBel
         let i = flat-inside (64 * (k + 1) + 0) f in
         (omega (arith, i), f)
 
-module _ (s : List ℕ) (g : Shape) (o : Open s g) (run : List ℕ)
-    (part : run ≡ take (g .end - g .upper) (drop (g .upper) s)) where
-  opened : Reading s g
-  opened = open-reads s g o
+-- ---- the run as a list of its own
 
+module _ (s : List ℕ) (at n : ℕ) (o : RunOf s at n) (run : List ℕ) (part : run ≡ take (length s - at) (drop at s)) where
   abbrev bytes : ℕ
-  bytes = g .end - g .upper
+  bytes = length s - at
 
-  bytes-are : g .end - g .upper ≡ 8 * wordsFor (g .bits)
-  bytes-are = omega (arith, opened .ends, opened .full)
+  run-length : length run ≡ length s - at
+  run-length = ap length part ∙ simp (length-take, length-drop) (omega (arith, o .inside))
 
-  pub run-length : length run ≡ 8 * wordsFor (g .bits)
-  run-length = ap length part ∙ simp (length-take, length-drop) (omega (arith, opened .ends, opened .full))
+  run-words : length run / 8 ≡ (length s - at) / 8
+  run-words = ap (λ (k : ℕ). k / 8) run-length
 
-  pub run-counts : (p : ℕ) → p ≤ 64 * wordsFor (g .bits) → onesBelow run 0 p ≡ onesBelow s (g .upper) p
-  run-counts p h = rw part (ones-part s bytes (g .upper) (wordsFor (g .bits)) (omega (arith, bytes-are)) p h)
-
-  pub run-bits : (p : ℕ) → p < 64 * wordsFor (g .bits) → runBit run 0 p ≡ runBit s (g .upper) p
-  run-bits p h = rw part (run-part s bytes (g .upper) p (omega (arith, bytes-are)))
+  run-counts : (p : ℕ) → p ≤ 64 * (length run / 8) → onesBelow run 0 p ≡ onesBelow s at p
+  run-counts p h = rw part (ones-part s bytes at (bytes / 8) (omega arith) p (omega (arith, run-words)))
 
   -- all ones lie in its words
-  pub run-total : onesBelow run 0 (64 * wordsFor (g .bits)) ≡ g .n
+  pub run-total : onesIn run ≡ n
   run-total =
-      let d : ℕ = 64 * wordsFor (g .bits) - g .bits in
-      let e : g .bits + d ≡ 64 * wordsFor (g .bits) = omega (arith, words-hold (g .bits)) in
-      let f = ones-flat s (g .upper) (g .bits) d (λ p l h. opened .spare p l) in
-      run-counts (64 * wordsFor (g .bits)) (omega arith) ∙ rw e at f ∙ opened .counted
+      run-counts (64 * (length run / 8)) (omega arith) ∙ ap (λ (k : ℕ). onesBelow s at (64 * k)) run-words ∙ o .total
 
-  -- ---- ones from a place on
+  pub run-short : length run < 2 ^ 32
+  run-short = omega (arith, run-length, o .short)
 
-  module _ (start before rank : ℕ) (counted : onesBelow s (g .upper) start ≡ before) (least : before ≤ rank)
-      (lt : rank < g .n) where
-    start-lt : start < g .bits
-    start-lt = count-lt s (g .upper) start (g .bits) (omega (arith, opened .counted))
+  -- from a place on
+  pub run-ahead : (start before rank : ℕ) → onesBelow s at start ≡ before → before ≤ rank → rank < n
+      → OneAhead run start before rank
+  run-ahead start before rank counted least lt =
+      let l = count-lt s at start (64 * (length run / 8))
+      (omega (arith, run-counts (64 * (length run / 8)) (omega arith), run-total)) in
+      record {
+        passed = sym counted ∙ sym (run-counts start (omega arith));
+        ahead = least;
+        some = rw run-total lt;
+        short = run-short;
+      }
 
-    pub run-ahead : OneAhead run start before rank
-    unfolding wordsFor
-    run-ahead =
-        let w : length run / 8 ≡ wordsFor (g .bits) = omega (arith, run-length) in
-        record {
-          passed = sym counted ∙ sym (run-counts start (omega (arith, words-hold (g .bits), start-lt)));
-          ahead = least;
-          some = rw (w, run-total) lt;
-          short = omega (arith, run-length, opened .below, opened .within, opened .many);
-        }
-
-  -- a one of the run is one of the block's upper run
-  pub run-one : (rank p : ℕ) → OneAt run 0 rank p → p < 64 * (length run / 8) → OneAt s (g .upper) rank p
-  run-one rank p o l =
-      let h : p < 64 * wordsFor (g .bits) = omega (arith, run-length) in
-      record { set = sym (run-bits p h) ∙ o .set; below = sym (run-counts p (omega arith)) ∙ o .below }
-
-  -- the ones below pointer number i, which has at most `rank` of them
-  pub pointer-ones : (i rank start : ℕ) → PointerAt s g i start → LastBefore s g rank i
-      → (256 * i ≤ start) × (onesBelow s (g .upper) start ≡ start - 256 * i) × (start - 256 * i ≤ rank)
-  pointer-ones i rank start at last =
-      let e : 256 * i + onesBelow s (g .upper) start ≡ start = at .after .counted in
-      (omega (arith, e), omega (arith, e), omega (arith, e, at .defined, last .before))
+  -- a one of it is one of the block's run
+  pub run-one : (rank p : ℕ) → OneAt run 0 rank p → p < 64 * (length run / 8) → OneAt s at rank p
+  run-one rank p one l = record {
+    set = sym (rw part (run-part s bytes at p (omega (arith, run-words)))) ∙ one .set;
+    below = sym (run-counts p (omega arith)) ∙ one .below;
+  }

@@ -13,7 +13,7 @@ use Rattle.rules.specs.Limits.{limit}
 use Rattle.rules.specs.Bytes.{beAt}
 use Rattle.rules.specs.Runs.{bit, runBit, field, wordsFor}
 use Rattle.rules.specs.Counts.{onesBelow}
-use Rattle.rules.specs.List.{width, zeros, upper, afterZero, pointer, lowerAt, upperAt, size}
+use Rattle.rules.specs.List.{width, zeros, upper, afterZero, pointer, lowerAt, upperAt, size, twoRuns}
 use Rattle.rules.specs.ReadList.{listU, listN, decode, listRefusal}
 use Rattle.laws.proofs.CountLaws.{below-none, below-suc, ones-slow, ones-below-le, run-steps}
 use Rattle.laws.proofs.RunLaws.{run-beyond, field-lt, ones-mono}
@@ -24,7 +24,7 @@ use Rattle.listlaws.specs.Sound.{After, Framed}
 use Rattle.listlaws.proofs.AfterLaws.{run-after, after-le, after-unique}
 use Rattle.listlaws.proofs.BlockLaws.{size-is, size-none}
 use Rattle.listlaws.proofs.ElementLaws.{upper-agrees}
-use Rattle.listlaws.proofs.RefusalLaws.{accepted-framed}
+use Rattle.listlaws.proofs.RefusalLaws.{framed-form, decode-runs, alone-framed}
 use Rattle.listlaws.proofs.ValidLaws.{read-is, field-in}
 use Rattle.listlaws.proofs.ReadLaws.{accepted-sound, ones-total, pointer-after, element-of-rank}
 use Rattle.readlaws.specs.Open.{Open, pointersIn, PointerAt, OneAt}
@@ -72,7 +72,7 @@ module _ (s : List ℕ) (a : listRefusal s ≡ Accepted) where
   n = listN s
 
   framed : Framed s
-  framed = accepted-framed s a .0
+  framed = alone-framed s a .0
 
   module _ (some : 0 < listN s) where
     abbrev w : ℕ
@@ -90,9 +90,9 @@ module _ (s : List ℕ) (a : listRefusal s ≡ Accepted) where
         ]
 
     agrees-some : (p : ℕ) → p < n + zeros U w → runBit s (upperAt U n w) p ≡ bit (upper w 0 (decode s)) p
-    unfolding decode
     agrees-some p h =
-        let e = ap (λ (l : List ℕ). bit (upper w 0 l) p) (read-is s U n some) in
+        let e = ap (λ (l : List ℕ). bit (upper w 0 l) p)
+        (decode-runs s (framed-form twoRuns s framed) ∙ read-is s U n some) in
         upper-agrees s (upperAt U n w) (lowerAt U w) w (n + zeros U w) p h ∙ sym e
 
     reading-some : Reading s (shapeOf (listU s) (listN s))

@@ -1,14 +1,21 @@
 -- What is read of a list block once it is accepted.
 --
---   Open s g           s is an accepted block and g its shape
---   shapeIn s          the shape of an accepted block s
---   pointersIn g       how many pointers a block of shape g has
+--   Open s g           s is an accepted block in two runs and g its shape
+--   MapOpen s g        s is the block of a bitmap and g its shape
+--   FormOpen f s g     s is the block of a list in the form f and g its shape
+--   pointersIn g       how many pointers a block of shape g has, or numbers if it is a bitmap
 --   pointerOf s g i    pointer number i of the upper run of s, whose shape is g; 0 for i = 0
 --   PointerAt s g i r  r is that pointer, as stored and as a place of the run; i from 0 to pointersIn g
---   HighEnd s g rank i     pointer number i is the last, or the next has more than `rank` ones before it
---   Among s g rank low high  the last pointer with at most `rank` ones before it is one from number low to number high
---   LastBefore s g rank i  pointer number i is the last with at most `rank` ones before it
---   Sought s last n rank   s is accepted and has n elements and `last` pointers; `rank` is below n
+--   numberAt s i       what s stores as pointer or number i; 0 for i = 0
+--   zerosPer f         how many zeros a stored number counts for each i: 256 where it is a place of the upper run
+--   jumpFrom zeros v i the place of the run that number i, stored as v, leads to
+--   HighEnd s last zeros rank i     number i is the last, or the next has more than `rank` ones before it
+--   Among s last zeros rank low high  the last number with at most `rank` ones before it is one from low to high
+--   LastBefore s last zeros rank i  number i is the last with at most `rank` ones before it
+--   Comparable s last zeros rank  s stores `last` numbers, each of which can be compared with a rank
+--   Sought s last n zeros rank    that, and `rank` is below n
+--   RunOf s at n       the run from byte `at` of s to its end has n ones
+--   JumpsIn s at n last zeros  that is the run of s, and the `last` numbers that s stores lead to places of it
 --   OneAt s at rank p  the one number `rank`, from 0, of the run at byte `at` stands at place p
 --   OneAhead run p before rank  the one number `rank` lies at place p of the run or after it; `before` ones lie below p
 --   onesIn run         how many ones the words of the run have
@@ -16,24 +23,31 @@
 --   LastOne run p      the last of them stands at place p
 use mathlib.Core.Path.{_≡_}
 use mathlib.Core.List.{List}
-use Prim.Native.Nat.{ℕ, _+_, _-_, _*_, _/_, _^_, _≤_, _<_}
+use Prim.Native.Nat.{ℕ, zero, suc, _+_, _-_, _*_, _/_, _^_, _≤_, _<_}
 use lib.ListN.{length}
 use Rattle.rules.specs.declared.Refusal.the-variants.{Accepted}
+use Rattle.rules.specs.Limits.{limit}
 use Rattle.rules.specs.Bytes.{beAt}
 use Rattle.rules.specs.Runs.{runBit}
 use Rattle.rules.specs.Counts.{onesBelow}
-use Rattle.rules.specs.List.{upper, pointer}
-use Rattle.rules.specs.ReadList.{listU, listN, decode, listRefusal}
+use Rattle.rules.specs.List.{upper, pointer, Form, twoRuns, bitmap}
+use Rattle.rules.specs.ReadList.{listU, listN, formAt, decode, listRefusal}
 use Rattle.listlaws.specs.Sound.{After}
 use Rattle.shape.specs.declared.Shape.{Shape}
-use Rattle.shape.specs.Shape.{shapeOf}
+use Rattle.shape.specs.Shape.{shapeOf, mapShape}
+use Rattle.maplaws.specs.Maps.{MapValid}
 
 pub record Open (s : List ℕ) (g : Shape) : Type 0 where
   pub accepted : listRefusal s ≡ Accepted
   pub shape : g ≡ shapeOf (listU s) (listN s)
 
-abbrev pub shapeIn : List ℕ → Shape
-shapeIn s = shapeOf (listU s) (listN s)
+pub record MapOpen (s : List ℕ) (g : Shape) : Type 0 where
+  pub valid : MapValid s
+  pub shape : g ≡ mapShape (listU s) (listN s)
+
+abbrev pub FormOpen : Form → List ℕ → Shape → Type 0
+FormOpen twoRuns s g = (formAt s ≡ twoRuns) × Open s g
+FormOpen bitmap s g = MapOpen s g
 
 abbrev pub pointersIn : Shape → ℕ
 pointersIn g = (g .lower - 13) / 4
@@ -47,26 +61,51 @@ pub record PointerAt (s : List ℕ) (g : Shape) (i r : ℕ) : Type 0 where
   pub inside : r ≤ g .bits
   pub defined : r ≡ pointerOf s g i
 
--- 256 * i zeros stand before pointer number i
-pub record HighEnd (s : List ℕ) (g : Shape) (rank i : ℕ) : Type 0 where
-  pub within : i ≤ pointersIn g
-  pub beyond : i < pointersIn g → 256 * (i + 1) + rank < pointerOf s g (i + 1)
+unfoldable pub numberAt : List ℕ → ℕ → ℕ
+numberAt s zero = 0
+numberAt s (suc i) = beAt 4 s (9 + 4 * suc i)
 
-pub record Among (s : List ℕ) (g : Shape) (rank low high : ℕ) : Type 0 where
+abbrev pub zerosPer : Form → ℕ
+zerosPer twoRuns = 256
+zerosPer bitmap = 0
+
+-- a bitmap's number i tells the ones before bit 256 * i
+unfoldable pub jumpFrom : ℕ → ℕ → ℕ → ℕ
+jumpFrom zero v i = 256 * i
+jumpFrom (suc _) v i = v
+
+pub record HighEnd (s : List ℕ) (last zeros rank i : ℕ) : Type 0 where
+  pub within : i ≤ last
+  pub beyond : i < last → zeros * (i + 1) + rank < numberAt s (i + 1)
+
+pub record Among (s : List ℕ) (last zeros rank low high : ℕ) : Type 0 where
   pub order : low ≤ high
-  pub before : pointerOf s g low ≤ 256 * low + rank
-  pub ends : HighEnd s g rank high
+  pub before : numberAt s low ≤ zeros * low + rank
+  pub ends : HighEnd s last zeros rank high
 
-pub record LastBefore (s : List ℕ) (g : Shape) (rank i : ℕ) : Type 0 where
-  pub within : i ≤ pointersIn g
-  pub before : pointerOf s g i ≤ 256 * i + rank
-  pub last : i < pointersIn g → 256 * (i + 1) + rank < pointerOf s g (i + 1)
+pub record LastBefore (s : List ℕ) (last zeros rank i : ℕ) : Type 0 where
+  pub before : numberAt s i ≤ zeros * i + rank
+  pub ends : HighEnd s last zeros rank i
 
-pub record Sought (s : List ℕ) (last n rank : ℕ) : Type 0 where
-  pub opened : Open s (shapeIn s)
-  pub pointers : last ≡ pointersIn (shapeIn s)
-  pub elements : n ≡ shapeIn s .n
+pub record Comparable (s : List ℕ) (last zeros rank : ℕ) : Type 0 where
+  pub stored : 13 + 4 * last ≤ length s
+  pub few : last ≤ 2 ^ 16
+  pub zeros-few : zeros ≤ 256
+  pub small : rank ≤ limit
+
+pub record Sought (s : List ℕ) (last n zeros rank : ℕ) : Type 0 where
+  pub compares : Comparable s last zeros rank
   pub below : rank < n
+
+pub record RunOf (s : List ℕ) (at n : ℕ) : Type 0 where
+  pub inside : at ≤ length s
+  pub short : length s - at < 2 ^ 32
+  pub total : onesBelow s at (64 * ((length s - at) / 8)) ≡ n
+
+pub record JumpsIn (s : List ℕ) (at n last zeros : ℕ) : Type 0 where
+  pub run : RunOf s at n
+  pub zeros-before : (i : ℕ) → i ≤ last → zeros * i ≤ numberAt s i
+  pub ones-before : (i : ℕ) → i ≤ last → onesBelow s at (jumpFrom zeros (numberAt s i) i) ≡ numberAt s i - zeros * i
 
 pub record OneAt (s : List ℕ) (at rank p : ℕ) : Type 0 where
   pub set : runBit s at p ≡ 1

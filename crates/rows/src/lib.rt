@@ -16,6 +16,7 @@ use querylaws::Query;
 use querylaws::TO;
 use querylaws::UPPER;
 use querylaws::WIDTH;
+use shape::BITMAP;
 use shape::Shape;
 
 // The number of list i at place j of its row.
@@ -42,13 +43,21 @@ pub fn shape_in(shapes: &[u32], i: usize) -> Shape
     }
 }
 
-// The rank of the page that cursor i of a query is on, in its list.
-pub fn rank_in(shapes: &[u32], q: Query, i: usize) -> usize
-    requires { ⌜ (8 * i + 8 ≤ length (now shapes)) × (i < 8) × (length (q .cursors) ≡ 8) × OnElement (now shapes) q i ⌝ }
-    ensures { λ r. ⌜ r ≡ rankBy (now (shapes .entry)) q i ⌝ }
+// The rank of the page that cursor i of a query is on, in its list: a bitmap tells it by its numbers, two runs by the
+// zeros before the page's bit.
+pub fn rank_in(card: &[u8], shapes: &[u32], q: Query, i: usize) -> usize
+    requires { ⌜ (length (q .cursors) ≡ 8) × OnElement (now card) (now shapes) q i ⌝ }
+    ensures { λ r. ⌜ r ≡ rankBy (now (card .entry)) (now (shapes .entry)) q i ⌝ }
 {
     let c = q.cursors[i];
-    c.bit as usize - ((c.mark as usize - 1) >> number(shapes, i, WIDTH))
+    let page = c.mark as usize - 1;
+    let w = number(shapes, i, WIDTH);
+    if w == BITMAP {
+        let from = number(shapes, i, FROM);
+        let to = number(shapes, i, TO);
+        return maprank::rank_at(&card[from..to], shape_in(shapes, i), page);
+    }
+    c.bit as usize - (page >> w)
 }
 
 // The seeks and looks of all cursors.

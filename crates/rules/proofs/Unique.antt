@@ -25,8 +25,8 @@ by-equation view back e b p q d f = sym (e p) ∙ ap back (d ∙ sym f) ∙ e q
 pub check-list-unique : (s : List ℕ) → Determined {A = Refusal} (λ r. ListChecked s r)
 check-list-unique s = by-equation (λ r. r) (λ r. r) (λ r. refl) _
 
-pub check-term-unique : (s : List ℕ) → Determined {A = Refusal} (λ r. TermChecked s r)
-check-term-unique s = by-equation (λ r. r) (λ r. r) (λ r. refl) _
+pub check-term-unique : (v : ℕ) (s : List ℕ) → Determined {A = Refusal} (λ r. TermChecked v s r)
+check-term-unique v s = by-equation (λ r. r) (λ r. r) (λ r. refl) _
 
 pub check-index-unique : (s : List ℕ) → Determined {A = Refusal} (λ r. IndexChecked s r)
 check-index-unique s = by-equation (λ r. r) (λ r. r) (λ r. refl) _
@@ -43,9 +43,9 @@ pub write-list-unique : (U : ℕ) (xs room : List ℕ)
     → Determined {A = Written × List ℕ} (λ p. ListWritten U xs room (p .0) (p .1))
 write-list-unique U xs room = made-unique _
 
-pub write-term-unique : (N : ℕ) (t : Word) (room : List ℕ)
-    → Determined {A = Written × List ℕ} (λ p. TermWritten N t room (p .0) (p .1))
-write-term-unique N t room = made-unique _
+pub write-term-unique : (v N : ℕ) (t : Word) (room : List ℕ)
+    → Determined {A = Written × List ℕ} (λ p. TermWritten v N t room (p .0) (p .1))
+write-term-unique v N t room = made-unique _
 
 -- what the calls of a session promise
 streaming-unique : (m : Streaming) → Determined {A = Streamed × List ℕ} (λ p. streaming (p .0) (p .1) ≡ m)
@@ -55,9 +55,9 @@ streaming-unique =
     (λ m. (record { refusal = m .refusal; size = m .size; stream = m .stream }, m .room))
     (λ p. refl)
 
-pub begin-term-unique : (N P Q U : ℕ) (room : List ℕ)
-    → Determined {A = Streamed × List ℕ} (λ p. TermBegun N P Q U room (p .0) (p .1))
-begin-term-unique N P Q U room = streaming-unique _
+pub begin-term-unique : (v N P Q U : ℕ) (room : List ℕ)
+    → Determined {A = Streamed × List ℕ} (λ p. TermBegun v N P Q U room (p .0) (p .1))
+begin-term-unique v N P Q U room = streaming-unique _
 
 pub put-postings-unique : (s : Stream) (t : Word) (room : List ℕ)
     → Determined {A = Streamed × List ℕ} (λ p. PostingsPut s t room (p .0) (p .1))
@@ -67,9 +67,9 @@ pub end-term-unique : (s : Stream) (room : List ℕ)
     → Determined {A = Streamed × List ℕ} (λ p. TermEnded s room (p .0) (p .1))
 end-term-unique s room = streaming-unique _
 
-pub close-index-unique : (buffer : List ℕ) (used N T : ℕ)
-    → Determined {A = Written × List ℕ} (λ p. IndexClosed buffer used N T (p .0) (p .1))
-close-index-unique buffer used N T = made-unique _
+pub close-index-unique : (buffer : List ℕ) (used v N T : ℕ)
+    → Determined {A = Written × List ℕ} (λ p. IndexClosed buffer used v N T (p .0) (p .1))
+close-index-unique buffer used v N T = made-unique _
 
 pub ask-unique : (s qs room : List ℕ)
     → Determined {A = Outcome × List ℕ} (λ p. Answered s qs room (p .0) (p .1))

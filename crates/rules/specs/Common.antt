@@ -1,22 +1,26 @@
 -- Common pages by the step rule, with its counts [01 How a seek moves].
 --
---   Reader          a list of pages and the cursor on it
+--   Reader          a list of pages, its form [02 f], and the cursor on it
+--   reader v U l    the list l of pages below U in an index of version v, with a fresh cursor
 --   Tally           seeks, looks, and the pages listed
 --   leadOf ls       the number of the shortest list, the first of equals
 --   leadPages ls, otherPages ls  that list, and the others
 --   agree U c rs    the others are sought in turn for c, until one answers none or more than c
 --   rounds f r U lead others b  the rule from the bound b on until r pages are listed [02 e], with at most f seeks of
 --                   the lead
---   commonFrom U ls b r  the same on the lists ls of pages below U, with as many seeks as it takes
---   common U ls     the rule from 0 on, with no end to the pages
+--   commonFrom v U ls b r  the same on the lists ls of pages below U in an index of version v, with as many seeks as it
+--                   takes
+--   common v U ls   the rule from 0 on, with no end to the pages
 use mathlib.Core.Bool.{true, false}
 use mathlib.Core.List.{List, [], _∷_, _++_}
 use Prim.Native.Nat.{ℕ, zero, suc, _+_}
 use lib.Dec.{ltb}
 use lib.ListN.{length, getD, take, drop}
+use Rattle.rules.specs.List.{Form, formOf}
 use Rattle.rules.specs.Seek.{Cursor, fresh, none, page, Sought, seek}
 
 pub record Reader : Type 0 where
+  pub form : Form
   pub pages : List ℕ
   pub cursor : Cursor
 
@@ -47,15 +51,26 @@ unfoldable pub leadOf : List (List ℕ) → ℕ
 leadOf [] = 0
 leadOf (l ∷ ls) = leadFrom 0 (length l) 1 ls
 
-unfoldable pub readersOf : List (List ℕ) → List Reader
-readersOf [] = []
-readersOf (l ∷ ls) = record { pages = l; cursor = fresh } ∷ readersOf ls
+unfoldable pub reader : ℕ → ℕ → List ℕ → Reader
+reader v U l = record { form = formOf v U (length l); pages = l; cursor = fresh }
+
+unfoldable pub readersOf : ℕ → ℕ → List (List ℕ) → List Reader
+readersOf v U [] = []
+readersOf v U (l ∷ ls) = reader v U l ∷ readersOf v U ls
+
+-- a seek for b on a reader's list
+unfoldable pub seekBy : ℕ → Reader → ℕ → Sought
+seekBy U r b = seek (r .form) U (r .pages) (r .cursor) b
+
+-- the reader behind a seek
+unfoldable pub movedBy : Reader → Sought → Reader
+movedBy r s = record { form = r .form; pages = r .pages; cursor = s .cursor }
 
 -- one seek more in front of a round
-unfoldable pub before : List ℕ → Sought → Round → Round
+unfoldable pub before : Reader → Sought → Round → Round
 before l s r = record {
   ended = r .ended;
-  readers = record { pages = l; cursor = s .cursor } ∷ r .readers;
+  readers = movedBy l s ∷ r .readers;
   seeks = r .seeks + 1;
   looks = s .looks + r .looks;
 }
@@ -66,12 +81,12 @@ stopped e rs = record { ended = e; readers = rs; seeks = 0; looks = 0 }
 unfoldable pub agree : ℕ → ℕ → List Reader → Round
 agree U c [] = stopped agreed []
 agree U c (r ∷ rs) =
-    let s : Sought = seek U (r .pages) (r .cursor) c in
+    let s : Sought = seekBy U r c in
     elim (s .found) [
-      | none _ ↦ before (r .pages) s (stopped exhausted rs)
+      | none _ ↦ before r s (stopped exhausted rs)
       | page d _ ↦ elim (ltb c d) [
-        | true ↦ before (r .pages) s (stopped (larger d) rs)
-        | false ↦ before (r .pages) s (agree U c rs)
+        | true ↦ before r s (stopped (larger d) rs)
+        | false ↦ before r s (agree U c rs)
       ]
     ]
 
@@ -90,8 +105,8 @@ unfoldable pub rounds : ℕ → ℕ → ℕ → Reader → List Reader → ℕ �
 rounds zero r U lead others b = nothing
 rounds (suc f) zero U lead others b = nothing
 rounds (suc f) (suc r) U lead others b =
-    let s : Sought = seek U (lead .pages) (lead .cursor) b in
-    let moved : Reader = record { pages = lead .pages; cursor = s .cursor } in
+    let s : Sought = seekBy U lead b in
+    let moved : Reader = movedBy lead s in
     elim (s .found) [
       | none _ ↦ counted 1 (s .looks) [] nothing
       | page c _ ↦
@@ -111,11 +126,11 @@ unfoldable pub otherPages : List (List ℕ) → List (List ℕ)
 otherPages ls = take (leadOf ls) ls ++ drop (leadOf ls + 1) ls
 
 -- each seek of the lead passes an element of it, so one more than it has suffice
-unfoldable pub commonFrom : ℕ → List (List ℕ) → ℕ → ℕ → Tally
-commonFrom U ls b r =
+unfoldable pub commonFrom : ℕ → ℕ → List (List ℕ) → ℕ → ℕ → Tally
+commonFrom v U ls b r =
     let lead : List ℕ = leadPages ls in
-    rounds (length lead + 1) r U (record { pages = lead; cursor = fresh }) (readersOf (otherPages ls)) b
+    rounds (length lead + 1) r U (reader v U lead) (readersOf v U (otherPages ls)) b
 
 -- no more pages than the lead has can be listed
-unfoldable pub common : ℕ → List (List ℕ) → Tally
-common U ls = commonFrom U ls 0 (length (leadPages ls) + 1)
+unfoldable pub common : ℕ → ℕ → List (List ℕ) → Tally
+common v U ls = commonFrom v U ls 0 (length (leadPages ls) + 1)

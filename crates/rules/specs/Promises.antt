@@ -4,13 +4,14 @@
 --   Determined P                    any two results that P allows are equal
 --   ListChecked s r                 r is the refusal of the bytes s as a list
 --   ListWritten U xs room r after   r answers writing the list xs below U, and leaves the room as `after`
---   TermChecked s r                 r is the refusal of the bytes s as a term
---   TermWritten N t room r after    r answers writing the word t of N pages, and leaves the room as `after`
---   TermBegun N P Q U room r after  r answers the announcement of a word, and leaves the room as `after`
+--   TermChecked v s r               r is the refusal of the bytes s as a term of an index of version v
+--   TermWritten v N t room r after  r answers writing the word t of N pages for an index of version v, and leaves the
+--                                   room as `after`
+--   TermBegun v N P Q U room r after  r answers the announcement of a word, and leaves the room as `after`
 --   PostingsPut s t room r after    r answers the postings t that session s is handed, and leaves the room as `after`
 --   TermEnded s room r after        r answers the close of session s, and leaves the room as `after`
 --   IndexChecked s r                r is the refusal of the bytes s as an index
---   IndexClosed buffer used N T r after  r answers closing an index, and leaves the buffer as `after`
+--   IndexClosed buffer used v N T r after  r answers closing an index, and leaves the buffer as `after`
 --   Answered s qs room r after      r is the outcome of the questions qs on the card s, and leaves the room as `after`
 --   ScreenShown s b n ts pages counts r pages′ counts′  r answers a screen of n pages of the words ts from b on of the
 --                                   card s, and leaves the rooms as `pages′` and `counts′`
@@ -44,14 +45,14 @@ ListChecked s r = r ≡ listRefusal s
 abbrev pub ListWritten : ℕ → List ℕ → List ℕ → Written → List ℕ → Type 0
 ListWritten U xs room r after = made r after ≡ writeList U xs room
 
-abbrev pub TermChecked : List ℕ → Refusal → Type 0
-TermChecked s r = r ≡ termRefusal s
+abbrev pub TermChecked : ℕ → List ℕ → Refusal → Type 0
+TermChecked v s r = r ≡ termRefusal v s
 
-abbrev pub TermWritten : ℕ → Word → List ℕ → Written → List ℕ → Type 0
-TermWritten N t room r after = made r after ≡ writeTerm N t room
+abbrev pub TermWritten : ℕ → ℕ → Word → List ℕ → Written → List ℕ → Type 0
+TermWritten v N t room r after = made r after ≡ writeTerm v N t room
 
-abbrev pub TermBegun : ℕ → ℕ → ℕ → ℕ → List ℕ → Streamed → List ℕ → Type 0
-TermBegun N P Q U room r after = streaming r after ≡ beginTerm N P Q U room
+abbrev pub TermBegun : ℕ → ℕ → ℕ → ℕ → ℕ → List ℕ → Streamed → List ℕ → Type 0
+TermBegun v N P Q U room r after = streaming r after ≡ beginTerm v N P Q U room
 
 abbrev pub PostingsPut : Stream → Word → List ℕ → Streamed → List ℕ → Type 0
 PostingsPut s t room r after = streaming r after ≡ putPostings s t room
@@ -62,8 +63,8 @@ TermEnded s room r after = streaming r after ≡ endTerm s room
 abbrev pub IndexChecked : List ℕ → Refusal → Type 0
 IndexChecked s r = r ≡ indexRefusal s
 
-abbrev pub IndexClosed : List ℕ → ℕ → ℕ → ℕ → Written → List ℕ → Type 0
-IndexClosed buffer used N T r after = made r after ≡ closeIndex buffer used N T
+abbrev pub IndexClosed : List ℕ → ℕ → ℕ → ℕ → ℕ → Written → List ℕ → Type 0
+IndexClosed buffer used v N T r after = made r after ≡ closeIndex buffer used v N T
 
 abbrev pub Answered : List ℕ → List ℕ → List ℕ → Outcome → List ℕ → Type 0
 Answered s qs room r after = asked r after ≡ ask s qs room

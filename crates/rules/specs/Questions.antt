@@ -14,7 +14,7 @@ use lib.ListN.{length, getD, take, drop}
 use Rattle.rules.specs.Limits.{phraseLimit, offsetLimit}
 use Rattle.rules.specs.List.{rising}
 use Rattle.rules.specs.Term.{Word}
-use Rattle.rules.specs.Index.{indexN, wordOf}
+use Rattle.rules.specs.Index.{indexV, indexN, wordOf}
 use Rattle.rules.specs.Seek.{none, page}
 use Rattle.rules.specs.Common.{common}
 use Rattle.rules.specs.Plain.{firstFrom, commonPages, InPhrase, phraseOf, withStarts}
@@ -40,8 +40,8 @@ byRank xs r = cond (ltb r (length xs)) (numbered (getD xs r 0 ∷ [])) (numbered
 unfoldable pub byBound : List ℕ → ℕ → List ℕ
 byBound xs b = elim (firstFrom b 0 xs) [ none n ↦ numbered (n ∷ []) | page x i ↦ numbered (x ∷ (i ∷ [])) ]
 
-unfoldable pub byCommon : ℕ → List (List ℕ) → List ℕ
-byCommon N ls = numbered (common N ls .seeks ∷ (common N ls .looks ∷ commonPages ls))
+unfoldable pub byCommon : ℕ → ℕ → List (List ℕ) → List ℕ
+byCommon v N ls = numbered (common v N ls .seeks ∷ (common v N ls .looks ∷ commonPages ls))
 
 unfoldable pub byPhrase : List InPhrase → List ℕ
 byPhrase [] = numbered []
@@ -65,7 +65,7 @@ unfoldable pub answer : List ℕ → ℕ → List ℕ → List ℕ
 answer s kind args =
     cond (eqb kind 1) (byRank (pagesIn s (getD args 0 0)) (getD args 1 0))
     (cond (eqb kind 2) (byBound (pagesIn s (getD args 0 0)) (getD args 1 0))
-    (cond (eqb kind 3) (byCommon (indexN s) (listsIn s args))
+    (cond (eqb kind 3) (byCommon (indexV s) (indexN s) (listsIn s args))
     (byPhrase (phraseIn s args))))
 
 unfoldable pub allBelow : ℕ → List ℕ → Bool

@@ -5,7 +5,7 @@
 --   lowered b cs es  the positions whose elements are es; b is the first page's base
 --   readWord s       the word that the bytes hold
 --   disagree s       whether its parts disagree, refusal 7
---   termRefusal s    the refusal, the first one found
+--   termRefusal v s  the refusal as a word of an index of version v, the first one found
 use mathlib.Core.Bool.{Bool, cond, not, _||_}
 use mathlib.Core.List.{List, [], _∷_, _++_}
 use Prim.Native.Nat.{ℕ, _+_, _-_}
@@ -14,8 +14,8 @@ use lib.ListN.{length, getD, take, drop}
 use Rattle.rules.specs.declared.Refusal.{Refusal}
 use Rattle.rules.specs.declared.Refusal.the-variants.{Accepted, Short, Length, Version, Layout, Parts}
 use Rattle.rules.specs.Refusal.{andThen}
-use Rattle.rules.specs.Limits.{version, listHeader, termHeader}
-use Rattle.rules.specs.ReadList.{stated, listU, listN, decode, listRefusal}
+use Rattle.rules.specs.Limits.{version, lastEdition, listHeader, termHeader, upTo}
+use Rattle.rules.specs.ReadList.{stated, listU, listN, decode, partRefusal}
 use Rattle.rules.specs.Term.{Word, next}
 use Rattle.rules.specs.Parts.{after, part, inside}
 
@@ -59,13 +59,14 @@ disagree s =
     || (not (eqb (listN (positionsOf s)) (listU (countsOf s)))
     || not (eqb (listU (positionsOf s)) (next 0 (decode (positionsOf s))))))
 
-unfoldable pub termRefusal : List ℕ → Refusal
-termRefusal s =
+unfoldable pub termRefusal : ℕ → List ℕ → Refusal
+termRefusal v s =
     cond (ltb (length s) termHeader) Short
     (cond (not (eqb (stated s) (length s))) Length
-    (cond (not (eqb (getD s 4 0) version)) Version
-    (andThen (inside listHeader listRefusal (listsOf s))
-    (andThen (inside listHeader listRefusal (after 1 (listsOf s)))
-    (andThen (inside listHeader listRefusal (after 2 (listsOf s)))
+    (cond (not (upTo version (getD s 4 0))) Version
+    (cond (not (upTo lastEdition v)) Version
+    (andThen (inside listHeader (partRefusal v) (listsOf s))
+    (andThen (inside listHeader (partRefusal version) (after 1 (listsOf s)))
+    (andThen (inside listHeader (partRefusal version) (after 2 (listsOf s)))
     (cond (ltb 0 (length (after 3 (listsOf s)))) Layout
-    (cond (disagree s) Parts Accepted)))))))
+    (cond (disagree s) Parts Accepted))))))))

@@ -2,7 +2,7 @@
 --
 --   screenGood T r ts    whether a screen of r pages of the words ts may be asked of T words
 --   screenPages b r ls   the first r pages at or above b that all the lists hold, by plain reading
---   screenCounts N b r ls  the seeks and the looks of the step rule from b on, stopped once r pages are listed
+--   screenCounts v N b r ls  the seeks and the looks of the step rule from b on, stopped once r pages are listed
 --   isFull r ps          whether a screen of r pages that shows the pages ps is full
 --   Screening            the result: refusal, pages found, 1 where the screen is full, the bound of the next one, and
 --                        both rooms after it
@@ -22,7 +22,7 @@ use Rattle.rules.specs.declared.Screened.{Screened}
 use Rattle.rules.specs.Refusal.{accepted}
 use Rattle.rules.specs.Limits.{screenLimit}
 use Rattle.rules.specs.Write.{laid}
-use Rattle.rules.specs.Index.{indexN, indexT, indexRefusal}
+use Rattle.rules.specs.Index.{indexV, indexN, indexT, indexRefusal}
 use Rattle.rules.specs.Common.{commonFrom}
 use Rattle.rules.specs.Plain.{atLeast, commonPages}
 use Rattle.rules.specs.Questions.{listsIn, wordsGood}
@@ -33,8 +33,8 @@ screenGood T r ts = leb 1 r && (leb r screenLimit && wordsGood T ts)
 unfoldable pub screenPages : ℕ → ℕ → List (List ℕ) → List ℕ
 screenPages b r ls = take r (atLeast b (commonPages ls))
 
-unfoldable pub screenCounts : ℕ → ℕ → ℕ → List (List ℕ) → List ℕ
-screenCounts N b r ls = commonFrom N ls b r .seeks ∷ (commonFrom N ls b r .looks ∷ [])
+unfoldable pub screenCounts : ℕ → ℕ → ℕ → ℕ → List (List ℕ) → List ℕ
+screenCounts v N b r ls = commonFrom v N ls b r .seeks ∷ (commonFrom v N ls b r .looks ∷ [])
 
 unfoldable pub isFull : ℕ → List ℕ → Bool
 isFull r ps = eqb (length ps) r
@@ -80,4 +80,4 @@ unfoldable pub screen : List ℕ → ℕ → ℕ → List ℕ → List ℕ → L
 screen s b r ts pages counts =
     cond (not (accepted (indexRefusal s))) (unshown (indexRefusal s) pages counts)
     (cond (not (screenGood (indexT s) r ts)) (unshown Question pages counts)
-    (showing r (screenPages b r (listsIn s ts)) (screenCounts (indexN s) b r (listsIn s ts)) pages counts))
+    (showing r (screenPages b r (listsIn s ts)) (screenCounts (indexV s) (indexN s) b r (listsIn s ts)) pages counts))

@@ -9,8 +9,9 @@
 --   placed b cs ps    the positions' elements; b is the first page's base
 --   places t          those of a word
 --   validWord N t     what the writer of a term asks, its refusal 10
---   termBlock N t     the block
---   writeTerm N t room  the writer of a term
+--   pagesForm v N t   the form of its pages in an index of version v [02 f]
+--   termBlock v N t   the block, in an index of version v
+--   writeTerm v N t room  the writer of a term
 --
 --   block, in bytes: 0 length (4) | 4 version (1) | 5 pages | counts | positions
 use mathlib.Core.Bool.{Bool, true, false, cond, not, _&&_}
@@ -18,10 +19,10 @@ use mathlib.Core.List.{List, [], _∷_, _++_}
 use Prim.Native.Nat.{ℕ, _+_, _-_}
 use lib.Dec.{ltb, leb, eqb}
 use lib.ListN.{length, take, drop}
-use Rattle.rules.specs.declared.Refusal.the-variants.{Limit, Lists}
-use Rattle.rules.specs.Limits.{limit, version}
+use Rattle.rules.specs.declared.Refusal.the-variants.{Version, Limit, Lists}
+use Rattle.rules.specs.Limits.{limit, version, lastEdition, upTo}
 use Rattle.rules.specs.Bytes.{sized}
-use Rattle.rules.specs.List.{rising, block}
+use Rattle.rules.specs.List.{rising, block, Form, formOf, formBlock}
 use Rattle.rules.specs.Write.{Made, refused, stored}
 
 pub record Word : Type 0 where
@@ -77,16 +78,20 @@ validWord N t =
     && (positive (t .counts)
     && (eqb (total (t .counts)) (length (t .positions)) && inOrderByPage (t .counts) (t .positions))))
 
-unfoldable pub termBlock : ℕ → Word → List ℕ
-termBlock N t =
+abbrev pub pagesForm : ℕ → ℕ → Word → Form
+pagesForm v N t = formOf v N (length (t .pages))
+
+unfoldable pub termBlock : ℕ → ℕ → Word → List ℕ
+termBlock v N t =
     sized (version ∷
-    (block N (t .pages)
+    (formBlock (pagesForm v N t) N (t .pages)
     ++ (block (total (t .counts)) (sums 0 (t .counts))
     ++ block (next 0 (places t)) (places t))))
 
-unfoldable pub writeTerm : ℕ → Word → List ℕ → Made
-writeTerm N t room =
-    cond (ltb limit N) (refused Limit room)
+unfoldable pub writeTerm : ℕ → ℕ → Word → List ℕ → Made
+writeTerm v N t room =
+    cond (not (upTo lastEdition v)) (refused Version room)
+    (cond (ltb limit N) (refused Limit room)
     (cond (not (validWord N t)) (refused Lists room)
     (cond (ltb limit (next 0 (places t))) (refused Limit room)
-    (stored (termBlock N t) room)))
+    (stored (termBlock v N t) room))))

@@ -19,8 +19,17 @@ pub const SCREEN_LIMIT: u32 = 64;
 // The first number that four bytes do not hold.
 pub const FOUR_BYTES: usize = 4294967296;
 
-// The version of every block.
+// The version of a term, and of a list in two runs.
 pub const VERSION: u8 = 1;
+
+// The version of a list that is a bitmap.
+pub const MAP_VERSION: u8 = 2;
+
+// The version of an index from which on dense pages are bitmaps.
+pub const MAP_EDITION: u32 = 2;
+
+// The versions of an index are 1 to this one.
+pub const LAST_EDITION: u32 = 2;
 
 // The byte of every block that holds its version, behind the length.
 pub const VERSION_AT: usize = 4;
@@ -37,7 +46,7 @@ pub const LIST_N_AT: usize = 9;
 // The bytes of a pointer.
 pub const POINTER_SIZE: usize = 4;
 
-// Pointer number i, from 1, starts POINTER_SIZE * i bytes behind this one.
+// Pointer number i, from 1, starts POINTER_SIZE * i bytes behind this one; so does number i of a bitmap.
 pub const POINTER_ZERO_AT: usize = 9;
 
 // The bytes below which a term is too short: length, version and three headers of lists.
@@ -91,11 +100,12 @@ pub struct Screened {
     pub next: u32,
 }
 
-// Where the writing of a word in runs stands: what was announced, and how far it is laid. `mark` is 1 while postings may
-// follow; `page` is the least page that may, and `base` the next page's [02 c].
+// Where the writing of a word in runs stands: what was announced, `version` being that of the index, and how far it is
+// laid. `mark` is 1 while postings may follow; `page` is the least page that may, and `base` the next page's [02 c].
 #[repr(C)]
 pub struct Stream {
     pub mark: u32,
+    pub version: u32,
     pub n: u32,
     pub pages: u32,
     pub positions: u32,

@@ -3,15 +3,15 @@
 use mathlib.Core.Bool.{Bool, true, false, cond, and-false}
 use mathlib.Core.Path.{_≡_, refl, sym, ap, _∙_}
 use mathlib.Core.List.{List, [], _∷_}
-use Prim.Native.Nat.{ℕ, zero, suc, _+_, _-_, _/_, _^_, _≤_, _<_}
+use Prim.Native.Nat.{ℕ, zero, suc, _+_, _-_, _≤_, _<_}
 use native.Mathlib.Nat.{add-zero, zero-add}
 use native.Mathlib.Decide.{decLe}
 use native.Mathlib.Omega.{arith}
 use borrow.Author.Tests.{le-leb, lt-leb, lt-ltb, le-ltb, eq-eqb, ne-eqb}
 use lib.Dec.{leb, eqb, eqb·zero-suc, eqb·suc-suc}
 use lib.ListN.{length, getD}
-use Rattle.rules.specs.List.{rising}
-use Rattle.rules.specs.Seek.{none, page, rankOf, walk}
+use Rattle.rules.specs.List.{rising, Form}
+use Rattle.rules.specs.Seek.{none, page, rankOf, placeIn, walk}
 use Rattle.rules.specs.Plain.{firstFrom, below}
 use Rattle.listlaws.proofs.RisingLaws.{rising-parts, rising-at, rising-gap}
 use Rattle.seeklaws.specs.Cursors.{firstAt, foundAt}
@@ -90,31 +90,35 @@ firstAt-self lo U xs r i h =
 -- ---- by a walk
 
 -- a walk that starts behind no element at least b ends at the first of them
-pub walk-first : (w start b i : ℕ) (xs : List ℕ)
-    → ((j : ℕ) → j < length xs → b ≤ getD xs j 0 → start ≤ getD xs j 0 / 2 ^ w + (i + j))
-    → walk w start b i xs ≡ i + firstAt b xs
+pub walk-first : (f : Form) (w start b i : ℕ) (xs : List ℕ)
+    → ((j : ℕ) → j < length xs → b ≤ getD xs j 0 → start ≤ placeIn f w (getD xs j 0) (i + j))
+    → walk f w start b i xs ≡ i + firstAt b xs
 unfolding walk firstAt
-walk-first w start b i [] a = sym (add-zero i)
-walk-first w start b i (x ∷ xs) a =
+walk-first f w start b i [] a = sym (add-zero i)
+walk-first f w start b i (x ∷ xs) a =
     elim (decLe b x) [
       | yes h ↦
-          let l : start ≤ x / 2 ^ w + i = omega (arith, a 0 (omega arith) h) in
-          rw (firstAt-here b x xs h, le-leb start (x / 2 ^ w + i) l, le-leb b x h, walk) (sym (add-zero i))
+          let l : start ≤ placeIn f w x i = rw (add-zero i) at (a 0 (omega arith) h) in
+          rw (firstAt-here b x xs h, le-leb start (placeIn f w x i) l, le-leb b x h, walk) (sym (add-zero i))
       | no h ↦
-          let ih = walk-first w start b (i + 1) xs (λ j l g. omega (arith, a (suc j) (omega arith) g)) in
+          let ih = walk-first f w start b (i + 1) xs (λ j l g. rw (add-suc i j) at (a (suc j) (omega arith) g)) in
           rw (
             firstAt-past b x xs (omega arith),
             lt-leb b x (omega arith),
-            and-false (leb start (x / 2 ^ w + i)),
+            and-false (leb start (placeIn f w x i)),
             walk,
           ) (ih ∙ omega arith)
     ]
+  where
+    add-suc : (i j : ℕ) → i + suc j ≡ i + 1 + j
+    add-suc i j = omega arith
 
 -- ---- by plain reading
 
 firstFrom-is : (b i : ℕ) (xs : List ℕ)
     → firstFrom b i xs
-    ≡ cond (eqb (firstAt b xs) (length xs)) (none (i + firstAt b xs)) (page (getD xs (firstAt b xs) 0) (i + firstAt b xs))
+    ≡ cond (eqb (firstAt b xs) (length xs)) (none (i + firstAt b xs))
+    (page (getD xs (firstAt b xs) 0) (i + firstAt b xs))
 unfolding firstFrom firstAt
 firstFrom-is b i [] = ap none (sym (add-zero i))
 firstFrom-is b i (x ∷ xs) =

@@ -1,4 +1,4 @@
--- Cursors on a list of pages, and seeks in turn on one cursor.
+-- Cursors on a list of pages in either form, and seeks in turn on one cursor.
 --
 --   firstAt b xs     the number of the first element at least b; the list's length where there is none
 --   foundAt xs i     the answer at element number i; none with all of them behind the last
@@ -7,12 +7,12 @@
 --   Placed xs c      a cursor on an element is on one of xs
 --   Moves xs c b     the cursor is fresh, or on an element below b: a seek for b does not stay
 --   Behind U xs c b  every element that the cursor has passed is below b
---   Ahead U xs b p   every element at least b has its bit at place p or after it
+--   Ahead f U xs b p every element at least b has its bit at place p or after it
 --   Answered xs b s  s found the first element at least b, and its cursor is there
---   reached U xs c   the word at which the cursor is; 0 if fresh, all of them if spent
---   seekBy jump U xs c b  the seek that reads pointer number i as jump i
---   answers U xs c bs     what seeks for the bounds bs in turn find
---   looksOver U xs c bs   and their looks in all
+--   reached f U xs c the word at which the cursor is; 0 if fresh, all of them if spent
+--   seekWith jump f U xs c b  the seek that takes jump b for the place to which b lets it jump
+--   answers f U xs c bs   what seeks for the bounds bs in turn find
+--   looksOver f U xs c bs and their looks in all
 --   firsts xs bs     the first element at least b, for each bound b, by plain reading
 --   neverDown b bs   whether the bounds bs never go down, from b on
 --   ranks fs         the number that each of the answers fs carries
@@ -20,10 +20,11 @@
 use mathlib.Core.Bool.{Bool, true, false, cond, _&&_, _||_}
 use mathlib.Core.Path.{_≡_}
 use mathlib.Core.List.{List, [], _∷_}
-use Prim.Native.Nat.{ℕ, suc, _+_, _/_, _^_, _≤_, _<_, max}
+use Prim.Native.Nat.{ℕ, suc, _+_, _/_, _≤_, _<_, max}
 use lib.Dec.{leb, eqb}
 use lib.ListN.{length, getD}
-use Rattle.rules.specs.Seek.{Cursor, fresh, on, spent, Found, none, page, Sought, widthOf}
+use Rattle.rules.specs.List.{Form}
+use Rattle.rules.specs.Seek.{Cursor, fresh, on, spent, Found, none, page, Sought}
 use Rattle.rules.specs.Seek.{rankOf, placeOf, upperWords, cursorBit, gone, arrived, walkFrom, seek}
 use Rattle.rules.specs.Plain.{firstFrom, below}
 
@@ -59,31 +60,31 @@ pub record Answered (xs : List ℕ) (b : ℕ) (s : Sought) : Type 0 where
   pub found : s .found ≡ firstFrom b 0 xs
   pub cursor : s .cursor ≡ cursorAt xs (firstAt b xs)
 
-abbrev pub Ahead : ℕ → List ℕ → ℕ → ℕ → Type 0
-Ahead U xs b p = (j : ℕ) → j < length xs → b ≤ getD xs j 0 → p ≤ placeOf U xs j
+abbrev pub Ahead : Form → ℕ → List ℕ → ℕ → ℕ → Type 0
+Ahead f U xs b p = (j : ℕ) → j < length xs → b ≤ getD xs j 0 → p ≤ placeOf f U xs j
 
-unfoldable pub reached : ℕ → List ℕ → Cursor → ℕ
-reached U xs fresh = 0
-reached U xs (on i) = placeOf U xs i / 64
-reached U xs spent = upperWords U xs
+unfoldable pub reached : Form → ℕ → List ℕ → Cursor → ℕ
+reached f U xs fresh = 0
+reached f U xs (on i) = placeOf f U xs i / 64
+reached f U xs spent = upperWords f U xs
 
-unfoldable pub moveBy : (ℕ → ℕ) → ℕ → List ℕ → Cursor → ℕ → Sought
-moveBy jump U xs c b =
+unfoldable pub moveWith : (ℕ → ℕ) → Form → ℕ → List ℕ → Cursor → ℕ → Sought
+moveWith jump f U xs c b =
     cond (eqb (length xs) 0 || leb U b) (gone xs 0)
-    (walkFrom U xs (max (cursorBit U xs c) (jump (b / 2 ^ widthOf U xs / 256))) b)
+    (walkFrom f U xs (max (cursorBit f U xs c) (jump b)) b)
 
-unfoldable pub seekBy : (ℕ → ℕ) → ℕ → List ℕ → Cursor → ℕ → Sought
-seekBy jump U xs fresh b = moveBy jump U xs fresh b
-seekBy jump U xs (on i) b = cond (leb b (getD xs i 0)) (arrived xs i 0) (moveBy jump U xs (on i) b)
-seekBy jump U xs spent b = gone xs 0
+unfoldable pub seekWith : (ℕ → ℕ) → Form → ℕ → List ℕ → Cursor → ℕ → Sought
+seekWith jump f U xs fresh b = moveWith jump f U xs fresh b
+seekWith jump f U xs (on i) b = cond (leb b (getD xs i 0)) (arrived xs i 0) (moveWith jump f U xs (on i) b)
+seekWith jump f U xs spent b = gone xs 0
 
-unfoldable pub answers : ℕ → List ℕ → Cursor → List ℕ → List Found
-answers U xs c [] = []
-answers U xs c (b ∷ bs) = seek U xs c b .found ∷ answers U xs (seek U xs c b .cursor) bs
+unfoldable pub answers : Form → ℕ → List ℕ → Cursor → List ℕ → List Found
+answers f U xs c [] = []
+answers f U xs c (b ∷ bs) = seek f U xs c b .found ∷ answers f U xs (seek f U xs c b .cursor) bs
 
-unfoldable pub looksOver : ℕ → List ℕ → Cursor → List ℕ → ℕ
-looksOver U xs c [] = 0
-looksOver U xs c (b ∷ bs) = seek U xs c b .looks + looksOver U xs (seek U xs c b .cursor) bs
+unfoldable pub looksOver : Form → ℕ → List ℕ → Cursor → List ℕ → ℕ
+looksOver f U xs c [] = 0
+looksOver f U xs c (b ∷ bs) = seek f U xs c b .looks + looksOver f U xs (seek f U xs c b .cursor) bs
 
 unfoldable pub firsts : List ℕ → List ℕ → List Found
 firsts xs [] = []

@@ -1,12 +1,12 @@
 -- Laws of the announcement, one for each answer, and what an accepted one tells.
-use mathlib.Core.Bool.{Bool, true, false, cond, _&&_, _||_}
+use mathlib.Core.Bool.{Bool, true, false, cond, not, _&&_, _||_}
 use mathlib.Core.Path.{_≡_, refl, sym, ap, _∙_}
 use Prim.Native.Nat.{ℕ, zero, suc, _≤_, _<_}
 use native.Mathlib.Omega.{arith}
 use borrow.Author.Tests.{lt-ltb, le-ltb, ltb-false, ne-eqb}
 use lib.Dec.{ltb, eqb, lit<}
-use Rattle.rules.specs.declared.Refusal.the-variants.{Accepted, Limit, Lists}
-use Rattle.rules.specs.Limits.{limit}
+use Rattle.rules.specs.declared.Refusal.the-variants.{Accepted, Version, Limit, Lists}
+use Rattle.rules.specs.Limits.{limit, lastEdition, upTo}
 use Rattle.rules.specs.Stream.{announceRefusal}
 use Rattle.laws.proofs.RefusalLaws.{test-passed, or-parts}
 use Rattle.sessionlaws.specs.Session.{Announced}
@@ -35,12 +35,16 @@ hollow-free zero Q U a b h =
     rw (u, q)
 hollow-free (suc P) Q U a b h = rw (ne-eqb (suc P) 0 (λ e. omega arith), ne-eqb Q 0 (λ e. omega arith))
 
-module _ (N P Q U : ℕ) where
-  pub announced-parts : announceRefusal N P Q U ≡ Accepted → Announced N P Q U
+module _ (v N P Q U : ℕ) where
+  abbrev rest : Bool
+  rest = ltb N P || (ltb Q P || (ltb U Q || hollow P Q U))
+
+  pub announced-parts : announceRefusal v N P Q U ≡ Accepted → Announced N P Q U
   unfolding announceRefusal
   announced-parts e =
-      let rest : Bool = ltb N P || (ltb Q P || (ltb U Q || hollow P Q U)) in
-      let a = test-passed (ltb limit N || ltb limit U) Limit (cond rest Lists Accepted) (lit< tt) e in
+      let z = test-passed (not (upTo lastEdition v)) Version
+      (cond (ltb limit N || ltb limit U) Limit (cond rest Lists Accepted)) (lit< tt) e in
+      let a = test-passed (ltb limit N || ltb limit U) Limit (cond rest Lists Accepted) (lit< tt) (z .1) in
       let l = or-parts (ltb limit N) (ltb limit U) (a .0) in
       let b = test-passed rest Lists Accepted (lit< tt) (a .1) in
       let c = or-parts (ltb N P) (ltb Q P || (ltb U Q || hollow P Q U)) (b .0) in
@@ -56,45 +60,43 @@ module _ (N P Q U : ℕ) where
       }
 
   -- the answers
-  pub announce-limit : limit < N → announceRefusal N P Q U ≡ Limit
+  pub announce-version : upTo lastEdition v ≡ false → announceRefusal v N P Q U ≡ Version
   unfolding announceRefusal
-  announce-limit h = rw (lt-ltb limit N h)
+  announce-version e = rw e
 
-  module _ (within : N ≤ limit) where
-    pub announce-reach : limit < U → announceRefusal N P Q U ≡ Limit
+  module _ (known : upTo lastEdition v ≡ true) where
+    pub announce-limit : limit < N → announceRefusal v N P Q U ≡ Limit
     unfolding announceRefusal
-    announce-reach h = rw (le-ltb limit N within, lt-ltb limit U h)
+    announce-limit h = rw (known, lt-ltb limit N h)
 
-    module _ (reach : U ≤ limit) where
-      pub announce-pages : N < P → announceRefusal N P Q U ≡ Lists
+    module _ (within : N ≤ limit) where
+      pub announce-reach : limit < U → announceRefusal v N P Q U ≡ Limit
       unfolding announceRefusal
-      announce-pages h = rw (le-ltb limit N within, le-ltb limit U reach, lt-ltb N P h)
+      announce-reach h = rw (known, le-ltb limit N within, lt-ltb limit U h)
 
-      module _ (pages : P ≤ N) where
-        pub announce-counts : Q < P → announceRefusal N P Q U ≡ Lists
+      module _ (reach : U ≤ limit) where
+        limits : announceRefusal v N P Q U ≡ cond rest Lists Accepted
         unfolding announceRefusal
-        announce-counts h =
-            rw (le-ltb limit N within, le-ltb limit U reach, le-ltb N P pages, lt-ltb Q P h)
+        limits = rw (known, le-ltb limit N within, le-ltb limit U reach)
 
-        module _ (counts : P ≤ Q) where
-          pub announce-positions : U < Q → announceRefusal N P Q U ≡ Lists
-          unfolding announceRefusal
-          announce-positions h =
-              rw (le-ltb limit N within, le-ltb limit U reach, le-ltb N P pages, le-ltb Q P counts, lt-ltb U Q h)
+        pub announce-pages : N < P → announceRefusal v N P Q U ≡ Lists
+        announce-pages h = limits ∙ rw (lt-ltb N P h)
 
-          module _ (positions : Q ≤ U) where
-            last : announceRefusal N P Q U ≡ cond (hollow P Q U) Lists Accepted
-            unfolding announceRefusal
-            last = rw (
-              le-ltb limit N within,
-              le-ltb limit U reach,
-              le-ltb N P pages,
-              le-ltb Q P counts,
-              le-ltb U Q positions,
-            )
+        module _ (pages : P ≤ N) where
+          pub announce-counts : Q < P → announceRefusal v N P Q U ≡ Lists
+          announce-counts h = limits ∙ rw (le-ltb N P pages, lt-ltb Q P h)
 
-            pub announce-none : P ≡ 0 → 0 < U → announceRefusal N P Q U ≡ Lists
-            announce-none e h = last ∙ ap (λ (b : Bool). cond b Lists Accepted) (hollow-some P Q U e h)
+          module _ (counts : P ≤ Q) where
+            pub announce-positions : U < Q → announceRefusal v N P Q U ≡ Lists
+            announce-positions h = limits ∙ rw (le-ltb N P pages, le-ltb Q P counts, lt-ltb U Q h)
 
-            pub announce-accepted : (P ≡ 0 → U ≡ 0) → announceRefusal N P Q U ≡ Accepted
-            announce-accepted h = last ∙ ap (λ (b : Bool). cond b Lists Accepted) (hollow-free P Q U counts positions h)
+            module _ (positions : Q ≤ U) where
+              last : announceRefusal v N P Q U ≡ cond (hollow P Q U) Lists Accepted
+              last = limits ∙ rw (le-ltb N P pages, le-ltb Q P counts, le-ltb U Q positions)
+
+              pub announce-none : P ≡ 0 → 0 < U → announceRefusal v N P Q U ≡ Lists
+              announce-none e h = last ∙ ap (λ (b : Bool). cond b Lists Accepted) (hollow-some P Q U e h)
+
+              pub announce-accepted : (P ≡ 0 → U ≡ 0) → announceRefusal v N P Q U ≡ Accepted
+              announce-accepted h =
+                  last ∙ ap (λ (b : Bool). cond b Lists Accepted) (hollow-free P Q U counts positions h)

@@ -12,16 +12,17 @@ use Rattle.rules.specs.declared.Stream.{Stream}
 use Rattle.rules.specs.declared.Streamed.{Streamed}
 use Rattle.rules.specs.Refusal.{accepted}
 use Rattle.rules.specs.Write.{laid}
-use Rattle.rules.specs.InPlace.{from, pointed}
-use Rattle.rules.specs.Stream.{announceRefusal, streamSize, announced, opened, over, live, complete}
+use Rattle.rules.specs.List.{formOf}
+use Rattle.rules.specs.InPlace.{from, pointed, formPointed}
+use Rattle.rules.specs.Stream.{announceRefusal, streamSize, announced, opened, over, live, streamForm, secondAt}
+use Rattle.rules.specs.Stream.{thirdAt, complete}
 use Rattle.rules.specs.Stream.{streaming, goes, sizeOf, spoilt, beginTerm, pointedWord, endTerm}
 use Rattle.laws.proofs.RefusalLaws.{true-accepted}
-use Rattle.filllaws.proofs.WriteLaws.{u-of, n-of}
 use Rattle.sessionlaws.specs.declared.Layout.{Layout}
 use Rattle.sessionlaws.specs.Session.{Announced}
 use Rattle.sessionlaws.specs.Layout.{layoutOf}
 use Rattle.sessionlaws.proofs.LiveLaws.{going-dead, going-short, going-on}
-use Rattle.sessionlaws.proofs.LayoutLaws.{counts-are, layout-tells, second-is, third-is}
+use Rattle.sessionlaws.proofs.LayoutLaws.{counts-tell, layout-tells, second-is, third-is}
 
 -- a result by its fields, and the room after it
 pub streamed-is : (r : Streamed) (after : List ℕ) (q : Refusal) (n : ℕ) (s : Stream) (room : List ℕ)
@@ -29,24 +30,24 @@ pub streamed-is : (r : Streamed) (after : List ℕ) (q : Refusal) (n : ℕ) (s :
     → streaming r after ≡ record { refusal = q; size = n; stream = s; room = room }
 streamed-is r after q n s room (a, b, c) e = rw (a, b, c, e)
 
-module _ (N P Q U : ℕ) (room : List ℕ) where
-  pub begin-refused : accepted (announceRefusal N P Q U) ≡ false
-      → beginTerm N P Q U room ≡ goes (announceRefusal N P Q U) over room
+module _ (v N P Q U : ℕ) (room : List ℕ) where
+  pub begin-refused : accepted (announceRefusal v N P Q U) ≡ false
+      → beginTerm v N P Q U room ≡ goes (announceRefusal v N P Q U) over room
   unfolding beginTerm
   begin-refused e = rw e
 
-  module _ (told : announceRefusal N P Q U ≡ Accepted) where
-    passes : accepted (announceRefusal N P Q U) ≡ true
-    passes = true-accepted (announceRefusal N P Q U) told
+  module _ (told : announceRefusal v N P Q U ≡ Accepted) where
+    passes : accepted (announceRefusal v N P Q U) ≡ true
+    passes = true-accepted (announceRefusal v N P Q U) told
 
-    pub begin-short : length room < streamSize N P Q U → beginTerm N P Q U room ≡ goes Room over room
+    pub begin-short : length room < streamSize v N P Q U → beginTerm v N P Q U room ≡ goes Room over room
     unfolding beginTerm
-    begin-short h = rw (passes, lt-ltb (length room) (streamSize N P Q U) h)
+    begin-short h = rw (passes, lt-ltb (length room) (streamSize v N P Q U) h)
 
-    pub begin-opened : streamSize N P Q U ≤ length room
-        → beginTerm N P Q U room ≡ goes Accepted (opened N P Q U) (laid (announced N P Q U) room)
+    pub begin-opened : streamSize v N P Q U ≤ length room
+        → beginTerm v N P Q U room ≡ goes Accepted (opened v N P Q U) (laid (announced v N P Q U) room)
     unfolding beginTerm
-    begin-opened h = rw (passes, le-ltb (length room) (streamSize N P Q U) h)
+    begin-opened h = rw (passes, le-ltb (length room) (streamSize v N P Q U) h)
 
 -- ---- whether all is laid
 
@@ -91,21 +92,22 @@ module _ (s : Stream) (room : List ℕ) where
 
   -- the pointers, by the layout of what was announced
   pub pointed-told : Announced (s .n) (s .pages) (s .positions) (s .u) → (g : Layout)
-      → g ≡ layoutOf (s .n) (s .pages) (s .positions) (s .u)
+      → g ≡ layoutOf (s .version) (s .n) (s .pages) (s .positions) (s .u)
       → from (g .third) (pointed (g .positions .u) (g .positions .n))
-      (from (g .second) (pointed (g .counts .u) (g .counts .n)) (from 5 (pointed (g .pages .u) (g .pages .n)) room))
+      (from (g .second) (pointed (g .counts .u) (g .counts .n))
+      (from 5 (formPointed (formOf (s .version) (g .pages .u) (g .pages .n)) (g .pages .u) (g .pages .n)) room))
       ≡ pointedWord s room
-  unfolding pointedWord
+  unfolding pointedWord streamForm secondAt thirdAt
   pointed-told a g e =
-      let (n, p, q, u) = layout-tells (s .n) (s .pages) (s .positions) (s .u) a g e in
-      let c = counts-are (s .n) (s .pages) (s .positions) (s .u) a g e in
+      let (n, p, q, u) = layout-tells (s .version) (s .n) (s .pages) (s .positions) (s .u) a g e in
+      let c = counts-tell (s .version) (s .n) (s .pages) (s .positions) (s .u) a g e in
       rw (
         n,
         p,
         q,
         u,
-        u-of (s .positions) (s .pages) (g .counts) c,
-        n-of (s .positions) (s .pages) (g .counts) c,
-        second-is (s .n) (s .pages) (s .positions) (s .u) a g e,
-        third-is (s .n) (s .pages) (s .positions) (s .u) a g e,
+        c .0,
+        c .1,
+        second-is (s .version) (s .n) (s .pages) (s .positions) (s .u) a g e,
+        third-is (s .version) (s .n) (s .pages) (s .positions) (s .u) a g e,
       )

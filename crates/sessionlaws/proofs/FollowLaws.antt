@@ -107,7 +107,8 @@ module _ (s : Stream) (t : Word) (within : s .u ≤ limit) (k : ℕ) (told : k �
   same-test : leb (s .base + k) (s .u) ≡ leb (s .base + all) (s .u)
   same-test =
       elim (decLt limit all) [
-        | yes h ↦ lt-leb (s .base + k) (s .u) (omega (arith, reach-is)) ∙ sym (lt-leb (s .base + all) (s .u) (omega arith))
+        | yes h ↦ lt-leb (s .base + k) (s .u) (omega (arith, reach-is))
+            ∙ sym (lt-leb (s .base + all) (s .u) (omega arith))
         | no h ↦
             let e : k ≡ all = omega (arith, reach-is) in
             ap (λ (n : ℕ). leb (s .base + n) (s .u)) e

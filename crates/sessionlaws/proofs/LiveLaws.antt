@@ -28,7 +28,7 @@ and-true false = refl
 module _ (s : Stream) where
   -- the refusal of what was announced
   abbrev refusal : Refusal
-  refusal = announceRefusal (s .n) (s .pages) (s .positions) (s .u)
+  refusal = announceRefusal (s .version) (s .n) (s .pages) (s .positions) (s .u)
 
   pub live-parts : live s ≡ true → Live s
   unfolding live
@@ -41,7 +41,7 @@ module _ (s : Stream) where
       record {
         marked = eqb-true (s .mark) 1 (a .0);
         accepts = r;
-        announced = announced-parts (s .n) (s .pages) (s .positions) (s .u) r;
+        announced = announced-parts (s .version) (s .n) (s .pages) (s .positions) (s .u) r;
         laid-le = leb-true (s .laid) (s .pages) (c .0);
         filled-le = leb-true (s .filled) (s .positions) (c .1);
       }

@@ -11,24 +11,23 @@ use lib.ListN.{length, getD, replicate}
 use Rattle.rules.specs.declared.Refusal.the-variants.{Accepted, Room, Lists}
 use Rattle.rules.specs.declared.Stream.{Stream}
 use Rattle.rules.specs.Limits.{limit}
-use Rattle.rules.specs.List.{rising}
+use Rattle.rules.specs.List.{rising, Form, formOf}
 use Rattle.rules.specs.Write.{laid}
 use Rattle.rules.specs.Term.{Word, total, sums, next, raised, placed, positive, inOrderByPage, validWord}
-use Rattle.rules.specs.InPlace.{from, added}
-use Rattle.rules.specs.Stream.{over, live, follows, addedWord, advanced, goes, sizeOf, spoilt, putPostings}
+use Rattle.rules.specs.InPlace.{from, added, formAdded}
+use Rattle.rules.specs.Stream.{over, live, streamForm, secondAt, thirdAt, follows, addedWord, advanced, goes, sizeOf}
+use Rattle.rules.specs.Stream.{spoilt, putPostings}
 use Rattle.listlaws.proofs.RisingLaws.{and-parts, rising-parts}
 use Rattle.termlaws.proofs.WordLaws.{valid-agreeing}
-use Rattle.shape.specs.Shape.{shapeOf}
-use Rattle.filllaws.proofs.WriteLaws.{u-of, n-of}
 use Rattle.wordlaws.proofs.LayLaws.{positive-at}
-use Rattle.addlaws.specs.Adding.{Slot}
-use Rattle.addlaws.proofs.MoreLaws.{raised-zero, placed-rise, list-one, total-one, sums-one, placed-one}
+use Rattle.addlaws.specs.Adding.{SlotAs, Slot}
+use Rattle.addlaws.proofs.MoreLaws.{placed-rise, list-one, total-one, sums-one, placed-one}
 use Rattle.sessionlaws.specs.declared.Layout.{Layout}
 use Rattle.sessionlaws.specs.Layout.{Housed}
 use Rattle.sessionlaws.specs.Session.{Live}
 use Rattle.sessionlaws.specs.Follow.{Following, Laying, stepped}
 use Rattle.sessionlaws.proofs.LiveLaws.{live-parts, going-dead, going-short, going-on}
-use Rattle.sessionlaws.proofs.LayoutLaws.{counts-are, layout-tells, second-is, third-is, housed}
+use Rattle.sessionlaws.proofs.LayoutLaws.{counts-tell, layout-tells, second-is, third-is, housed}
 use Rattle.sessionlaws.proofs.LayoutLaws.{house-pages, house-counts}
 
 pub following : (s : Stream) (t : Word) → follows s t ≡ true → Following s t
@@ -56,20 +55,15 @@ module _ {g : Layout} {s : Stream} {t : Word} {room : List ℕ} (l : Laying g s 
   pub run-follows : Following s t
   run-follows = following s t (l .may)
 
-  pub laying-house : Housed g room
-  laying-house = housed (s .n) (s .pages) (s .positions) (s .u) (lives .accepts) g (l .layout) room (l .fits)
-
-  counts-shape : g .counts ≡ shapeOf (s .positions) (s .pages)
-  counts-shape = counts-are (s .n) (s .pages) (s .positions) (s .u) (lives .announced) g (l .layout)
+  pub laying-house : Housed (s .version) g room
+  laying-house =
+      housed (s .version) (s .n) (s .pages) (s .positions) (s .u) (lives .accepts) g (l .layout) room (l .fits)
 
   tells : (g .pages .u ≡ s .n) × (g .pages .n ≡ s .pages) × (g .positions .n ≡ s .positions) × (g .positions .u ≡ s .u)
-  tells = layout-tells (s .n) (s .pages) (s .positions) (s .u) (lives .announced) g (l .layout)
+  tells = layout-tells (s .version) (s .n) (s .pages) (s .positions) (s .u) (lives .announced) g (l .layout)
 
-  counts-u : g .counts .u ≡ s .positions
-  counts-u = u-of (s .positions) (s .pages) (g .counts) counts-shape
-
-  counts-n : g .counts .n ≡ s .pages
-  counts-n = n-of (s .positions) (s .pages) (g .counts) counts-shape
+  counts-told : (g .counts .u ≡ s .positions) × (g .counts .n ≡ s .pages)
+  counts-told = counts-tell (s .version) (s .n) (s .pages) (s .positions) (s .u) (lives .announced) g (l .layout)
 
   -- the session behind them
   pub advanced-told : (b : ℕ) → b ≡ next (s .base) (placed (s .base) (t .counts) (t .positions))
@@ -80,18 +74,20 @@ module _ {g : Layout} {s : Stream} {t : Word} {room : List ℕ} (l : Laying g s 
   pub ask-advance : (rising 0 (s .n) (t .pages) ≡ true) × (s .n ≤ limit) × (s .u ≤ limit)
   ask-advance = (run-follows .agreeing .rises, lives .announced .within, lives .announced .reach)
 
-  pub ask-pages : (s .laid + length (t .pages) ≤ g .pages .n) × (rising 0 (g .pages .u) (raised 0 (t .pages)) ≡ true)
-  ask-pages =
-      let r = run-follows .agreeing .rises in
-      (omega (arith, run-follows .pages, tells), rw (raised-zero (t .pages), tells .0) r)
+  pub ask-pages : (s .laid + length (t .pages) ≤ g .pages .n) × (rising 0 (g .pages .u) (t .pages) ≡ true)
+  ask-pages = (omega (arith, run-follows .pages, tells), rw (tells .0) (run-follows .agreeing .rises))
+
+  -- the pages' form
+  abbrev form : Form
+  form = formOf (s .version) (g .pages .u) (g .pages .n)
 
   pub ask-counts : (s .laid + length (t .counts) ≤ g .counts .n) × (positive (t .counts) ≡ true)
       × (s .filled + total (t .counts) ≤ g .counts .u)
   ask-counts =
       let a = run-follows .agreeing in (
-        omega (arith, run-follows .pages, a .lengths, counts-n),
+        omega (arith, run-follows .pages, a .lengths, counts-told),
         a .counted,
-        omega (arith, run-follows .positions, a .summed, counts-u),
+        omega (arith, run-follows .positions, a .summed, counts-told),
       )
 
   pub ask-places : (s .filled + length (t .positions) ≤ g .positions .n) × (total (t .counts) ≡ length (t .positions))
@@ -109,19 +105,18 @@ module _ {g : Layout} {s : Stream} {t : Word} {room : List ℕ} (l : Laying g s 
   pub added-told : from (g .third)
       (added (g .positions .u) (g .positions .n) (s .filled) (placed (s .base) (t .counts) (t .positions)))
       (from (g .second) (added (g .counts .u) (g .counts .n) (s .laid) (sums (s .filled) (t .counts)))
-      (from 5 (added (g .pages .u) (g .pages .n) (s .laid) (raised 0 (t .pages))) room))
+      (from 5 (formAdded form (g .pages .u) (g .pages .n) (s .laid) (t .pages)) room))
       ≡ addedWord s t room
-  unfolding addedWord
+  unfolding addedWord streamForm secondAt thirdAt
   added-told = rw (
-    raised-zero (t .pages),
     tells .0,
     tells .1,
     tells .2,
     tells .3,
-    counts-u,
-    counts-n,
-    second-is (s .n) (s .pages) (s .positions) (s .u) (lives .announced) g (l .layout),
-    third-is (s .n) (s .pages) (s .positions) (s .u) (lives .announced) g (l .layout),
+    counts-told .0,
+    counts-told .1,
+    second-is (s .version) (s .n) (s .pages) (s .positions) (s .u) (lives .announced) g (l .layout),
+    third-is (s .version) (s .n) (s .pages) (s .positions) (s .u) (lives .announced) g (l .layout),
   )
 
 -- ---- the lists of one page
@@ -139,12 +134,12 @@ module _ {g : Layout} {s : Stream} {t : Word} {room : List ℕ} (l : Laying g s 
         counts-one,
         positive-at (t .counts) (a .1) 0 (omega (arith, counts-one)),
         omega (arith, total-one (t .counts) counts-one, a .2),
-        omega (arith, counts-u l, lives l .announced .positions, lives l .announced .reach),
+        omega (arith, counts-told l, lives l .announced .positions, lives l .announced .reach),
       )
 
   -- the block has a place for the page, and for the sum less 1
   pub page-slot : (r : List ℕ) → length r ≡ length room - 5
-      → Slot (g .pages .lower) (g .pages .upper) (g .pages .w) (s .laid) (getD (t .pages) 0 0) r (g .pages)
+      → SlotAs (form l) (g .pages .lower) (g .pages .upper) (g .pages .w) (s .laid) (getD (t .pages) 0 0) r (g .pages)
   page-slot r h = record {
     fitting = house-pages (laying-house l) r h;
     lower-is = refl;
@@ -152,7 +147,7 @@ module _ {g : Layout} {s : Stream} {t : Word} {room : List ℕ} (l : Laying g s 
     width-is = refl;
     number = omega (arith, ask-pages l .0);
     below = rising-parts 0 (g .pages .u) (getD (t .pages) 0 0) []
-        (rw (raised-zero (t .pages) ∙ list-one (t .pages) one) at (ask-pages l .1)) .1;
+        (rw (list-one (t .pages) one) at (ask-pages l .1)) .1;
   }
 
   pub sum-slot : (r : List ℕ) → length r ≡ length room - g .second
@@ -179,12 +174,12 @@ module _ {g : Layout} {s : Stream} {t : Word} {room : List ℕ} (l : Laying g s 
   pub one-told : from (g .third)
       (added (g .positions .u) (g .positions .n) (s .filled) (raised (s .base) (t .positions)))
       (from (g .second) (added (g .counts .u) (g .counts .n) (s .laid) ((s .filled + getD (t .counts) 0 0 - 1) ∷ []))
-      (from 5 (added (g .pages .u) (g .pages .n) (s .laid) (getD (t .pages) 0 0 ∷ [])) room))
+      (from 5 (formAdded (form l) (g .pages .u) (g .pages .n) (s .laid) (getD (t .pages) 0 0 ∷ [])) room))
       ≡ addedWord s t room
   one-told = rw (
     sym placed-are,
     sym (sums-one (s .filled) (t .counts) counts-one),
-    sym (raised-zero (t .pages) ∙ list-one (t .pages) one),
+    sym (list-one (t .pages) one),
   ) (added-told l)
 
 -- ---- the call

@@ -36,7 +36,7 @@ pub record Following (s : Stream) (t : Word) : Type 0 where
   pub ends : next (s .base) (placed (s .base) (t .counts) (t .positions)) ≤ s .u
 
 pub record Laying (g : Layout) (s : Stream) (t : Word) (room : List ℕ) : Type 0 where
-  pub layout : g ≡ layoutOf (s .n) (s .pages) (s .positions) (s .u)
+  pub layout : g ≡ layoutOf (s .version) (s .n) (s .pages) (s .positions) (s .u)
   pub goes-on : live s ≡ true
   pub may : follows s t ≡ true
   pub fits : g .size ≤ length room
@@ -44,6 +44,7 @@ pub record Laying (g : Layout) (s : Stream) (t : Word) (room : List ℕ) : Type 
 unfoldable pub stepped : Stream → List ℕ → List ℕ → ℕ → Stream
 stepped s ps qs b = record {
   mark = s .mark;
+  version = s .version;
   n = s .n;
   pages = s .pages;
   positions = s .positions;

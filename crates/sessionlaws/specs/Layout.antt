@@ -1,27 +1,61 @@
 -- The block that a session writes [02 c].
 --
---   layoutOf N P Q U  the shapes of its lists and their places, for the announcement of N, P pages, Q positions and U
---   Housed g room     g is the layout that an accepted announcement gives, and the room holds its block
+--   layoutOf v N P Q U  the shapes of its lists and their places, for the announcement of N, P pages, Q positions and U
+--                     in an index of version v
+--   Announcing p Q U  p is the shape of the pages of an accepted announcement of Q positions whose elements end at U
+--   LaidOut p Q U g   g is the layout of such an announcement, whatever its version
+--   Housed v g room   g is the layout that an accepted announcement gives, and the room holds its block
+--   Roomed g room     it is for some version
+--   FramesPut g d e   e is d with the block of which no element is laid, whatever the version
+--   ListsPointed g d e  e is d with the pointers of the three lists, or a bitmap's numbers, whatever the version
 use mathlib.Core.Path.{_≡_}
 use mathlib.Core.List.{List}
 use Prim.Native.Nat.{ℕ, _≤_}
 use lib.ListN.{length}
 use Rattle.rules.specs.declared.Refusal.the-variants.{Accepted}
-use Rattle.rules.specs.Stream.{announceRefusal, countsAt, positionsAt, streamSize}
-use Rattle.shape.specs.Shape.{shapeOf}
+use Rattle.rules.specs.List.{formOf}
+use Rattle.rules.specs.Write.{laid}
+use Rattle.rules.specs.InPlace.{from, pointed, formPointed}
+use Rattle.rules.specs.Stream.{announceRefusal, countsAt, positionsAt, streamSize, announced}
+use Rattle.shape.specs.declared.Shape.{Shape}
+use Rattle.shape.specs.Shape.{shapeOf, formShape}
 use Rattle.sessionlaws.specs.declared.Layout.{Layout}
 
-unfoldable pub layoutOf : ℕ → ℕ → ℕ → ℕ → Layout
-layoutOf N P Q U = record {
-  pages = shapeOf N P;
+unfoldable pub layoutOf : ℕ → ℕ → ℕ → ℕ → ℕ → Layout
+layoutOf v N P Q U = record {
+  pages = formShape (formOf v N P) N P;
   counts = shapeOf Q P;
   positions = shapeOf U Q;
-  second = countsAt N P;
-  third = positionsAt N P Q;
-  size = streamSize N P Q U;
+  second = countsAt v N P;
+  third = positionsAt v N P Q;
+  size = streamSize v N P Q U;
 }
 
-pub record Housed (g : Layout) (room : List ℕ) : Type 0 where
-  pub shape : g ≡ layoutOf (g .pages .u) (g .pages .n) (g .positions .n) (g .positions .u)
-  pub accepts : announceRefusal (g .pages .u) (g .pages .n) (g .positions .n) (g .positions .u) ≡ Accepted
+pub record Announcing (p : Shape) (Q U : ℕ) : Type 0 where
+  pub version : ℕ
+  pub n : ℕ
+  pub pages : ℕ
+  pub shape : p ≡ formShape (formOf version n pages) n pages
+  pub accepts : announceRefusal version n pages Q U ≡ Accepted
+
+abbrev pub LaidOut : Shape → ℕ → ℕ → Layout → Type 0
+LaidOut p Q U g = (v N P : ℕ) → p ≡ formShape (formOf v N P) N P → g ≡ layoutOf v N P Q U
+
+pub record Housed (v : ℕ) (g : Layout) (room : List ℕ) : Type 0 where
+  pub shape : g ≡ layoutOf v (g .pages .u) (g .pages .n) (g .positions .n) (g .positions .u)
+  pub accepts : announceRefusal v (g .pages .u) (g .pages .n) (g .positions .n) (g .positions .u) ≡ Accepted
   pub fits : g .size ≤ length room
+
+pub record Roomed (g : Layout) (room : List ℕ) : Type 0 where
+  pub version : ℕ
+  pub house : Housed version g room
+
+abbrev pub FramesPut : Layout → List ℕ → List ℕ → Type 0
+FramesPut g d e = (v : ℕ) → Housed v g d
+    → e ≡ laid (announced v (g .pages .u) (g .pages .n) (g .positions .n) (g .positions .u)) d
+
+abbrev pub ListsPointed : Layout → List ℕ → List ℕ → Type 0
+ListsPointed g d e = (v : ℕ) → Housed v g d
+    → e ≡ from (g .third) (pointed (g .positions .u) (g .positions .n))
+    (from (g .second) (pointed (g .counts .u) (g .counts .n))
+    (from 5 (formPointed (formOf v (g .pages .u) (g .pages .n)) (g .pages .u) (g .pages .n)) d))

@@ -19,7 +19,7 @@ pub record Announced (N P Q U : ℕ) : Type 0 where
 
 pub record Live (s : Stream) : Type 0 where
   pub marked : s .mark ≡ 1
-  pub accepts : announceRefusal (s .n) (s .pages) (s .positions) (s .u) ≡ Accepted
+  pub accepts : announceRefusal (s .version) (s .n) (s .pages) (s .positions) (s .u) ≡ Accepted
   pub announced : Announced (s .n) (s .pages) (s .positions) (s .u)
   pub laid-le : s .laid ≤ s .pages
   pub filled-le : s .filled ≤ s .positions

@@ -5,20 +5,23 @@ ghost use mathlib.Core.Path.{_≡_};
 ghost use Prim.Native.Nat.{_≤_};
 ghost use lib.ListN.{length, replicate};
 ghost use Rattle.rules.specs.Write.{laid};
-ghost use Rattle.rules.specs.declared.Refusal.the-variants.{Accepted};
 ghost use Rattle.rules.specs.Stream.{announceRefusal, live, over};
-ghost use Rattle.sessionlaws.specs.Layout.{layoutOf};
+ghost use Rattle.sessionlaws.specs.Layout.{layoutOf, Announcing, LaidOut};
 use rules::LIMIT;
 use rules::LISTS_AT;
 use rules::Refusal;
 use rules::Stream;
 use rules::Streamed;
 use sessionlaws::Layout;
+use shape::Shape;
 
 // The refusal of an announcement, before room.
-pub fn announce(n: usize, pages: usize, positions: usize, u: usize) -> Refusal
-    ensures { λ r. ⌜ r ≡ announceRefusal n pages positions u ⌝ }
+pub fn announce(version: u32, n: usize, pages: usize, positions: usize, u: usize) -> Refusal
+    ensures { λ r. ⌜ r ≡ announceRefusal version n pages positions u ⌝ }
 {
+    if !parts::known(version) {
+        return Refusal::Version;
+    }
     if LIMIT < n {
         return Refusal::Limit;
     }
@@ -56,6 +59,7 @@ pub fn is_live(s: Stream) -> bool
         return false;
     }
     parts::passed(announce(
+        s.version,
         s.n as usize,
         s.pages as usize,
         s.positions as usize,
@@ -63,13 +67,13 @@ pub fn is_live(s: Stream) -> bool
     ))
 }
 
-// The block that an announcement gives.
-pub fn layout(n: usize, pages: usize, positions: usize, u: usize) -> Layout
-    requires { ⌜ announceRefusal n pages positions u ≡ Accepted ⌝ }
-    ensures { λ r. ⌜ r ≡ layoutOf n pages positions u ⌝ }
+// The block that an announcement gives, whose pages have that shape: with the shape worked out apart both parts are
+// small enough to be compiled into a call that keeps the layout in registers.
+pub fn layout(first: Shape, positions: usize, u: usize) -> Layout
+    requires { ⌜ Announcing first positions u ⌝ }
+    ensures { λ r. ⌜ LaidOut first positions u r ⌝ }
 {
-    let first = shape::shape_of(n, pages);
-    let counts = shape::shape_of(positions, pages);
+    let counts = shape::shape_of(positions, first.n);
     let last = shape::shape_of(u, positions);
     let second = LISTS_AT + first.end;
     let third = second + counts.end;
@@ -86,14 +90,10 @@ pub fn layout(n: usize, pages: usize, positions: usize, u: usize) -> Layout
 // The block that a session writes.
 pub fn layout_of(s: Stream) -> Layout
     requires { ⌜ live s ≡ true ⌝ }
-    ensures { λ r. ⌜ r ≡ layoutOf (s .n) (s .pages) (s .positions) (s .u) ⌝ }
+    ensures { λ r. ⌜ r ≡ layoutOf (s .version) (s .n) (s .pages) (s .positions) (s .u) ⌝ }
 {
-    layout(
-        s.n as usize,
-        s.pages as usize,
-        s.positions as usize,
-        s.u as usize,
-    )
+    let first = shape::pages_shape(s.version, s.n as usize, s.pages as usize);
+    layout(first, s.positions as usize, s.u as usize)
 }
 
 // A refusal that ends the session, or its success.
@@ -105,6 +105,7 @@ pub fn ended(refusal: Refusal, size: usize) -> Streamed
         size,
         stream: Stream {
             mark: 0,
+            version: 0,
             n: 0,
             pages: 0,
             positions: 0,

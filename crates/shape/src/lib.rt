@@ -3,12 +3,17 @@
 ghost use mathlib.Core.Path.{_≡_};
 ghost use Prim.Native.Nat.{_^_, _<_, _≤_};
 ghost use Rattle.rules.specs.Limits.{limit};
-ghost use Rattle.rules.specs.List.{width};
-ghost use Rattle.shape.specs.Shape.{shapeOf};
+ghost use Rattle.rules.specs.List.{width, dense, formOf};
+ghost use Rattle.shape.specs.Shape.{shapeOf, mapShape, formShape};
 use rules::LIST_HEADER;
+use rules::MAP_EDITION;
 use rules::POINTER_SIZE;
 
-// U, n and w; the bits of the upper run; and the bytes at which the runs start and the block ends.
+// What stands for w in the shape of a bitmap, which has no low parts.
+pub const BITMAP: usize = 64;
+
+// U, n and w; the bits of the upper run; and the bytes at which the runs start and the block ends. A bitmap is an upper
+// run alone.
 pub struct Shape {
     pub u: usize,
     pub n: usize,
@@ -56,4 +61,44 @@ pub fn shape_of(u: usize, n: usize) -> Shape
         upper,
         end: upper + 8 * ((n + zeros + 63) / 64),
     }
+}
+
+// The shape of the bitmap of n elements below u.
+pub fn map_shape(u: usize, n: usize) -> Shape
+    requires { ⌜ u ≤ limit ⌝ }
+    ensures { λ r. ⌜ r ≡ mapShape u n ⌝ }
+{
+    let at = LIST_HEADER + POINTER_SIZE * (u / 256);
+    Shape {
+        u,
+        n,
+        w: BITMAP,
+        bits: u,
+        lower: at,
+        upper: at,
+        end: at + 8 * ((u + 63) / 64),
+    }
+}
+
+// Whether the two runs of n elements below u, whose shape is g, have more bits than there are numbers below u.
+fn is_dense(u: usize, n: usize, g: Shape) -> bool
+    requires { ⌜ (g ≡ shapeOf u n) × (n ≤ u) × (u ≤ limit) ⌝ }
+    ensures { λ r. ⌜ r ≡ dense u n ⌝ }
+{
+    u < g.bits + n * g.w
+}
+
+// The shape of n pages below u in an index of that version.
+pub fn pages_shape(version: u32, u: usize, n: usize) -> Shape
+    requires { ⌜ (n ≤ u) × (u ≤ limit) ⌝ }
+    ensures { λ r. ⌜ r ≡ formShape (formOf version u n) u n ⌝ }
+{
+    let g = shape_of(u, n);
+    if version < MAP_EDITION {
+        return g;
+    }
+    if is_dense(u, n, g) {
+        return map_shape(u, n);
+    }
+    g
 }

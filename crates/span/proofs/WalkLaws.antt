@@ -7,7 +7,7 @@ use native.Mathlib.Numerals.{add-one}
 use native.Mathlib.Decide.{ℕ-discrete}
 use native.Mathlib.Omega.{arith}
 use lib.ListN.{length, getD, take}
-use Rattle.rules.specs.List.{rising}
+use Rattle.rules.specs.List.{rising, twoRuns}
 use Rattle.rules.specs.Term.{next}
 use Rattle.rules.specs.ReadList.{listU, decode}
 use Rattle.rules.specs.Seek.{placeOf}
@@ -16,7 +16,7 @@ use Rattle.shape.specs.declared.Shape.{Shape}
 use Rattle.seeklaws.proofs.FirstLaws.{rising-lt, rising-below}
 use Rattle.readlaws.specs.Open.{Open, OneAt}
 use Rattle.readlaws.proofs.ReadLaws.{one-ranks}
-use Rattle.walklaws.proofs.OpenLaws.{open-length, open-ruled, placed-at}
+use Rattle.walklaws.proofs.OpenLaws.{placed-at, open-stored, open-length}
 use Rattle.span.specs.declared.Walk.{Walk}
 use Rattle.span.specs.Walks.{past, behind, WalkOn, PassedTo}
 
@@ -61,7 +61,7 @@ past-mono U xs r i j l h =
 
 -- ---- where reading stands
 
-behind-some : (U : ℕ) (xs : List ℕ) (i : ℕ) → behind U xs (i + 1) ≡ placeOf U xs i + 1
+behind-some : (U : ℕ) (xs : List ℕ) (i : ℕ) → behind U xs (i + 1) ≡ placeOf twoRuns U xs i + 1
 unfolding behind
 behind-some U xs i = rw (add-one i)
 
@@ -82,9 +82,8 @@ module _ (s : List ℕ) (g : Shape) (o : Open s g) where
   walk-past rank place value one e =
       let r = one-ranks s g o place rank one in
       let d : rank + 1 - 1 ≡ rank = omega arith in
-      let stands : placeOf (listU s) (decode s) rank ≡ place =
-      open-ruled s g o (omega (arith, r .number)) .place-is rank
-      ∙ placed-at s g o place rank (one .set) (one .below) in
+      let stands : placeOf twoRuns (listU s) (decode s) rank ≡ place =
+      placed-at twoRuns s g (open-stored s g o) place rank one in
       let p = rw d at (past-some (decode s) (rank + 1) (omega arith) (omega (arith, r .number, open-length s g o))) in
       record {
         on = record {

@@ -1,7 +1,8 @@
 -- A list gone through by rank.
 --
 --   past xs i         one past the last of the first i elements of xs; 0 for i = 0
---   behind U xs i     the place behind the one of the last of the first i elements of xs, a list below U; 0 for i = 0
+--   behind U xs i     the place behind the one of the last of the first i elements of xs, a list below U in two runs;
+--                     0 for i = 0
 --   WalkOn s g w      s is an accepted block of shape g, and w is where reading stands with its first `next` elements
 --                     passed: one past the last of them, and the place behind its one
 --   PassedTo s g n w  so it is, with n elements passed
@@ -10,6 +11,7 @@ use mathlib.Core.List.{List}
 use Prim.Native.Nat.{ℕ, zero, suc, _+_, _≤_}
 use lib.ListN.{take}
 use Rattle.rules.specs.Counts.{onesBelow}
+use Rattle.rules.specs.List.{twoRuns}
 use Rattle.rules.specs.Term.{next}
 use Rattle.rules.specs.ReadList.{listU, decode}
 use Rattle.rules.specs.Seek.{placeOf}
@@ -22,7 +24,7 @@ past xs i = next 0 (take i xs)
 
 unfoldable pub behind : ℕ → List ℕ → ℕ → ℕ
 behind U xs zero = 0
-behind U xs (suc i) = placeOf U xs i + 1
+behind U xs (suc i) = placeOf twoRuns U xs i + 1
 
 pub record WalkOn (s : List ℕ) (g : Shape) (w : Walk) : Type 0 where
   pub opened : Open s g

@@ -1,7 +1,8 @@
-// Where a seek starts: at the cursor's bit, or at a pointer ahead of it.
+// Where a seek starts on a list in two runs: at the cursor's bit, or at a pointer ahead of it.
 
 ghost use mathlib.Core.Path.{_≡_};
 ghost use Prim.Native.Nat.{_+_, _-_, _*_, _/_, _^_, _<_};
+ghost use Rattle.rules.specs.List.{twoRuns};
 ghost use Rattle.readlaws.specs.Open.{Open};
 ghost use Rattle.walklaws.specs.Cursors.{Moving, startIn};
 ghost use Rattle.walklaws.specs.Walks.{Started};
@@ -21,8 +22,8 @@ pub fn high_of(g: Shape, c: Cursor) -> usize
 // The larger of the cursor's bit and pointer h / 256: the pointer lies ahead just where the cursor's high part is of an
 // earlier 256, and is read there alone.
 pub fn start(s: &[u8], g: Shape, c: Cursor, b: usize) -> StartPlace
-    requires { ⌜ Open (now s) g × Moving (now s) c b ⌝ }
-    ensures { λ r. ⌜ Started (now (s .entry)) g b r × (r .bit ≡ startIn (now (s .entry)) c b) ⌝ }
+    requires { ⌜ Open (now s) g × Moving twoRuns (now s) c b ⌝ }
+    ensures { λ r. ⌜ Started (now (s .entry)) g b r × (r .bit ≡ startIn twoRuns (now (s .entry)) c b) ⌝ }
 {
     let high = high_of(g, c);
     let h = b >> g.w;

@@ -1,18 +1,18 @@
 -- Laws of a session's announcement: what a call leaves, when it is accepted, and what is then under way.
-use mathlib.Core.Bool.{Bool, true, false, cond, _&&_, _||_}
+use mathlib.Core.Bool.{Bool, true, false, cond, not, _&&_, _||_}
 use mathlib.Core.Path.{_≡_, refl, sym, ap, _∙_}
 use mathlib.Core.Logic.{_⊎_, inl, inr}
 use mathlib.Core.List.{List, [], _∷_}
 use Prim.Native.Nat.{ℕ, _≤_, _<_}
 use native.Mathlib.Decide.{decLt, decLe, ℕ-discrete}
 use native.Mathlib.Omega.{arith}
-use borrow.Author.Tests.{le-ltb, lt-ltb, ltb-false, eq-eqb, eqb-false, ne-eqb}
+use borrow.Author.Tests.{le-ltb, lt-ltb, ltb-false, eq-eqb, eqb-false, ne-eqb, not-false}
 use lib.Dec.{ltb, eqb, lit<}
 use lib.ListN.{length, drop-of-length-le}
 use Rattle.rules.specs.declared.Refusal.{Refusal}
-use Rattle.rules.specs.declared.Refusal.the-variants.{Accepted, Limit, Room, Lists}
+use Rattle.rules.specs.declared.Refusal.the-variants.{Accepted, Version, Limit, Room, Lists}
 use Rattle.rules.specs.Refusal.{number, accepted}
-use Rattle.rules.specs.Limits.{limit}
+use Rattle.rules.specs.Limits.{limit, lastEdition, upTo}
 use Rattle.rules.specs.List.{rising}
 use Rattle.rules.specs.Write.{laid}
 use Rattle.rules.specs.Term.{Word, total, next, placed, places, positive, inOrderByPage}
@@ -27,15 +27,15 @@ use Rattle.streamlaws.proofs.WordLaws.{places-rise, length-places, word
 -- ---- a call's result
 
 -- it is accepted, and the runs ts are under way; or it is refused, and the session has ended
-abbrev pub Outcome : ℕ → ℕ → ℕ → ℕ → List Word → List ℕ → Streaming → Type 0
-Outcome N P Q U ts before r =
-    ((r .refusal ≡ Accepted) × Underway N P Q U ts before (r .stream) (r .room))
+abbrev pub Outcome : ℕ → ℕ → ℕ → ℕ → ℕ → List Word → List ℕ → Streaming → Type 0
+Outcome v N P Q U ts before r =
+    ((r .refusal ≡ Accepted) × Underway v N P Q U ts before (r .stream) (r .room))
     ⊎ ((0 < number (r .refusal)) × (r .stream ≡ over))
 
-pub outcome-accepted : (N P Q U : ℕ) (ts : List Word) (before : List ℕ) (r : Streaming) → Outcome N P Q U ts before r
-    → r .refusal ≡ Accepted → Underway N P Q U ts before (r .stream) (r .room)
-outcome-accepted N P Q U ts before r (inl p) e = p .1
-outcome-accepted N P Q U ts before r (inr p) e = absurd (omega (arith, p .0, ap number e))
+pub outcome-accepted : (v N P Q U : ℕ) (ts : List Word) (before : List ℕ) (r : Streaming)
+    → Outcome v N P Q U ts before r → r .refusal ≡ Accepted → Underway v N P Q U ts before (r .stream) (r .room)
+outcome-accepted v N P Q U ts before r (inl p) e = p .1
+outcome-accepted v N P Q U ts before r (inr p) e = absurd (omega (arith, p .0, ap number e))
 
 -- ---- the announcement
 
@@ -64,21 +64,25 @@ none-without p q h =
       | no e ↦ rw (ne-eqb p 0 e)
     ]
 
-module _ (N P Q U : ℕ) where
+module _ (v N P Q U : ℕ) where
   -- what it leaves
-  pub announced-limits : announceRefusal N P Q U ≡ Accepted → (N ≤ limit) × (U ≤ limit)
+  pub announced-limits : announceRefusal v N P Q U ≡ Accepted
+      → (upTo lastEdition v ≡ true) × (N ≤ limit) × (U ≤ limit)
   unfolding announceRefusal
   announced-limits e =
       let b : Bool = ltb N P || (ltb Q P || (ltb U Q || ((eqb P 0 && ltb 0 Q) || (eqb Q 0 && ltb 0 U)))) in
-      let p = test-passed (ltb limit N || ltb limit U) Limit (cond b Lists Accepted) (lit< tt) e in
+      let k = test-passed (not (upTo lastEdition v)) Version
+      (cond (ltb limit N || ltb limit U) Limit (cond b Lists Accepted)) (lit< tt) e in
+      let p = test-passed (ltb limit N || ltb limit U) Limit (cond b Lists Accepted) (lit< tt) (k .1) in
       let q = or-parts (ltb limit N) (ltb limit U) (p .0) in
-      (ltb-false limit N (q .0), ltb-false limit U (q .1))
+      (not-false (upTo lastEdition v) (k .0), ltb-false limit N (q .0), ltb-false limit U (q .1))
 
   -- and the word that is announced is enough for it
   pub word-announced : (t : Word) → Within N P Q U t → length (t .pages) ≡ P → length (t .positions) ≡ Q
-      → next 0 (places t) ≡ U → N ≤ limit → U ≤ limit → announceRefusal N P Q U ≡ Accepted
+      → next 0 (places t) ≡ U → upTo lastEdition v ≡ true → N ≤ limit → U ≤ limit
+      → announceRefusal v N P Q U ≡ Accepted
   unfolding announceRefusal next
-  word-announced t i p q u n l =
+  word-announced t i p q u known n l =
       let a = i .agreeing in
       let es : List ℕ = places t in
       let c : length (t .pages) ≤ N = omega (arith, rising-length 0 N (t .pages) (a .rises) (omega arith)) in
@@ -88,6 +92,7 @@ module _ (N P Q U : ℕ) where
       let g : P ≡ 0 → Q ≡ 0 = λ z. omega (arith, total-none (t .counts) (omega (arith, a .lengths)), a .summed) in
       let h : Q ≡ 0 → U ≡ 0 = λ z. sym u ∙ ap (next 0) (drop-of-length-le es {i = 0} (omega arith)) in
       rw (
+        known,
         le-ltb limit N n,
         le-ltb limit U l,
         le-ltb N P (omega arith),
@@ -107,44 +112,45 @@ module _ (N P Q U : ℕ) where
   }
 
   module _ (room : List ℕ) where
-    begin-is : announceRefusal N P Q U ≡ Accepted → streamSize N P Q U ≤ length room
-        → beginTerm N P Q U room ≡ goes Accepted (opened N P Q U) (laid (announced N P Q U) room)
+    begin-is : announceRefusal v N P Q U ≡ Accepted → streamSize v N P Q U ≤ length room
+        → beginTerm v N P Q U room ≡ goes Accepted (opened v N P Q U) (laid (announced v N P Q U) room)
     unfolding beginTerm
-    begin-is a f = rw (true-accepted (announceRefusal N P Q U) a, le-ltb (length room) (streamSize N P Q U) f)
+    begin-is a f = rw (true-accepted (announceRefusal v N P Q U) a, le-ltb (length room) (streamSize v N P Q U) f)
 
-    pub begin-accepted : announceRefusal N P Q U ≡ Accepted → streamSize N P Q U ≤ length room
-        → beginTerm N P Q U room .refusal ≡ Accepted
+    pub begin-accepted : announceRefusal v N P Q U ≡ Accepted → streamSize v N P Q U ≤ length room
+        → beginTerm v N P Q U room .refusal ≡ Accepted
     begin-accepted a f = rw (begin-is a f)
 
-    begin-small : announceRefusal N P Q U ≡ Accepted → length room < streamSize N P Q U
-        → beginTerm N P Q U room ≡ goes Room over room
+    begin-small : announceRefusal v N P Q U ≡ Accepted → length room < streamSize v N P Q U
+        → beginTerm v N P Q U room ≡ goes Room over room
     unfolding beginTerm
-    begin-small a f = rw (true-accepted (announceRefusal N P Q U) a, lt-ltb (length room) (streamSize N P Q U) f)
+    begin-small a f = rw (true-accepted (announceRefusal v N P Q U) a, lt-ltb (length room) (streamSize v N P Q U) f)
 
-    begin-refused : accepted (announceRefusal N P Q U) ≡ false
-        → beginTerm N P Q U room ≡ goes (announceRefusal N P Q U) over room
+    begin-refused : accepted (announceRefusal v N P Q U) ≡ false
+        → beginTerm v N P Q U room ≡ goes (announceRefusal v N P Q U) over room
     unfolding beginTerm
     begin-refused e = rw e
 
-    opened-underway : announceRefusal N P Q U ≡ Accepted → streamSize N P Q U ≤ length room
-        → Underway N P Q U [] room (opened N P Q U) (laid (announced N P Q U) room)
+    opened-underway : announceRefusal v N P Q U ≡ Accepted → streamSize v N P Q U ≤ length room
+        → Underway v N P Q U [] room (opened v N P Q U) (laid (announced v N P Q U) room)
     unfolding opened together places placed next
     opened-underway a f = record {
       announced = a;
       fits = f;
       within = within-none;
       session = refl;
-      room-is = ap (λ (b : List ℕ). laid b room) (sym (word-none N P Q U));
+      room-is = ap (λ (b : List ℕ). laid b room) (sym (word-none v N P Q U));
     }
 
-    pub begin-outcome : Outcome N P Q U [] room (beginTerm N P Q U room)
-    begin-outcome = go (accepted (announceRefusal N P Q U)) refl
+    pub begin-outcome : Outcome v N P Q U [] room (beginTerm v N P Q U room)
+    begin-outcome = go (accepted (announceRefusal v N P Q U)) refl
       where
-        go : (b : Bool) → accepted (announceRefusal N P Q U) ≡ b → Outcome N P Q U [] room (beginTerm N P Q U room)
-        go false e = rw (begin-refused e) (inr (refused-number (announceRefusal N P Q U) e, refl))
+        go : (b : Bool) → accepted (announceRefusal v N P Q U) ≡ b
+            → Outcome v N P Q U [] room (beginTerm v N P Q U room)
+        go false e = rw (begin-refused e) (inr (refused-number (announceRefusal v N P Q U) e, refl))
         go true e =
-            let a = accepted-true (announceRefusal N P Q U) e in
-            elim (decLe (streamSize N P Q U) (length room)) [
+            let a = accepted-true (announceRefusal v N P Q U) e in
+            elim (decLe (streamSize v N P Q U) (length room)) [
               | yes f ↦ rw (begin-is a f) (inl (refl, opened-underway a f))
               | no f ↦ rw (begin-small a (omega arith)) (inr (lit< tt, refl))
             ]

@@ -21,12 +21,12 @@ use Rattle.streamlaws.specs.Underway.{reached, Within}
 use Rattle.streamlaws.proofs.JoinedLaws.{next-joined, agreeing-join, agreeing-first}
 use Rattle.streamlaws.proofs.JoinedLaws.{agreeing-second, pages-follow}
 
-module _ (N P Q U : ℕ) (t : Word) (i : Within N P Q U t) where
+module _ (v N P Q U : ℕ) (t : Word) (i : Within N P Q U t) where
   -- the session that has laid t goes on
-  pub reached-live : announceRefusal N P Q U ≡ Accepted → live (reached N P Q U t) ≡ true
+  pub reached-live : announceRefusal v N P Q U ≡ Accepted → live (reached v N P Q U t) ≡ true
   unfolding live
   reached-live a = rw (
-    true-accepted (announceRefusal N P Q U) a,
+    true-accepted (announceRefusal v N P Q U) a,
     le-leb (length (t .pages)) P (i .pages),
     le-leb (length (t .positions)) Q (i .positions),
   )
@@ -36,7 +36,7 @@ module _ (N P Q U : ℕ) (t : Word) (i : Within N P Q U t) where
     abbrev behind : List ℕ
     behind = placed (next 0 (places t)) (u .counts) (u .positions)
 
-    pub reached-advanced : advanced (reached N P Q U t) u ≡ reached N P Q U (joined t u)
+    pub reached-advanced : advanced (reached v N P Q U t) u ≡ reached v N P Q U (joined t u)
     unfolding advanced
     reached-advanced = rw (
       next-joined t u (i .agreeing .summed),
@@ -45,7 +45,7 @@ module _ (N P Q U : ℕ) (t : Word) (i : Within N P Q U t) where
       length-append (t .positions) (u .positions),
     )
 
-    pub follows-within : follows (reached N P Q U t) u ≡ true → Within N P Q U (joined t u)
+    pub follows-within : follows (reached v N P Q U t) u ≡ true → Within N P Q U (joined t u)
     unfolding follows
     follows-within f =
         let e : Bool = leb (next (next 0 (places t)) behind) U in
@@ -64,7 +64,7 @@ module _ (N P Q U : ℕ) (t : Word) (i : Within N P Q U t) where
               (leb-true (next (next 0 (places t)) behind) U (s .1));
         }
 
-    pub within-follows : Within N P Q U (joined t u) → follows (reached N P Q U t) u ≡ true
+    pub within-follows : Within N P Q U (joined t u) → follows (reached v N P Q U t) u ≡ true
     unfolding follows
     within-follows j =
         let a = i .agreeing in

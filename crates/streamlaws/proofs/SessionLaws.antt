@@ -31,25 +31,25 @@ use Rattle.streamlaws.proofs.BeginLaws.{Outcome, announced-limits}
 
 -- ---- a run
 
-module _ (N P Q U : ℕ) (ts : List Word) (before : List ℕ) (s : Stream) (room : List ℕ)
-    (o : Underway N P Q U ts before s room) where
+module _ (v N P Q U : ℕ) (ts : List Word) (before : List ℕ) (s : Stream) (room : List ℕ)
+    (o : Underway v N P Q U ts before s room) where
   abbrev t : Word
   t = together ts
 
-  size-is : sizeOf s ≡ streamSize N P Q U
+  size-is : sizeOf s ≡ streamSize v N P Q U
   unfolding sizeOf
   size-is = rw (o .session)
 
   room-fits : sizeOf s ≤ length room
   room-fits =
-      let e = length-laid (partlyWord N P Q U t) before (omega (arith, length-word N P Q U t, o .fits)) in
+      let e = length-laid (partlyWord v N P Q U t) before (omega (arith, length-word v N P Q U t, o .fits)) in
       omega (arith, size-is, o .fits, e, ap length (o .room-is))
 
   -- the tests that come first are passed
   going-is : (r : Streaming) → going s room r ≡ r
   unfolding going
   going-is r =
-      let l : live s ≡ true = ap live (o .session) ∙ reached-live N P Q U t (o .within) (o .announced) in
+      let l : live s ≡ true = ap live (o .session) ∙ reached-live v N P Q U t (o .within) (o .announced) in
       rw (l, le-ltb (length room) (sizeOf s) room-fits)
 
   put-is : (u : Word) → putPostings s u room
@@ -64,32 +64,32 @@ module _ (N P Q U : ℕ) (ts : List Word) (before : List ℕ) (s : Stream) (room
   unfolding endTerm
   end-is = going-is (cond (not (complete s)) (spoilt s room) closed)
 
-  room-apart : room ≡ partlyWord N P Q U t ++ drop (streamSize N P Q U) before
-  room-apart = o .room-is ∙ laid-at (streamSize N P Q U) (partlyWord N P Q U t) before (length-word N P Q U t)
+  room-apart : room ≡ partlyWord v N P Q U t ++ drop (streamSize v N P Q U) before
+  room-apart = o .room-is ∙ laid-at (streamSize v N P Q U) (partlyWord v N P Q U t) before (length-word v N P Q U t)
 
   advanced-underway : (u : Word) → follows s u ≡ true
-      → Underway N P Q U (ts ++ (u ∷ [])) before (advanced s u) (addedWord s u room)
+      → Underway v N P Q U (ts ++ (u ∷ [])) before (advanced s u) (addedWord s u room)
   advanced-underway u f =
-      let w = follows-within N P Q U t (o .within) u (ap (λ (r : Stream). follows r u) (sym (o .session)) ∙ f) in
+      let w = follows-within v N P Q U t (o .within) u (ap (λ (r : Stream). follows r u) (sym (o .session)) ∙ f) in
       let e = together-snoc ts u in
       record {
         announced = o .announced;
         fits = o .fits;
         within = rw e w;
-        session = ap (λ (r : Stream). advanced r u) (o .session) ∙ reached-advanced N P Q U t (o .within) u
-            ∙ ap (reached N P Q U) (sym e);
+        session = ap (λ (r : Stream). advanced r u) (o .session) ∙ reached-advanced v N P Q U t (o .within) u
+            ∙ ap (reached v N P Q U) (sym e);
         room-is = rw e (ap₂ (λ (r : Stream) (b : List ℕ). addedWord r u b) (o .session) room-apart
-            ∙ added-word N P Q U t u (drop (streamSize N P Q U) before) (o .within) w
-            ∙ sym (laid-at (streamSize N P Q U) (partlyWord N P Q U (joined t u)) before
-            (length-word N P Q U (joined t u))));
+            ∙ added-word v N P Q U t u (drop (streamSize v N P Q U) before) (o .within) w
+            ∙ sym (laid-at (streamSize v N P Q U) (partlyWord v N P Q U (joined t u)) before
+            (length-word v N P Q U (joined t u))));
       }
 
   -- a run is accepted and laid, or ends the session
-  pub put-outcome : (u : Word) → Outcome N P Q U (ts ++ (u ∷ [])) before (putPostings s u room)
+  pub put-outcome : (u : Word) → Outcome v N P Q U (ts ++ (u ∷ [])) before (putPostings s u room)
   unfolding spoilt
   put-outcome u = go (follows s u) refl
     where
-      go : (b : Bool) → follows s u ≡ b → Outcome N P Q U (ts ++ (u ∷ [])) before (putPostings s u room)
+      go : (b : Bool) → follows s u ≡ b → Outcome v N P Q U (ts ++ (u ∷ [])) before (putPostings s u room)
       go true e = rw (put-is u, e) (inl (refl, advanced-underway u e))
       go false e = rw (put-is u, e) (inr (lit< tt, refl))
 
@@ -97,7 +97,7 @@ module _ (N P Q U : ℕ) (ts : List Word) (before : List ℕ) (s : Stream) (room
   pub put-accepted : (u : Word) → Within N P Q U (joined t u) → putPostings s u room .refusal ≡ Accepted
   put-accepted u w =
       let f : follows s u ≡ true =
-      ap (λ (r : Stream). follows r u) (o .session) ∙ within-follows N P Q U t (o .within) u w in
+      ap (λ (r : Stream). follows r u) (o .session) ∙ within-follows v N P Q U t (o .within) u w in
       rw (put-is u, f)
 
   -- ---- the close
@@ -124,23 +124,24 @@ module _ (N P Q U : ℕ) (ts : List Word) (before : List ℕ) (s : Stream) (room
         eq-eqb (next 0 (places t)) U u,
       )
 
-  complete-written : complete s ≡ true → asMade (endTerm s room) ≡ writeTerm N t before
+  complete-written : complete s ≡ true → asMade (endTerm s room) ≡ writeTerm v N t before
   complete-written c =
       let p = complete-parts c in
-      let l = announced-limits N P Q U (o .announced) in
-      let S : ℕ = streamSize N P Q U in
-      let w : Writable N t = record {
+      let l = announced-limits v N P Q U (o .announced) in
+      let S : ℕ = streamSize v N P Q U in
+      let w : Writable v N t = record {
+        known = l .0;
         valid = agreeing-valid N t (o .within .agreeing);
-        within = l .0;
-        reach = omega (arith, p .2, l .1);
+        within = l .1;
+        reach = omega (arith, p .2, l .2);
       } in
-      let n = length-term N P Q U t (o .within) (p .0) (p .1) (p .2) in
-      let r : pointedWord s room ≡ laid (termBlock N t) before =
+      let n = length-term v N P Q U t (o .within) (p .0) (p .1) (p .2) in
+      let r : pointedWord s room ≡ laid (termBlock v N t) before =
       ap₂ pointedWord (o .session) room-apart
-      ∙ pointed-word N P Q U t (o .within) (p .0) (p .1) (p .2) (drop S before)
-      ∙ sym (laid-at S (termBlock N t) before n) in
-      let z : sizeOf s ≡ length (termBlock N t) = size-is ∙ sym n in
-      rw (end-is, c, r, z) (sym (writes N t before w (omega (arith, n, o .fits))))
+      ∙ pointed-word v N P Q U t (o .within) (p .0) (p .1) (p .2) (drop S before)
+      ∙ sym (laid-at S (termBlock v N t) before n) in
+      let z : sizeOf s ≡ length (termBlock v N t) = size-is ∙ sym n in
+      rw (end-is, c, r, z) (sym (writes v N t before w (omega (arith, n, o .fits))))
 
   end-complete : endTerm s room .refusal ≡ Accepted → complete s ≡ true
   unfolding spoilt
@@ -150,7 +151,7 @@ module _ (N P Q U : ℕ) (ts : List Word) (before : List ℕ) (s : Stream) (room
       go true c = c
       go false c = absurd (omega (arith, ap number (rw (end-is, c) at e)))
 
-  pub end-written : endTerm s room .refusal ≡ Accepted → asMade (endTerm s room) ≡ writeTerm N t before
+  pub end-written : endTerm s room .refusal ≡ Accepted → asMade (endTerm s room) ≡ writeTerm v N t before
   end-written e = complete-written (end-complete e)
 
   pub end-accepted : length (t .pages) ≡ P → length (t .positions) ≡ Q → next 0 (places t) ≡ U

@@ -7,18 +7,20 @@ use native.Mathlib.Omega.{arith}
 use lib.ListN.{length, length-append}
 use Rattle.rules.specs.Limits.{version}
 use Rattle.rules.specs.Bytes.{be, sized}
-use Rattle.rules.specs.List.{rising, size, block}
-use Rattle.rules.specs.InPlace.{from, added, pointed}
+use Rattle.rules.specs.List.{rising, size, block, Form, twoRuns, formOf, formSize, formBlock}
+use Rattle.rules.specs.InPlace.{from, added, pointed, formAdded, formPointed}
 use Rattle.rules.specs.Term.{Word, total, sums, next, placed, places, termBlock}
-use Rattle.rules.specs.Stream.{countsAt, positionsAt, streamSize, announced, addedWord, pointedWord, together}
+use Rattle.rules.specs.Stream.{countsAt, positionsAt, streamSize, announced, streamForm, secondAt, thirdAt, addedWord}
+use Rattle.rules.specs.Stream.{pointedWord, together}
 use Rattle.laws.proofs.ByteLaws.{length-be}
 use Rattle.laws.proofs.PartLaws.{length-sized}
 use Rattle.listlaws.proofs.BlockLaws.{block-size}
+use Rattle.maplaws.proofs.FormLaws.{form-length}
 use Rattle.termlaws.proofs.OrderLaws.{order-rising}
 use Rattle.termlaws.proofs.SumLaws.{length-sums, sums-order, next-sums}
 use Rattle.termlaws.proofs.PlaceLaws.{placed-order, length-placed}
 use Rattle.addlaws.proofs.MoreLaws.{from-here, from-past}
-use Rattle.streamlaws.specs.Partly.{partly}
+use Rattle.streamlaws.specs.Partly.{partly, formPartly}
 use Rattle.streamlaws.specs.Joined.{joined}
 use Rattle.streamlaws.specs.Underway.{partlyWord, reached, Within}
 use Rattle.streamlaws.proofs.PartlyLaws.{partly-none, length-partly, added-partly, pointed-partly}
@@ -97,30 +99,38 @@ module _ (N P Q U : ℕ) (t : Word) (i : Within N P Q U t) where
 -- ---- the block
 
 -- elements ys behind the i elements xs, zs together
-added-as : (U n i : ℕ) (xs ys zs : List ℕ) → length xs ≡ i → xs ++ ys ≡ zs → rising 0 U zs ≡ true → (s : List ℕ)
-    → added U n i ys (partly U n xs ++ s) ≡ partly U n zs ++ s
-added-as U n i xs ys zs l e r s =
-    rw (← l, ← e) (added-partly U n xs ys s (rw e r))
+added-as : (o : Form) (U n i : ℕ) (xs ys zs : List ℕ) → length xs ≡ i → xs ++ ys ≡ zs → rising 0 U zs ≡ true
+    → (s : List ℕ) → formAdded o U n i ys (formPartly o U n xs ++ s) ≡ formPartly o U n zs ++ s
+added-as o U n i xs ys zs l e r s =
+    rw (← l, ← e) (added-partly o U n xs ys s (rw e r))
 
-same-length : (U n : ℕ) (xs ys : List ℕ) → length (partly U n xs) ≡ length (partly U n ys)
-same-length U n xs ys = length-partly U n xs ∙ sym (length-partly U n ys)
+same-length : (o : Form) (U n : ℕ) (xs ys : List ℕ) → length (formPartly o U n xs) ≡ length (formPartly o U n ys)
+same-length o U n xs ys = length-partly o U n xs ∙ sym (length-partly o U n ys)
 
-module _ (N P Q U : ℕ) where
-  pub length-word : (t : Word) → length (partlyWord N P Q U t) ≡ streamSize N P Q U
+module _ (v N P Q U : ℕ) where
+  -- the form of the pages
+  abbrev form : Form
+  form = formOf v N P
+
+  pub length-word : (t : Word) → length (partlyWord v N P Q U t) ≡ streamSize v N P Q U
   unfolding partlyWord streamSize positionsAt countsAt
   length-word t =
-      length-lists (partly N P (t .pages)) (partly Q P (sums 0 (t .counts))) (partly U Q (places t))
-      ∙ rw (length-partly N P (t .pages), length-partly Q P (sums 0 (t .counts)), length-partly U Q (places t))
+      length-lists (formPartly form N P (t .pages)) (partly Q P (sums 0 (t .counts))) (partly U Q (places t))
+      ∙ rw (
+        length-partly form N P (t .pages),
+        length-partly twoRuns Q P (sums 0 (t .counts)),
+        length-partly twoRuns U Q (places t),
+      )
 
   -- nothing is laid
-  pub word-none : partlyWord N P Q U (together []) ≡ announced N P Q U
+  pub word-none : partlyWord v N P Q U (together []) ≡ announced v N P Q U
   unfolding partlyWord announced together sums places placed
-  word-none = rw (partly-none N P, partly-none Q P, partly-none U Q)
+  word-none = rw (partly-none form N P, partly-none twoRuns Q P, partly-none twoRuns U Q)
 
   -- the word u is laid behind t
   pub added-word : (t u : Word) (rest : List ℕ) → Within N P Q U t → Within N P Q U (joined t u)
-      → addedWord (reached N P Q U t) u (partlyWord N P Q U t ++ rest) ≡ partlyWord N P Q U (joined t u) ++ rest
-  unfolding addedWord partlyWord positionsAt countsAt
+      → addedWord (reached v N P Q U t) u (partlyWord v N P Q U t ++ rest) ≡ partlyWord v N P Q U (joined t u) ++ rest
+  unfolding addedWord partlyWord positionsAt countsAt streamForm secondAt thirdAt
   added-word t u rest i j =
       let cs : List ℕ = sums 0 (t .counts) in
       let ds : List ℕ = sums (length (t .positions)) (u .counts) in
@@ -128,24 +138,26 @@ module _ (N P Q U : ℕ) where
       let ps : List ℕ = placed (next 0 (places t)) (u .counts) (u .positions) in
       let qs : List ℕ = places (joined t u) in
       let summed : 0 + total (t .counts) ≡ length (t .positions) = omega (arith, i .agreeing .summed) in
-      lists-from (added N P (length (t .pages)) (u .pages)) (added Q P (length (t .pages)) ds)
+      lists-from (formAdded form N P (length (t .pages)) (u .pages)) (added Q P (length (t .pages)) ds)
       (added U Q (length (t .positions)) ps)
-      (partly N P (t .pages)) (partly Q P cs) (partly U Q (places t))
-      (partly N P (t .pages ++ u .pages)) (partly Q P es) (partly U Q qs)
-      (5 + size N P) (5 + size N P + size Q P) rest
-      (same-length N P (t .pages) (t .pages ++ u .pages)) (same-length Q P cs es) (same-length U Q (places t) qs)
-      (omega (arith, length-partly N P (t .pages))) (omega (arith, length-partly Q P cs))
-      (added-as N P (length (t .pages)) (t .pages) (u .pages) (t .pages ++ u .pages) refl refl (j .agreeing .rises))
-      (added-as Q P (length (t .pages)) cs ds es (length-counts N P Q U t i)
+      (formPartly form N P (t .pages)) (partly Q P cs) (partly U Q (places t))
+      (formPartly form N P (t .pages ++ u .pages)) (partly Q P es) (partly U Q qs)
+      (5 + formSize form N P) (5 + formSize form N P + size Q P) rest
+      (same-length form N P (t .pages) (t .pages ++ u .pages)) (same-length twoRuns Q P cs es)
+      (same-length twoRuns U Q (places t) qs)
+      (omega (arith, length-partly form N P (t .pages))) (omega (arith, length-partly twoRuns Q P cs))
+      (added-as form N P (length (t .pages)) (t .pages) (u .pages) (t .pages ++ u .pages) refl refl
+      (j .agreeing .rises))
+      (added-as twoRuns Q P (length (t .pages)) cs ds es (length-counts N P Q U t i)
       (rw (← summed) (sym (sums-append 0 (t .counts) (u .counts)))) (counts-rise N P Q U (joined t u) j))
-      (added-as U Q (length (t .positions)) (places t) ps qs (length-places N P Q U t i)
+      (added-as twoRuns U Q (length (t .positions)) (places t) ps qs (length-places N P Q U t i)
       (sym (places-joined t u (i .agreeing .summed))) (places-rise N P Q U (joined t u) j))
 
   -- all of the word t is laid
   module _ (t : Word) (i : Within N P Q U t) (p : length (t .pages) ≡ P) (q : length (t .positions) ≡ Q)
       (u : next 0 (places t) ≡ U) where
     abbrev pages : List ℕ
-    pages = block N (t .pages)
+    pages = formBlock form N (t .pages)
 
     abbrev counts : List ℕ
     counts = block Q (sums 0 (t .counts))
@@ -153,8 +165,8 @@ module _ (N P Q U : ℕ) where
     abbrev positions : List ℕ
     positions = block U (places t)
 
-    length-pages : length pages ≡ size N P
-    length-pages = block-size N (t .pages) ∙ ap (size N) p
+    length-pages : length pages ≡ formSize form N P
+    length-pages = form-length form N (t .pages) ∙ ap (formSize form N) p
 
     length-blocks : length counts ≡ size Q P
     length-blocks = block-size Q (sums 0 (t .counts)) ∙ ap (size Q) (length-counts N P Q U t i ∙ p)
@@ -162,27 +174,27 @@ module _ (N P Q U : ℕ) where
     length-positions : length positions ≡ size U Q
     length-positions = block-size U (places t) ∙ ap (size U) (length-places N P Q U t i ∙ q)
 
-    term-is : termBlock N t ≡ lists pages counts positions
+    term-is : termBlock v N t ≡ lists pages counts positions
     unfolding termBlock
-    term-is = rw (u, i .agreeing .summed, q)
+    term-is = rw (p, u, i .agreeing .summed, q)
 
-    pub length-term : length (termBlock N t) ≡ streamSize N P Q U
+    pub length-term : length (termBlock v N t) ≡ streamSize v N P Q U
     unfolding streamSize positionsAt countsAt
     length-term = ap length term-is ∙ length-lists pages counts positions
         ∙ rw (length-pages, length-blocks, length-positions)
 
     pub pointed-word : (rest : List ℕ)
-        → pointedWord (reached N P Q U t) (partlyWord N P Q U t ++ rest) ≡ termBlock N t ++ rest
-    unfolding pointedWord partlyWord positionsAt countsAt
+        → pointedWord (reached v N P Q U t) (partlyWord v N P Q U t ++ rest) ≡ termBlock v N t ++ rest
+    unfolding pointedWord partlyWord positionsAt countsAt streamForm secondAt thirdAt
     pointed-word rest =
         let cs : List ℕ = sums 0 (t .counts) in
-        lists-from (pointed N P) (pointed Q P) (pointed U Q)
-        (partly N P (t .pages)) (partly Q P cs) (partly U Q (places t)) pages counts positions
-        (5 + size N P) (5 + size N P + size Q P) rest
-        (length-partly N P (t .pages) ∙ sym length-pages) (length-partly Q P cs ∙ sym length-blocks)
-        (length-partly U Q (places t) ∙ sym length-positions)
-        (omega (arith, length-partly N P (t .pages))) (omega (arith, length-partly Q P cs))
-        (λ s. pointed-partly N P (t .pages) s (i .agreeing .rises) p)
-        (λ s. pointed-partly Q P cs s (counts-rise N P Q U t i) (length-counts N P Q U t i ∙ p))
-        (λ s. pointed-partly U Q (places t) s (places-rise N P Q U t i) (length-places N P Q U t i ∙ q))
+        lists-from (formPointed form N P) (pointed Q P) (pointed U Q)
+        (formPartly form N P (t .pages)) (partly Q P cs) (partly U Q (places t)) pages counts positions
+        (5 + formSize form N P) (5 + formSize form N P + size Q P) rest
+        (length-partly form N P (t .pages) ∙ sym length-pages) (length-partly twoRuns Q P cs ∙ sym length-blocks)
+        (length-partly twoRuns U Q (places t) ∙ sym length-positions)
+        (omega (arith, length-partly form N P (t .pages))) (omega (arith, length-partly twoRuns Q P cs))
+        (λ s. pointed-partly form N P (t .pages) s (i .agreeing .rises) p)
+        (λ s. pointed-partly twoRuns Q P cs s (counts-rise N P Q U t i) (length-counts N P Q U t i ∙ p))
+        (λ s. pointed-partly twoRuns U Q (places t) s (places-rise N P Q U t i) (length-places N P Q U t i ∙ q))
         ∙ ap (λ (l : List ℕ). l ++ rest) (sym term-is)

@@ -3,14 +3,14 @@ use mathlib.Core.Bool.{Bool, cond, not, _||_}
 use mathlib.Core.Path.{_≡_, refl, _∙_}
 use mathlib.Core.List.{List}
 use Prim.Native.Nat.{ℕ}
-use borrow.Author.Tests.{ltb-false, eq-eqb}
+use borrow.Author.Tests.{ltb-false, eq-eqb, not-false}
 use lib.Dec.{ltb, eqb, lit<}
 use lib.ListN.{length, drop-of-length-le}
 use Rattle.rules.specs.declared.Refusal.{Refusal}
-use Rattle.rules.specs.declared.Refusal.the-variants.{Accepted, Layout, Parts}
+use Rattle.rules.specs.declared.Refusal.the-variants.{Accepted, Version, Layout, Parts}
 use Rattle.rules.specs.Refusal.{andThen}
-use Rattle.rules.specs.Limits.{listHeader, termHeader}
-use Rattle.rules.specs.ReadList.{listU, listN, decode, listRefusal}
+use Rattle.rules.specs.Limits.{version, lastEdition, upTo, listHeader, termHeader}
+use Rattle.rules.specs.ReadList.{listU, listN, decode, partRefusal}
 use Rattle.rules.specs.Term.{next}
 use Rattle.rules.specs.Parts.{after, inside}
 use Rattle.rules.specs.ReadTerm.{listsOf, pagesOf, countsOf, positionsOf, disagree, termRefusal}
@@ -18,21 +18,26 @@ use Rattle.laws.proofs.RefusalLaws.{andThen-next, andThen-both, test-passed, eq
 use Rattle.laws.proofs.HeadLaws.{head-next, head-passed}
 use Rattle.termlaws.specs.Words.{Passed}
 
-module _ (s : List ℕ) where
-  -- the tests behind the first three
-  abbrev tests : Refusal
-  tests =
-      andThen (inside listHeader listRefusal (listsOf s))
-      (andThen (inside listHeader listRefusal (after 1 (listsOf s)))
-      (andThen (inside listHeader listRefusal (after 2 (listsOf s)))
+module _ (v : ℕ) (s : List ℕ) where
+  -- the tests behind the version that is told
+  abbrev parts-tests : Refusal
+  parts-tests =
+      andThen (inside listHeader (partRefusal v) (listsOf s))
+      (andThen (inside listHeader (partRefusal version) (after 1 (listsOf s)))
+      (andThen (inside listHeader (partRefusal version) (after 2 (listsOf s)))
       (cond (ltb 0 (length (after 3 (listsOf s)))) Layout
       (cond (disagree s) Parts Accepted))))
 
-  pub passed-accepted : Passed s → termRefusal s ≡ Accepted
+  -- the tests behind the first three
+  abbrev tests : Refusal
+  tests = cond (not (upTo lastEdition v)) Version parts-tests
+
+  pub passed-accepted : Passed v s → termRefusal v s ≡ Accepted
   unfolding termRefusal disagree
   passed-accepted p =
-      head-next termHeader s tests (p .head)
+      head-next termHeader version s tests (p .head)
       ∙ rw (
+        p .known,
         p .pages-pass,
         p .counts-pass,
         p .positions-pass,
@@ -45,7 +50,7 @@ module _ (s : List ℕ) where
       (andThen-next Accepted (andThen Accepted (andThen Accepted Accepted)) refl
       ∙ andThen-next Accepted (andThen Accepted Accepted) refl ∙ andThen-next Accepted Accepted refl)
 
-  pub accepted-passed : termRefusal s ≡ Accepted → Passed s
+  pub accepted-passed : termRefusal v s ≡ Accepted → Passed v s
   unfolding termRefusal disagree
   accepted-passed e =
       let l : List ℕ = listsOf s in
@@ -55,13 +60,14 @@ module _ (s : List ℕ) where
       let d1 : Bool = not (eqb (listN (countsOf s)) (listN (pagesOf s))) in
       let t8 : Refusal = cond (d1 || (d2 || (d3 || d4))) Parts Accepted in
       let t7 : Refusal = cond (ltb 0 (length (after 3 l))) Layout t8 in
-      let t6 : Refusal = andThen (inside listHeader listRefusal (after 2 l)) t7 in
-      let t5 : Refusal = andThen (inside listHeader listRefusal (after 1 l)) t6 in
-      let t4 : Refusal = andThen (inside listHeader listRefusal l) t5 in
-      let c = head-passed termHeader s t4 e in
-      let f = andThen-both (inside listHeader listRefusal l) t5 (c .1) in
-      let g = andThen-both (inside listHeader listRefusal (after 1 l)) t6 (f .1) in
-      let h = andThen-both (inside listHeader listRefusal (after 2 l)) t7 (g .1) in
+      let t6 : Refusal = andThen (inside listHeader (partRefusal version) (after 2 l)) t7 in
+      let t5 : Refusal = andThen (inside listHeader (partRefusal version) (after 1 l)) t6 in
+      let t4 : Refusal = andThen (inside listHeader (partRefusal v) l) t5 in
+      let c = head-passed termHeader version s (cond (not (upTo lastEdition v)) Version t4) e in
+      let k = test-passed (not (upTo lastEdition v)) Version t4 (lit< tt) (c .1) in
+      let f = andThen-both (inside listHeader (partRefusal v) l) t5 (k .1) in
+      let g = andThen-both (inside listHeader (partRefusal version) (after 1 l)) t6 (f .1) in
+      let h = andThen-both (inside listHeader (partRefusal version) (after 2 l)) t7 (g .1) in
       let i = test-passed (ltb 0 (length (after 3 l))) Layout t8 (lit< tt) (h .1) in
       let j = test-passed (d1 || (d2 || (d3 || d4))) Parts Accepted (lit< tt) (i .1) in
       let o1 = or-parts d1 (d2 || (d3 || d4)) (j .0) in
@@ -69,6 +75,7 @@ module _ (s : List ℕ) where
       let o3 = or-parts d3 d4 (o2 .1) in
       record {
         head = c .0;
+        known = not-false (upTo lastEdition v) (k .0);
         pages-pass = f .0;
         counts-pass = g .0;
         positions-pass = h .0;

@@ -43,7 +43,7 @@ agreeing-valid N t a =
       eq-eqb (total (t .counts)) (length (t .positions)) (a .summed),
     ) (a .ordered)
 
-module _ (N : ℕ) (t : Word) (w : Writable N t) where
+module _ (v N : ℕ) (t : Word) (w : Writable v N t) where
   agreeing : Agreeing N t
   agreeing = valid-agreeing N t (w .valid)
 

@@ -8,6 +8,7 @@ use lib.ListN.{length, getD, length-replicate, getD-replicate}
 use Rattle.rules.specs.declared.Refusal.the-variants.{Accepted}
 use Rattle.rules.specs.ReadList.{listU, decode}
 use Rattle.rules.specs.ReadTerm.{pagesOf, termRefusal}
+use Rattle.rules.specs.Index.{indexV}
 use Rattle.rules.specs.Plain.{starts}
 use Rattle.termlaws.proofs.ReadLaws.{pages-listed}
 use Rattle.seeklaws.proofs.FirstLaws.{rising-lt}
@@ -98,16 +99,16 @@ ahead-more s ts ct ps ws b d l f = record {
 }
 
 -- a page behind that of a rank has a larger one
-pub rank-later : (t : List ℕ) → termRefusal t ≡ Accepted → (r q p : ℕ) → r < length (decode (pagesOf t))
+pub rank-later : (v : ℕ) (t : List ℕ) → termRefusal v t ≡ Accepted → (r q p : ℕ) → r < length (decode (pagesOf t))
     → getD (decode (pagesOf t)) r 0 ≡ p → p + 1 ≤ getD (decode (pagesOf t)) q 0 → r < q
-rank-later t a r q p h e l =
+rank-later v t a r q p h e l =
     elim (decLt r q) [
       | yes g ↦ g
       | no g ↦ elim (ℕ-discrete r q) [
         | yes d ↦ absurd (omega (arith, ap (λ (j : ℕ). getD (decode (pagesOf t)) j 0) d))
         | no d ↦ absurd (omega (
           arith,
-          rising-lt 0 (listU (pagesOf t)) (decode (pagesOf t)) (pages-listed t a .rises) q r
+          rising-lt 0 (listU (pagesOf t)) (decode (pagesOf t)) (pages-listed v t a .rises) q r
               (omega (arith, d)) h,
         ))
       ]
@@ -118,19 +119,19 @@ module _ (s ts : List ℕ) (lead : ℕ) (pg ct ps : List ℕ) (a : Asked s ts le
   -- ---- a word alone
 
   pub lone-counted : (q : Query) → OnAll s ts pg q p → length ts ≡ 1 → (ws : List ℕ) → Ahead s ts ct ps ws p
-      → (x : Ranks) → x ≡ ranksOf (elementsAt s ct 0) (rankBy pg q (slotOf lead 0)) → (after : List ℕ)
-      → Walked s ct ws 0 0 (rankBy pg q (slotOf lead 0) + 1) after
+      → (x : Ranks) → x ≡ ranksOf (elementsAt s ct 0) (rankBy s pg q (slotOf lead 0)) → (after : List ℕ)
+      → Walked s ct ws 0 0 (rankBy s pg q (slotOf lead 0) + 1) after
       → (x .from ≤ x .to) × (x .to - x .from ≡ starts (phraseAt s ts ds) p) × (x .to - x .from < 2 ^ 32)
       × Ahead s ts ct ps after (p + 1)
   lone-counted q o one ws f x is after w =
       let h : 0 < length ts = a .pages .lists .some in
       let t : List ℕ = termAt s ts 0 in
-      let rank : ℕ = rankBy pg q (slotOf lead 0) in
+      let rank : ℕ = rankBy s pg q (slotOf lead 0) in
       let r = is-ranked s ts lead pg ct ps a q p o 0 h in
       let e = page-there s ts lead pg ct ps a q p o 0 h in
       let from = from-is s ts lead pg ct ps a q p o 0 h x is in
       let to = to-is s ts lead pg ct ps a q p o 0 h x is in
-      let g = page-in t (a .accepts 0 h) rank r in
+      let g = page-in (indexV s) t (a .accepts 0 h) rank r in
       let n = positions-small s ts lead pg ct ps a q p o 0 h in (
         omega (arith, from, to, g .some),
         ap₂ (λ (u v : ℕ). u - v) to from ∙ lone-starts s ts ds p rank one enough first (a .accepts 0 h) r e,
@@ -145,7 +146,7 @@ module _ (s ts : List ℕ) (lead : ℕ) (pg ct ps : List ℕ) (a : Asked s ts le
                 walked = rw v (f .each 0 h .walked);
                 ahead =
                     λ j m b. (
-                      omega (arith, w .at, rank-later t (a .accepts 0 h) rank j p r e b),
+                      omega (arith, w .at, rank-later (indexV s) t (a .accepts 0 h) rank j p r e b),
                       omega (arith, f .each 0 h .ahead j m (omega arith) .1, ap (λ (z : Walk). z .next) v),
                     );
               });

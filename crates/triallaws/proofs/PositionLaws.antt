@@ -9,7 +9,7 @@ use Rattle.rules.specs.declared.Refusal.the-variants.{Accepted}
 use Rattle.rules.specs.List.{rising}
 use Rattle.rules.specs.ReadList.{listU, decode}
 use Rattle.rules.specs.ReadTerm.{pagesOf, positionsOf, readWord, termRefusal}
-use Rattle.rules.specs.Index.{termPart, wordOf}
+use Rattle.rules.specs.Index.{indexV, termPart, wordOf}
 use Rattle.rules.specs.Plain.{positionsOn, phraseOf, starts}
 use Rattle.rules.specs.Questions.{wordsIn}
 use Rattle.termlaws.proofs.ReadLaws.{positions-listed}
@@ -30,7 +30,7 @@ use Rattle.triallaws.proofs.StartLaws.{Rises, starts-alone}
 
 module _ (s sh ws : List ℕ) (p i : ℕ) (t : List ℕ) (at : TermAt s sh ws p i t) where
   on-page : PageIn t (at .rank)
-  on-page = page-in t (at .accepts) (at .rank) (at .ranked)
+  on-page = page-in (indexV s) t (at .accepts) (at .rank) (at .ranked)
 
   -- the positions of word i on the page are the term's
   pub page-positions : pageAt s sh ws i ≡ positionsOn p (readWord t)
@@ -44,7 +44,7 @@ module _ (s sh ws : List ℕ) (p i : ℕ) (t : List ℕ) (at : TermAt s sh ws p 
   page-bounds = (
     rw (at .part-is, at .end-is) (on-page .within),
     rw (at .part-is, at .base-is)
-        (past-le (listU (positionsOf t)) (decode (positionsOf t)) (positions-listed t (at .accepts) .rises)
+        (past-le (listU (positionsOf t)) (decode (positionsOf t)) (positions-listed (indexV s) t (at .accepts) .rises)
         (positionsBefore t (at .rank))
         (omega (arith, on-page .some, on-page .within))),
   )
@@ -77,13 +77,13 @@ page-rises U es rises base to within =
           );
     }
 
-module _ (t : List ℕ) (a : termRefusal t ≡ Accepted) (rank : ℕ) (h : rank < length (decode (pagesOf t))) (p : ℕ)
-    (e : getD (decode (pagesOf t)) rank 0 ≡ p) where
+module _ (v : ℕ) (t : List ℕ) (a : termRefusal v t ≡ Accepted) (rank : ℕ) (h : rank < length (decode (pagesOf t)))
+    (p : ℕ) (e : getD (decode (pagesOf t)) rank 0 ≡ p) where
   abbrev positions : List ℕ
   positions = decode (positionsOf t)
 
   there : PageIn t rank
-  there = page-in t a rank h
+  there = page-in v t a rank h
 
   positions-are : positionsOn p (readWord t)
       ≡ onPage positions (past positions (positionsBefore t rank)) (positionsBefore t (rank + 1))
@@ -92,12 +92,12 @@ module _ (t : List ℕ) (a : termRefusal t ≡ Accepted) (rank : ℕ) (h : rank 
   -- they rise
   pub positions-rise : Rises 0 (listU (positionsOf t)) (positionsOn p (readWord t))
   positions-rise =
-      rw positions-are (page-rises (listU (positionsOf t)) positions (positions-listed t a .rises)
+      rw positions-are (page-rises (listU (positionsOf t)) positions (positions-listed v t a .rises)
       (past positions (positionsBefore t rank)) (positionsBefore t (rank + 1)) (there .within))
 
 -- a word alone starts at each of its positions
 pub lone-starts : (s ts ds : List ℕ) (p rank : ℕ) → length ts ≡ 1 → 0 < length ds → getD ds 0 0 ≡ 0
-    → termRefusal (termAt s ts 0) ≡ Accepted → rank < length (decode (pagesOf (termAt s ts 0)))
+    → termRefusal (indexV s) (termAt s ts 0) ≡ Accepted → rank < length (decode (pagesOf (termAt s ts 0)))
     → getD (decode (pagesOf (termAt s ts 0))) rank 0 ≡ p
     → positionsBefore (termAt s ts 0) (rank + 1) - positionsBefore (termAt s ts 0) rank ≡ starts (phraseAt s ts ds) p
 unfolding phraseOf wordsIn wordOf
@@ -108,8 +108,8 @@ lone-starts s (x ∷ []) (d ∷ ds) p rank l n z a r e =
     let t : List ℕ = termPart x s in
     let es : List ℕ = decode (positionsOf t) in
     let U : ℕ = listU (positionsOf t) in
-    let g = page-in t a rank r in
-    let rises = positions-listed t a .rises in
+    let g = page-in (indexV s) t a rank r in
+    let rises = positions-listed (indexV s) t a .rises in
     let f = first-past U es rises (positionsBefore t rank) (omega (arith, g .some, g .within)) in
     let size = page-length U es rises (past es (positionsBefore t rank)) (positionsBefore t (rank + 1)) (g .within) in
     let is = sym (g .positions-are) ∙ ap (λ (q : ℕ). positionsOn q (readWord t)) e in

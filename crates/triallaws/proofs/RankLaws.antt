@@ -7,11 +7,10 @@ use native.Mathlib.Omega.{arith}
 use lib.ListN.{length, getD}
 use Rattle.rules.specs.ReadList.{listN, decode}
 use Rattle.rules.specs.ReadTerm.{pagesOf, countsOf, positionsOf, readWord}
-use Rattle.rules.specs.Index.{wordOf}
+use Rattle.rules.specs.Index.{indexV, wordOf}
 use Rattle.rules.specs.Questions.{pagesIn as pagesOn}
-use Rattle.listlaws.proofs.ReadLaws.{accepted-length}
 use Rattle.termlaws.proofs.PassedLaws.{accepted-passed}
-use Rattle.termlaws.proofs.Theorems.{accepted-lists}
+use Rattle.termlaws.proofs.ReadLaws.{pages-listed}
 use Rattle.readlaws.proofs.ReadLaws.{open-reads}
 use Rattle.walklaws.proofs.OpenLaws.{open-n, open-length}
 use Rattle.querylaws.specs.declared.Query.{Query}
@@ -51,7 +50,7 @@ module _ (s ts : List ℕ) (lead : ℕ) (pg ct ps : List ℕ) (a : Asked s ts le
     pub slot-within : slot < k
     slot-within = slot-lt lead i k (lead-within s ts pg (a .pages) lead (a .leads)) h
 
-    pub asked-list : ListAt s pg slot
+    asked-list : ListAt s pg slot
     asked-list = a .pages .lists .each slot slot-within
 
     asked-pages : pagesAt s pg slot ≡ decode (pagesOf (termAt s ts i))
@@ -64,8 +63,8 @@ module _ (s ts : List ℕ) (lead : ℕ) (pg ct ps : List ℕ) (a : Asked s ts le
     same-count =
         let t = termAt s ts i in
         let y = a .counts .slot i h in
-        ap length asked-pages ∙ accepted-length (pagesOf t) (accepted-lists t (a .accepts i h) .pages)
-        ∙ sym (accepted-passed t (a .accepts i h) .counts-n)
+        ap length asked-pages ∙ pages-listed (indexV s) t (a .accepts i h) .count
+        ∙ sym (accepted-passed (indexV s) t (a .accepts i h) .counts-n)
         ∙ sym (ap listN (y .part-is)) ∙ open-n (partAt s ct i) (shapeIn ct i) (y .block .opened)
 
     -- ---- a page that all cursors are on
@@ -74,7 +73,7 @@ module _ (s ts : List ℕ) (lead : ℕ) (pg ct ps : List ℕ) (a : Asked s ts le
       pub asked-rank : Ranked s pg q slot p
       asked-rank = ranked s pg q slot p asked-list (o .held slot slot-within) (o .on-page slot slot-within)
 
-      rank-counted : rankBy pg q slot < numberOf ct i 7
+      rank-counted : rankBy s pg q slot < numberOf ct i 7
       rank-counted = rw (← same-count) (asked-rank .within)
 
   -- ---- one word more is turned
@@ -84,7 +83,7 @@ module _ (s ts : List ℕ) (lead : ℕ) (pg ct ps : List ℕ) (a : Asked s ts le
     t = termAt s ts i
 
     abbrev rank : ℕ
-    rank = rankBy pg q (slotOf lead i)
+    rank = rankBy s pg q (slotOf lead i)
 
     pub is-ranked : rank < length (decode (pagesOf t))
     is-ranked =
@@ -105,7 +104,7 @@ module _ (s ts : List ℕ) (lead : ℕ) (pg ct ps : List ℕ) (a : Asked s ts le
     positions-part = a .positions .slot i h .part-is
 
     on-page : PageIn t rank
-    on-page = page-in t (a .accepts i h) rank is-ranked
+    on-page = page-in (indexV s) t (a .accepts i h) rank is-ranked
 
     -- there are few positions
     pub positions-small : length (decode (positionsOf t)) ≤ 16777216

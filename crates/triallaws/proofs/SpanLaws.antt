@@ -83,7 +83,7 @@ among-rank (suc r) lo N s b (q ∷ qs) (k ∷ ks) es o p l t h =
     (ih ∙ ap₂ less (next-past b c (f - (k + 1)) es ∙ ap (λ (i : ℕ). next b (take i es)) e)
     (slice-past c (f - (k + 1)) (f′ - (k + 1)) es (len .0) ∙ ap₂ (λ (i j : ℕ). slice i j es) e e′))
 
-module _ (s : List ℕ) (a : termRefusal s ≡ Accepted) where
+module _ (v : ℕ) (s : List ℕ) (a : termRefusal v s ≡ Accepted) where
   abbrev ps : List ℕ
   ps = decode (pagesOf s)
 
@@ -94,33 +94,34 @@ module _ (s : List ℕ) (a : termRefusal s ≡ Accepted) where
   es = decode (positionsOf s)
 
   lengths : length ps ≡ length cs
-  lengths = omega (arith, pages-listed s a .count, counts-listed s a .count, accepted-passed s a .counts-n)
+  lengths = omega (arith, pages-listed v s a .count, counts-listed v s a .count, accepted-passed v s a .counts-n)
 
   -- the first pages have no more positions than all
   before-le : (r : ℕ) → r ≤ length ps → positionsBefore s r ≤ length es
   before-le r h =
       omega (
         arith,
-        past-le (listU (countsOf s)) cs (counts-listed s a .rises) r (omega (arith, lengths)),
-        positions-listed s a .count,
-        accepted-passed s a .positions-n,
+        past-le (listU (countsOf s)) cs (counts-listed v s a .rises) r (omega (arith, lengths)),
+        positions-listed v s a .count,
+        accepted-passed v s a .positions-n,
       )
 
   pub before-mono : (r q : ℕ) → r ≤ q → q ≤ length ps → positionsBefore s r ≤ positionsBefore s q
-  before-mono r q l h = past-mono (listU (countsOf s)) cs (counts-listed s a .rises) r q l (omega (arith, lengths))
+  before-mono r q l h = past-mono (listU (countsOf s)) cs (counts-listed v s a .rises) r q l (omega (arith, lengths))
 
   -- the positions on page number r
   pub page-in : (r : ℕ) → r < length ps → PageIn s r
   unfolding positionsOn readWord onPage
   page-in r h =
       let g =
-      among-rank r 0 (listU (pagesOf s)) 0 0 ps cs es (pages-listed s a .rises) (counts-listed s a .ordered) lengths
-      (total-places s a) h in
+      among-rank r 0 (listU (pagesOf s)) 0 0 ps cs es (pages-listed v s a .rises) (counts-listed v s a .ordered) lengths
+      (total-places v s a) h in
       let x =
-      first-past (listU (positionsOf s)) es (positions-listed s a .rises) (past cs r) (before-le r (omega arith)) in
+      first-past (listU (positionsOf s)) es (positions-listed v s a .rises) (past cs r) (before-le r (omega arith)) in
       record {
         some =
-            past-lt (listU (countsOf s)) cs (counts-listed s a .rises) r (r + 1) (omega arith) (omega (arith, lengths));
+            past-lt (listU (countsOf s)) cs (counts-listed v s a .rises) r (r + 1) (omega arith)
+            (omega (arith, lengths));
         within = before-le (r + 1) (omega arith);
         positions-are = rw (x, add-one) (unfold past in simp sub-zero at g);
       }

@@ -9,6 +9,7 @@ use borrow.Author.Tests.{eq-eqb, ne-eqb, lt-ltb, le-ltb}
 use lib.ListN.{length, getD}
 use Rattle.rules.specs.ReadList.{listU}
 use Rattle.rules.specs.ReadTerm.{positionsOf}
+use Rattle.rules.specs.Index.{indexV}
 use Rattle.rules.specs.Limits.{limit}
 use Rattle.rules.specs.Plain.{member, InPhrase, stands, starts}
 use Rattle.walklaws.proofs.OpenLaws.{open-within}
@@ -268,7 +269,7 @@ module _ (s ts : List ℕ) (lead : ℕ) (pg ct ps : List ℕ) (a : Asked s ts le
             let U : ℕ = listU (positionsOf (termAt s ts 0)) in
             let rises : Rises 0 (at .start + U) (positionsHere s ts p 0) =
             rises-more 0 U (at .start + U) (positionsHere s ts p 0) (omega arith)
-            (positions-rise (termAt s ts 0) (a .accepts 0 h) (rankBy pg q (slotOf lead 0))
+            (positions-rise (indexV s) (termAt s ts 0) (a .accepts 0 h) (rankBy s pg q (slotOf lead 0))
             (is-ranked s ts lead pg ct ps a q p o 0 h) p (page-there s ts lead pg ct ps a q p o 0 h)) in
             sym (starts-below s ts ds h (y .enough) first p (at .start + U) rises
             ∙ none-later (at .start + U) (omega arith))
@@ -287,13 +288,15 @@ module _ (s ts : List ℕ) (lead : ℕ) (pg ct ps : List ℕ) (a : Asked s ts le
                     counted = d .counted .on;
                     walked = d .ready .passing .on;
                     ahead = λ r l b.
-                        let e = rank-later (termAt s ts j) (v .accepts) (v .rank) r p (v .ranked) (v .page-is) b in (
+                        let e =
+                        rank-later (indexV s) (termAt s ts j) (v .accepts) (v .rank) r p (v .ranked) (v .page-is) b in (
                           omega (arith, d .counted .at, e),
                           omega (
                             arith,
                             d .ready .passing .inside,
                             v .end-is,
-                            before-mono (termAt s ts j) (v .accepts) (v .rank + 1) r (omega (arith, e)) (omega arith),
+                            before-mono (indexV s) (termAt s ts j) (v .accepts) (v .rank + 1) r
+                                (omega (arith, e)) (omega arith),
                           ),
                         );
                   }

@@ -33,14 +33,14 @@ use Rattle.rules.specs.declared.Refusal.the-variants.{Accepted}
 use Rattle.rules.specs.Limits.{limit}
 use Rattle.rules.specs.ReadList.{decode}
 use Rattle.rules.specs.ReadTerm.{pagesOf, readWord, termRefusal}
-use Rattle.rules.specs.Index.{termPart}
+use Rattle.rules.specs.Index.{indexV, termPart}
 use Rattle.rules.specs.Common.{leadOf}
 use Rattle.rules.specs.Plain.{member, positionsOn, InPhrase, phraseOf, starts, withStarts, commonPages}
 use Rattle.rules.specs.Questions.{listsIn, wordsIn, termsOf, offsetsOf}
 use Rattle.commonlaws.specs.Readers.{OnPage}
 use Rattle.querylaws.specs.declared.Query.{Query}
 use Rattle.querylaws.specs.declared.Turn.{Turn}
-use Rattle.querylaws.specs.Lists.{partAt, shapeIn, pagesAt, boundIn}
+use Rattle.querylaws.specs.Lists.{partAt, formIn, shapeIn, pagesAt, boundIn}
 use Rattle.querylaws.specs.Queries.{cursorIn, readerAt}
 use Rattle.walklaws.specs.Cursors.{Held}
 use Rattle.span.specs.Walks.{WalkOn, PassedTo}
@@ -84,7 +84,7 @@ abbrev pub foundBy : List ℕ → List ℕ → List ℕ → List ℕ
 foundBy s ts ls = foundIn s ts (offsetsIn ls)
 
 pub record Asked (s ts : List ℕ) (lead : ℕ) (pg ct ps : List ℕ) : Type 0 where
-  pub accepts : (i : ℕ) → i < length ts → termRefusal (termAt s ts i) ≡ Accepted
+  pub accepts : (i : ℕ) → i < length ts → termRefusal (indexV s) (termAt s ts i) ≡ Accepted
   pub leads : lead ≡ leadOf (listsIn s ts)
   pub pages : OpenedPages s ts pg
   pub counts : Filled s ts 1 (length ts) ct
@@ -105,7 +105,7 @@ pub record PhraseOpened (s args : List ℕ) (k : ℕ) (ts ls : List ℕ) : Type 
 
 pub record OnAll (s ts pg : List ℕ) (q : Query) (p : ℕ) : Type 0 where
   pub eight : length (q .cursors) ≡ 8
-  pub held : (i : ℕ) → i < length ts → Held (boundIn pg) (pagesAt s pg i) (cursorIn q i)
+  pub held : (i : ℕ) → i < length ts → Held (formIn s pg i) (boundIn pg) (pagesAt s pg i) (cursorIn q i)
   pub on-page : (i : ℕ) → i < length ts → OnPage p (readerAt s pg q i)
 
 pub record AheadOf (s ts ct ps ws : List ℕ) (b i : ℕ) : Type 0 where

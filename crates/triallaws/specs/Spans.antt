@@ -10,6 +10,7 @@ use lib.ListN.{length, getD}
 use Rattle.rules.specs.declared.Refusal.the-variants.{Accepted}
 use Rattle.rules.specs.ReadList.{decode}
 use Rattle.rules.specs.ReadTerm.{pagesOf, countsOf, positionsOf, readWord, termRefusal}
+use Rattle.rules.specs.Index.{indexV}
 use Rattle.rules.specs.Plain.{positionsOn}
 use Rattle.querylaws.specs.Lists.{partAt}
 use Rattle.span.specs.Walks.{past}
@@ -28,7 +29,7 @@ pub record PageIn (s : List ℕ) (r : ℕ) : Type 0 where
       (positionsBefore s (r + 1))
 
 pub record TermAt (s sh ws : List ℕ) (p i : ℕ) (t : List ℕ) : Type 0 where
-  pub accepts : termRefusal t ≡ Accepted
+  pub accepts : termRefusal (indexV s) t ≡ Accepted
   pub rank : ℕ
   pub ranked : rank < length (decode (pagesOf t))
   pub page-is : getD (decode (pagesOf t)) rank 0 ≡ p

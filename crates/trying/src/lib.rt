@@ -32,7 +32,7 @@ pub fn turn_next(
         return at;
     }
     let i = openlists::source_of(lists[LEAD] as usize, at.standing);
-    let rank = rows::rank_in(&lists[0..COUNTS], turn.q, at.standing);
+    let rank = rows::rank_in(card, &lists[0..COUNTS], turn.q, at.standing);
     let x = turning::ranks_at(table, card, &lists[COUNTS..POSITIONS], i, rank, words);
     turning::turn_to(table, card, &lists[POSITIONS..LEAD], i, x, words);
     Trial {

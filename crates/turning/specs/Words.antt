@@ -8,7 +8,7 @@
 --   ranksOf cs r        the numbers of the positions on page number r, where cs are the counts' elements
 --   baseIn ws i         the base of word i on the page, number 6 of its eight; position = element - base
 --   endIn ws i          its end there, number 7: the elements up to the page's last
---   BlockAt s sh i      list i is an accepted block, and its numbers are its own
+--   BlockAt s sh i      list i is an accepted block in two runs, and its numbers are its own
 --   Kept ws from to after  the numbers of ws before `from` and from `to` on are as they were
 --   Readable s sh ws i j  list i is a block, and reading of it stands where the numbers of ws from j on say
 --   Walked s sh ws i j n after  n elements of list i are passed, and the other numbers are as they were

@@ -12,8 +12,8 @@ use Rattle.shape.specs.declared.Shape.{Shape}
 use Rattle.readlaws.specs.Open.{Open, OneAt}
 use Rattle.readlaws.proofs.PartLaws.{flat-inside, word-inside}
 use Rattle.walklaws.specs.declared.Ones.{Ones}
-use Rattle.walklaws.specs.Walks.{Walking}
-use Rattle.walklaws.proofs.OpenLaws.{words-few}
+use Rattle.walklaws.specs.Walks.{RunIn, Walking}
+use Rattle.walklaws.proofs.OpenLaws.{words-few, open-run}
 use Rattle.walklaws.proofs.WalkLaws.{walking-from, walking-next, walking-more, walking-drop, one-lt, one-there}
 use Rattle.span.specs.declared.Walk.{Walk}
 use Rattle.span.specs.Walks.{WalkOn, PassedTo}
@@ -39,24 +39,27 @@ module _ (s : List ℕ) (g : Shape) (w : Walk) (o : WalkOn s g w) (more : w .nex
       let p : 64 * (w .place / 64) + f ≡ w .place = omega arith in
       record {
         walking =
-            walking-from s g (o .opened) f _ (omega arith) (ahead-inside .0)
+            walking-from s g (open-run s g (o .opened)) f _ (omega arith) (ahead-inside .0)
             (l ∙ ap (λ (v : ℕ). v / 2 ^ f * 2 ^ f) e)
             (sym (ap (onesBelow s (g .upper)) p ∙ o .counted));
         passed = refl;
       }
 
 module _ (s : List ℕ) (g : Shape) (o : Open s g) (n : ℕ) (more : n < g .n) (x : Ones) (l : OnesLeft s g n x) where
+  abbrev run : RunIn s g
+  run = open-run s g o
+
   abbrev here : Walking s g x
   here = l .walking
 
   -- a word without a one left is not the last
   pub ones-go-on : x .left ≡ 0 → x .k + 1 < wordsFor (g .bits)
-  ones-go-on e = walking-more s g o _ here e (omega (arith, l .passed))
+  ones-go-on e = walking-more s g run _ here e (omega (arith, l .passed))
 
   pub ones-next : x .left ≡ 0 → (y : ℕ) → y ≡ runWord s (g .upper) (x .k + 1)
       → OnesLeft s g n (record { left = y; k = x .k + 1; rank = x .rank })
   ones-next e y w = record {
-    walking = walking-next s g o _ here _ e refl (ones-go-on e) w refl;
+    walking = walking-next s g run _ here _ e refl (ones-go-on e) w refl;
     passed = l .passed;
   }
 
@@ -66,14 +69,14 @@ module _ (s : List ℕ) (g : Shape) (o : Open s g) (n : ℕ) (more : n < g .n) (
 
     pub ones-place : OneAt s (g .upper) (x .rank) place × (place < 2 ^ 32)
     ones-place = (
-      one-there s g o _ here some,
-      omega (arith, words-few s g o (x .k) (here .within), one-lt s g o _ here some),
+      one-there s g run _ here some,
+      omega (arith, words-few s g run (x .k) (here .within), one-lt s g run _ here some),
     )
 
     pub ones-drop : OnesLeft s g (n + 1)
         (record { left = bitAnd (x .left) (x .left - 1); k = x .k; rank = x .rank + 1 })
     ones-drop = record {
-      walking = walking-drop s g o _ here some _ refl refl refl;
+      walking = walking-drop s g run _ here some _ refl refl refl;
       passed = ap (λ (m : ℕ). m + 1) (l .passed);
     }
 

@@ -1,4 +1,4 @@
--- Where a seek starts, and the walk that it has from there.
+-- Where a seek starts, and the walk that it has from there, on two runs; and its start on a bitmap.
 use mathlib.Core.Path.{_≡_, refl, sym, _∙_}
 use mathlib.Core.Logic.{inl, inr}
 use mathlib.Core.List.{List}
@@ -11,23 +11,24 @@ use lib.ListN.{getD}
 use Rattle.rules.specs.Bytes.{beAt}
 use Rattle.rules.specs.Runs.{runWord, runBit, wordsFor}
 use Rattle.rules.specs.Counts.{onesBelow}
+use Rattle.rules.specs.List.{twoRuns, bitmap}
 use Rattle.rules.specs.ReadList.{listU, decode}
-use Rattle.rules.specs.Seek.{Cursor as Placing, fresh, on, spent, cursorBit, startOf}
+use Rattle.rules.specs.Seek.{Cursor as Placing, fresh, on, spent, placeOf, cursorBit, startOf}
 use Rattle.laws.proofs.CountLaws.{below-none, below-suc, run-steps}
 use Rattle.laws.proofs.RunLaws.{run-cases}
 use Rattle.shape.specs.declared.Shape.{Shape}
 use Rattle.listlaws.proofs.AfterLaws.{after-lt, after-le}
 use Rattle.readlaws.specs.Open.{Open, pointersIn, pointerOf, PointerAt}
 use Rattle.readlaws.proofs.ReadLaws.{open-reads, pointer-reads}
-use Rattle.seeklaws.specs.Cursors.{Placed}
+use Rattle.seeklaws.specs.Cursors.{floor, Placed}
 use Rattle.seeklaws.proofs.JumpLaws.{start-ahead, cursor-lt}
 use Rattle.walklaws.specs.declared.Cursor.{Cursor}
 use Rattle.walklaws.specs.declared.StartPlace.{StartPlace}
 use Rattle.walklaws.specs.declared.Ones.{Ones}
 use Rattle.walklaws.specs.Cursors.{markOf, startIn, Moving}
 use Rattle.walklaws.specs.Walks.{Before, Started, Skipping, Skipped, Passed}
-use Rattle.walklaws.proofs.OpenLaws.{Ruled, open-U, open-within, open-n, open-some, open-length, open-rising}
-use Rattle.walklaws.proofs.OpenLaws.{open-ruled, before-place, before-zeros}
+use Rattle.walklaws.proofs.OpenLaws.{Stored, Ruled, before-place, open-U, open-within, open-n, open-some}
+use Rattle.walklaws.proofs.OpenLaws.{open-length, open-rising, open-run, open-ruled, open-stored, before-zeros}
 use Rattle.walklaws.proofs.WalkLaws.{walking-from}
 use Rattle.walklaws.proofs.CursorLaws.{held-rule, held-floor}
 
@@ -82,8 +83,8 @@ module _ (s : List ℕ) (g : Shape) (o : Open s g) (b : ℕ) (p : StartPlace) (t
     pub passed-start : Passed s g b r
     passed-start = record {
       at =
-          walking-from s g o (f + p .own) r (omega (arith, own-le)) (rw k-is start-word) (rw k-is left-is)
-          (rw (k-is, behind-start, own-counted) (start-rank r rank-is));
+          walking-from s g (open-run s g o) (f + p .own) r (omega (arith, own-le)) (rw k-is start-word)
+          (rw k-is left-is) (rw (k-is, behind-start, own-counted) (start-rank r rank-is));
       passed = rw (start-rank r rank-is) (t .passed);
     }
 
@@ -117,7 +118,7 @@ module _ (s : List ℕ) (g : Shape) (o : Open s g) where
     pointer-reads s g o (suc i) _ l (λ e. absurd (omega arith)) (λ h. refl),
   )
 
-  module _ (c : Cursor) (b : ℕ) (m : Moving s c b) where
+  module _ (c : Cursor) (b : ℕ) (m : Moving twoRuns s c b) where
     abbrev U : ℕ
     U = listU s
 
@@ -136,6 +137,9 @@ module _ (s : List ℕ) (g : Shape) (o : Open s g) where
     ruled : Ruled s g
     ruled = open-ruled s g o some
 
+    stored : Stored twoRuns s g
+    stored = open-stored s g o
+
     pub pointer-inside : b / 2 ^ g .w / 256 ≤ pointersIn g
     pointer-inside = omega (
       arith,
@@ -146,54 +150,54 @@ module _ (s : List ℕ) (g : Shape) (o : Open s g) where
 
     -- the zeros before the cursor's bit are its high part
     placing-counted : (a : Placing) → Placed xs a → markOf xs a ≤ b
-        → onesBelow s (g .upper) (cursorBit U xs a) + (markOf xs a - 1) / 2 ^ g .w ≡ cursorBit U xs a
+        → onesBelow s (g .upper) (cursorBit twoRuns U xs a) + (markOf xs a - 1) / 2 ^ g .w ≡ cursorBit twoRuns U xs a
     unfolding markOf cursorBit
     placing-counted fresh p l = omega (arith, below-none s (g .upper), zero-div (2 ^ g .w))
     placing-counted spent p l = absurd (omega (arith, m .below, open-within s g o))
     placing-counted (on i) p l =
         let h : i < g .n = omega (arith, open-length s g o) in
         let e : getD xs i 0 + 1 - 1 ≡ getD xs i 0 = omega arith in
-        rw (ruled .place-is i, e) (omega (arith, ruled .ranked i h))
+        rw e (omega (arith, ruled .place-is i, stored .ranked i h .below))
 
     cursor-counted : onesBelow s (g .upper) (c .bit) + (c .mark - 1) / 2 ^ g .w ≡ c .bit
     cursor-counted =
         let h = m .cursor in
         rw (h .mark-is, h .bit-is) (placing-counted (h .place) (h .placed) (rw (h .mark-is) at (m .ahead)))
 
-    start-is : startIn s c b ≡ max (c .bit) (pointerOf s g number)
+    start-is : startIn twoRuns s c b ≡ max (c .bit) (pointerOf s g number)
     unfolding startOf
     start-is = rw (
-      held-rule U xs (open-rising s g o) (open-within s g o) c (m .cursor),
+      held-rule twoRuns U xs (open-rising s g o) (open-within s g o) c (m .cursor),
       ← m .cursor .bit-is,
       ruled .wide,
-      ruled .bits-is,
+      stored .bits-is some,
     )
 
     -- what is before the start is below b
-    start-before : (p : ℕ) → p ≡ startIn s c b → Before s b (onesBelow s (g .upper) p)
+    start-before : (p : ℕ) → p ≡ startIn twoRuns s c b → Before s b (onesBelow s (g .upper) p)
     start-before p d =
-        let k = held-rule U xs (open-rising s g o) (open-within s g o) c (m .cursor) in
-        let f = held-floor U xs (open-rising s g o) (open-within s g o) c (m .cursor) b (m .ahead) (m .below) in
-        before-place s g o some b p
-        (rw (d, k) (start-ahead U xs (open-rising s g o) (m .cursor .place) b (m .cursor .placed) f))
+        let k = held-rule twoRuns U xs (open-rising s g o) (open-within s g o) c (m .cursor) in
+        let f = held-floor twoRuns U xs (open-rising s g o) (open-within s g o) c (m .cursor) b (m .ahead) (m .below) in
+        before-place twoRuns s g stored b p
+        (rw (d, k) (start-ahead twoRuns U xs (open-rising s g o) (m .cursor .place) b (m .cursor .placed) f))
 
     -- and so is the cursor's own element, whose one is at the cursor's bit
     placing-own : (a : Placing) → Placed xs a → markOf xs a ≤ b → (own : ℕ) → own ≤ 1 → own ≤ markOf xs a
-        → Before s b (onesBelow s (g .upper) (cursorBit U xs a))
-        → (own ≤ runBit s (g .upper) (cursorBit U xs a)) × Before s b (onesBelow s (g .upper) (cursorBit U xs a) + own)
+        → Before s b (onesBelow s (g .upper) (cursorBit twoRuns U xs a))
+        → (own ≤ runBit s (g .upper) (cursorBit twoRuns U xs a))
+        × Before s b (onesBelow s (g .upper) (cursorBit twoRuns U xs a) + own)
     unfolding markOf cursorBit
     placing-own fresh p l own h q before = (omega arith, λ j less. before j (omega arith))
     placing-own spent p l own h q before = absurd (omega (arith, m .below, open-within s g o))
     placing-own (on i) p l own h q before =
         let n : i < g .n = omega (arith, open-length s g o) in
-        let one = rw (← ruled .place-is i) at (ruled .set i n) in
-        let rank = rw (← ruled .place-is i) at (ruled .ranked i n) in (
-          omega (arith, one),
+        let one = stored .ranked i n in (
+          omega (arith, one .set),
           λ j less.
               elim (decLt j i) [
-                | yes k ↦ before j (omega (arith, rank))
+                | yes k ↦ before j (omega (arith, one .below))
                 | no k ↦
-                    let e : i ≡ j = omega (arith, rank) in
+                    let e : i ≡ j = omega (arith, one .below) in
                     rw (← e) (omega arith)
               ],
         )
@@ -207,13 +211,13 @@ module _ (s : List ℕ) (g : Shape) (o : Open s g) where
     -- the start is the larger of the cursor's bit and the pointer
     pub started-jump : (r : StartPlace) → PointerAt s g number (r .bit) → r .zeros ≡ 256 * number → r .own ≡ 0
         → high / 256 < number
-        → Started s g b r × (r .bit ≡ startIn s c b)
+        → Started s g b r × (r .bit ≡ startIn twoRuns s c b)
     started-jump r p z n l =
         let q =
         after-lt (onesBelow s (g .upper)) (run-steps s (g .upper)) (256 * number) (r .bit) (p .after) (c .bit)
         (omega (arith, cursor-counted)) in
         let e : r .bit ≡ max (c .bit) (pointerOf s g number) = omega (arith, p .defined) in
-        let d : r .bit ≡ startIn s c b = e ∙ sym start-is in (
+        let d : r .bit ≡ startIn twoRuns s c b = e ∙ sym start-is in (
           record {
             within = p .inside;
             counted = omega (arith, p .after .counted);
@@ -225,22 +229,49 @@ module _ (s : List ℕ) (g : Shape) (o : Open s g) where
 
     pub started-here : (r : StartPlace) → r .bit ≡ c .bit → r .zeros ≡ high → r .own ≤ 1 → r .own ≤ c .mark
         → number ≤ high / 256
-        → Started s g b r × (r .bit ≡ startIn s c b)
+        → Started s g b r × (r .bit ≡ startIn twoRuns s c b)
     started-here r e z h w l =
         let p = read-pointer number pointer-inside in
         let q =
         after-le (onesBelow s (g .upper)) (run-steps s (g .upper)) (256 * number) (p .0) (p .1 .after) (c .bit)
         (omega (arith, cursor-counted)) in
         let k =
-        cursor-lt U xs (open-rising s g o) (m .cursor .place) (m .cursor .placed) (rw (open-length s g o) some) in
+        cursor-lt twoRuns U xs (open-rising s g o) (m .cursor .place) (m .cursor .placed)
+        (rw (open-length s g o) some) in
         let f : r .bit ≡ max (c .bit) (pointerOf s g number) = omega (arith, p .1 .defined) in
-        let d : r .bit ≡ startIn s c b = f ∙ sym start-is in
+        let d : r .bit ≡ startIn twoRuns s c b = f ∙ sym start-is in
         let own = cursor-own (r .own) h w (rw e at (start-before (r .bit) d)) in (
           record {
-            within = omega (arith, k, m .cursor .bit-is, ruled .bits-is);
+            within = omega (arith, k, m .cursor .bit-is, stored .bits-is some);
             counted = rw e (omega (arith, cursor-counted));
             own-set = rw e (own .0);
             passed = rw e (own .1);
           },
           d,
         )
+
+-- ---- the start on a bitmap
+
+map-bit : (U : ℕ) (xs : List ℕ) (a : Placing) → cursorBit bitmap U xs a ≤ floor U xs a
+unfolding cursorBit placeOf floor
+map-bit U xs fresh = omega arith
+map-bit U xs (on i) = omega arith
+map-bit U xs spent = omega arith
+
+module _ (s : List ℕ) (g : Shape) (t : Stored bitmap s g) (c : Cursor) (b : ℕ) (m : Moving bitmap s c b) where
+  -- a cursor that a seek moves is not ahead of the bound
+  pub map-behind : c .bit ≤ b
+  map-behind = omega (
+    arith,
+    m .cursor .bit-is,
+    map-bit (listU s) (decode s) (m .cursor .place),
+    held-floor bitmap (listU s) (decode s) (t .rises) (t .within) c (m .cursor) b (m .ahead) (m .below),
+  )
+
+  -- so the start is the bound's own bit
+  pub start-map : startIn bitmap s c b ≡ b
+  unfolding startOf
+  start-map = rw (
+    held-rule bitmap (listU s) (decode s) (t .rises) (t .within) c (m .cursor),
+    ← m .cursor .bit-is,
+  ) (omega (arith, map-behind))

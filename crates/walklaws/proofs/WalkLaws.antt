@@ -1,4 +1,5 @@
--- Steps of a walk over the upper run of an open block: over zeros to zero number h, over words, and from one to one.
+-- Steps of a walk over the run of a block, in either form: over words, and from one to one; and over the zeros of an
+-- upper run to zero number h.
 use mathlib.Core.Path.{_≡_, refl, sym, ap, _∙_}
 use mathlib.Core.List.{List}
 use Prim.Native.Nat.{ℕ, suc, _+_, _-_, _*_, _/_, _%_, _^_, _≤_, _<_}
@@ -12,19 +13,18 @@ use Rattle.rules.specs.Runs.{runWord, runBit, wordsFor}
 use Rattle.rules.specs.Counts.{onesBelow}
 use Rattle.laws.proofs.BitLaws.{shr-kept, bit-kept}
 use Rattle.laws.proofs.RunLaws.{run-bit, words-hold, ones-whole}
-use Rattle.laws.proofs.CountLaws.{ones-parts, word-ones, next-word}
+use Rattle.laws.proofs.CountLaws.{ones-parts, word-ones, next-word, ones-below-le}
 use Rattle.fields.specs.Words.{placeOfOne}
 use Rattle.fields.proofs.WordLaws.{run-one}
 use Rattle.shape.specs.declared.Shape.{Shape}
 use Rattle.listlaws.proofs.AfterLaws.{run-after-from}
-use Rattle.readlaws.specs.Open.{Open, OneAt}
-use Rattle.readlaws.proofs.ReadLaws.{open-reads, one-ranks}
+use Rattle.readlaws.specs.Open.{OneAt}
 use Rattle.walklaws.specs.declared.Ones.{Ones}
-use Rattle.walklaws.specs.Walks.{Walking, Skipping, ZeroIn, AtZero, Skipped}
+use Rattle.walklaws.specs.Walks.{RunIn, Walking, Skipping, ZeroIn, AtZero, Skipped}
 use Rattle.walklaws.proofs.RestLaws.{rest-none, rest-first, rest-drop, rest-all, rest-from}
-use Rattle.walklaws.proofs.OpenLaws.{open-word, words-few, ones-few}
+use Rattle.walklaws.proofs.OpenLaws.{words-few, ones-few, one-number}
 
-module _ (s : List ℕ) (g : Shape) (o : Open s g) where
+module _ (s : List ℕ) (g : Shape) (run : RunIn s g) where
   abbrev below : ℕ → ℕ
   below p = onesBelow s (g .upper) p
 
@@ -32,7 +32,7 @@ module _ (s : List ℕ) (g : Shape) (o : Open s g) where
   word k = runWord s (g .upper) k
 
   word-below : (k : ℕ) → below (64 * (k + 1)) ≡ below (64 * k) + ones (word k)
-  word-below k = next-word s (g .upper) k (word k) refl (open-word s g o k)
+  word-below k = next-word s (g .upper) k (word k) refl (run .word-lt k)
 
   -- what is left of word k from place f on
   pub walking-from : (f : ℕ) (x : Ones) → f ≤ 64 → x .k < wordsFor (g .bits) → x .left ≡ word (x .k) / 2 ^ f * 2 ^ f
@@ -40,7 +40,7 @@ module _ (s : List ℕ) (g : Shape) (o : Open s g) where
   walking-from f x l i e c = record {
     within = i;
     gone = ones (word (x .k) % 2 ^ f);
-    left-are = rw e (rest-from (word (x .k)) f (open-word s g o (x .k)) l);
+    left-are = rw e (rest-from (word (x .k)) f (run .word-lt (x .k)) l);
     counted = c ∙ word-ones s (g .upper) (x .k) f l;
   }
 
@@ -70,20 +70,25 @@ module _ (s : List ℕ) (g : Shape) (o : Open s g) where
     through : below (64 * (x .k + 1)) ≡ x .rank + ones (x .left)
     through =
         let l : x .left < 2 ^ 64 = rw (z .left-is)
-        (omega (arith, div-mul-le-self (word (x .k)) (2 ^ z .place), open-word s g o (x .k))) in
+        (omega (arith, div-mul-le-self (word (x .k)) (2 ^ z .place), run .word-lt (x .k))) in
         let e : 64 * (x .k + 1) ≡ 64 * x .k + 64 = omega arith in
         rw (e, z .counted)
         (kept-ones (x .k) (z .place) 64 (z .place-le) (omega arith)
         ∙ ap (λ (v : ℕ). below (64 * x .k + z .place) + ones v) (mod-eq-of-lt (rw (← z .left-is) l) ∙ sym (z .left-is)))
 
     pub rank-small : x .rank < 2 ^ 32
-    rank-small =
-        let r = open-reads s g o in
-        omega (arith, z .counted, ones-few s g o (64 * x .k + z .place))
+    rank-small = omega (
+      arith,
+      z .counted,
+      ones-few s g run (64 * x .k + z .place),
+      run .counted,
+      ones-below-le s (g .upper) (g .bits),
+      run .short,
+    )
 
     pub skipping-in : h + (x .rank + ones (x .left)) ≤ 64 * x .k + 64 → ZeroIn h x
     skipping-in l = record {
-      few = omega (arith, words-few s g o (x .k) (z .within));
+      few = omega (arith, words-few s g run (x .k) (z .within));
       small = rank-small;
       behind = omega (arith, z .short);
       reached = l;
@@ -91,7 +96,7 @@ module _ (s : List ℕ) (g : Shape) (o : Open s g) where
 
     module _ (enough : h + g .n ≤ g .bits) (l : 64 * x .k + 64 < h + (x .rank + ones (x .left))) where
       pub skipping-inside : x .k + 1 < wordsFor (g .bits)
-      skipping-inside = omega (arith, through, ones-few s g o (64 * (x .k + 1)), words-hold (g .bits))
+      skipping-inside = omega (arith, through, ones-few s g run (64 * (x .k + 1)), words-hold (g .bits))
 
       pub skipping-next : (y : Ones) → y .k ≡ x .k + 1 → y .left ≡ word (x .k + 1) → y .rank ≡ x .rank + ones (x .left)
           → Skipping s g h y
@@ -140,15 +145,14 @@ module _ (s : List ℕ) (g : Shape) (o : Open s g) where
     walking-next y e k l w n = record {
       within = omega arith;
       gone = 0;
-      left-are = rw (k, w) (rest-all (word (x .k + 1)) (open-word s g o (x .k + 1)));
+      left-are = rw (k, w) (rest-all (word (x .k + 1)) (run .word-lt (x .k + 1)));
       counted = rw k (omega (arith, none-left e));
     }
 
-    -- the run's last word has no one left when all n are passed
-    walking-end : x .left ≡ 0 → x .k + 1 ≡ wordsFor (g .bits) → x .rank ≡ g .n
+    -- where the run's last word has no one left all n are passed
+    pub walking-end : x .left ≡ 0 → x .k + 1 ≡ wordsFor (g .bits) → x .rank ≡ g .n
     walking-end e k =
-        let r = open-reads s g o in
-        none-left e ∙ rw k (ones-whole s (g .upper) (g .bits) (λ i l _. r .spare i l) ∙ r .counted)
+        none-left e ∙ rw k (ones-whole s (g .upper) (g .bits) (λ i l _. run .spare i l) ∙ run .counted)
 
     -- no more than n are passed
     pub walking-few : x .rank ≤ g .n
@@ -157,7 +161,7 @@ module _ (s : List ℕ) (g : Shape) (o : Open s g) where
       a .counted,
       word-below (x .k),
       a .left-are .within,
-      ones-few s g o (64 * (x .k + 1)),
+      ones-few s g run (64 * (x .k + 1)),
     )
 
     -- and while there are fewer, an empty word is not the last
@@ -194,7 +198,7 @@ module _ (s : List ℕ) (g : Shape) (o : Open s g) where
       one-there = record { set = one-bit; below = one-rank }
 
       pub one-ahead : x .rank < g .n
-      one-ahead = one-ranks s g o bit (x .rank) one-there .number
+      one-ahead = one-number s g run bit (x .rank) one-there
 
       pub walking-drop : (y : Ones) → y .k ≡ x .k → y .left ≡ bitAnd (x .left) (x .left - 1) → y .rank ≡ x .rank + 1
           → Walking s g y

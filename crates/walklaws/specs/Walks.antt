@@ -1,9 +1,11 @@
--- What each step of a seek asks and promises, on the block s of shape g, for a bound b.
+-- What each step of a seek asks and promises, on the block s of shape g, for a bound b. The run of a block is its upper
+-- run, or its bitmap.
 --
+--   RunIn s g         the run of s: whole words, with n ones among its bits and none behind them
 --   Rest x y i        y is the word x without its first i ones
 --   Before s b i      every element before number i is below b
---   lastWord U xs i   the word of element number i in the upper run; the last word where there is none
---   landingWord s b   that word for the first element at least b
+--   lastWord f U xs i the word of element number i in the run; the last word where there is none
+--   landingWord f s b that word for the first element at least b
 --   Paid k a m b      on the way from word k to word m, the looks a became b: one look for each word that was passed
 --   Started s g b x   a place and the zeros before it; elements before it, and the cursor's own there, are below b
 --   Walking s g x     what is left of word k, and the ones of the run before it
@@ -13,7 +15,7 @@
 --   Skipped s g h r   a walk that stands just after zero number h
 --   Passed s g b r    a walk that has passed no element at least b
 --   AtOne s g x r     a walk of the same rank that has a one left in its word
---   Landed s b r      the mark, bit and rank of the first element at least b; where there is none, the list's n
+--   Landed f s b r    the mark and bit of the first element at least b; those of a spent cursor where there is none
 use mathlib.Core.Bool.{cond}
 use mathlib.Core.Path.{_≡_}
 use mathlib.Core.List.{List}
@@ -23,6 +25,7 @@ use lib.Dec.{eqb}
 use lib.ListN.{length, getD}
 use Rattle.rules.specs.Runs.{bit, runWord, runBit, wordsFor}
 use Rattle.rules.specs.Counts.{onesBelow}
+use Rattle.rules.specs.List.{Form}
 use Rattle.rules.specs.ReadList.{listU, decode}
 use Rattle.rules.specs.Seek.{placeOf, upperWords, cursorBit}
 use Rattle.fields.specs.Words.{placeOfOne}
@@ -34,6 +37,13 @@ use Rattle.walklaws.specs.declared.Ones.{Ones}
 use Rattle.walklaws.specs.declared.Landing.{Landing}
 use Rattle.walklaws.specs.Cursors.{markOf}
 
+pub record RunIn (s : List ℕ) (g : Shape) : Type 0 where
+  pub whole : g .upper + 8 * wordsFor (g .bits) ≤ length s
+  pub short : g .bits ≤ 2 ^ 25
+  pub counted : onesBelow s (g .upper) (g .bits) ≡ g .n
+  pub spare : (p : ℕ) → g .bits ≤ p → runBit s (g .upper) p ≡ 0
+  pub word-lt : (k : ℕ) → runWord s (g .upper) k < 2 ^ 64
+
 pub record Rest (x y i : ℕ) : Type 0 where
   pub whole : x < 2 ^ 64
   pub fits : y < 2 ^ 64
@@ -43,11 +53,11 @@ pub record Rest (x y i : ℕ) : Type 0 where
 abbrev pub Before : List ℕ → ℕ → ℕ → Type 0
 Before s b i = (j : ℕ) → j < i → getD (decode s) j 0 < b
 
-unfoldable pub lastWord : ℕ → List ℕ → ℕ → ℕ
-lastWord U xs i = cond (eqb i (length xs)) (upperWords U xs - 1) (placeOf U xs i / 64)
+unfoldable pub lastWord : Form → ℕ → List ℕ → ℕ → ℕ
+lastWord f U xs i = cond (eqb i (length xs)) (upperWords f U xs - 1) (placeOf f U xs i / 64)
 
-abbrev pub landingWord : List ℕ → ℕ → ℕ
-landingWord s b = lastWord (listU s) (decode s) (firstAt b (decode s))
+abbrev pub landingWord : Form → List ℕ → ℕ → ℕ
+landingWord f s b = lastWord f (listU s) (decode s) (firstAt b (decode s))
 
 abbrev pub Paid : ℕ → ℕ → ℕ → ℕ → Type 0
 Paid k a m b = b + k ≡ a + m
@@ -100,7 +110,6 @@ pub record AtOne (s : List ℕ) (g : Shape) (x r : Ones) : Type 0 where
   pub some : 0 < r .left
   pub rank-kept : r .rank ≡ x .rank
 
-pub record Landed (s : List ℕ) (b : ℕ) (r : Landing) : Type 0 where
+pub record Landed (f : Form) (s : List ℕ) (b : ℕ) (r : Landing) : Type 0 where
   pub mark-is : r .mark ≡ markOf (decode s) (cursorAt (decode s) (firstAt b (decode s)))
-  pub bit-is : r .bit ≡ cursorBit (listU s) (decode s) (cursorAt (decode s) (firstAt b (decode s)))
-  pub rank-is : r .rank ≡ firstAt b (decode s)
+  pub bit-is : r .bit ≡ cursorBit f (listU s) (decode s) (cursorAt (decode s) (firstAt b (decode s)))

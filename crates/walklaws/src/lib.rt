@@ -3,7 +3,8 @@
 ghost use mathlib.Core.Path.{_≡_};
 ghost use Rattle.walklaws.specs.Cursors.{unused};
 
-// A cursor on a list: its mark is 0 where fresh, page + 1 on an element, or SPENT; the element's bit; and its counts.
+// A cursor on a list in either form: its mark is 0 where fresh, page + 1 on an element, or SPENT; the element's bit;
+// and its counts.
 pub struct Cursor {
     pub mark: u32,
     pub bit: u32,
@@ -28,7 +29,7 @@ impl Cursor {
     }
 }
 
-// A place of the upper run, the zeros before it, and whether the cursor's own element is there: 1, else 0.
+// A place of an upper run, the zeros before it, and whether the cursor's own element is there: 1, else 0.
 pub struct StartPlace {
     pub bit: usize,
     pub zeros: usize,
@@ -42,17 +43,8 @@ pub struct Ones {
     pub rank: usize,
 }
 
-// Where a search ends: the cursor's mark and bit, and the rank of the element there, or the list's n where there is
-// none.
+// Where a search ends: the cursor's mark and bit.
 pub struct Landing {
     pub mark: u32,
     pub bit: u32,
-    pub rank: u32,
-}
-
-// What a seek hands back: the cursor that it moved, and the rank of the page that it found, or the list's n where it
-// found none.
-pub struct Moved {
-    pub cursor: Cursor,
-    pub rank: u32,
 }

@@ -7,19 +7,21 @@ use native.Mathlib.Nat.{add-zero}
 use native.Mathlib.Omega.{arith}
 use lib.ListN.{length, getD}
 use Rattle.rules.specs.declared.Refusal.the-variants.{Accepted}
-use Rattle.rules.specs.ReadList.{listU, decode}
+use Rattle.rules.specs.ReadList.{listU, decode, partRefusal}
 use Rattle.rules.specs.ReadTerm.{pagesOf, readWord}
-use Rattle.rules.specs.Index.{indexN, indexT, termPart, wordOf, indexRefusal}
+use Rattle.rules.specs.Index.{indexV, indexN, indexT, termPart, wordOf, indexRefusal}
 use Rattle.rules.specs.Common.{Tally, leadOf, commonFrom, common}
 use Rattle.rules.specs.Plain.{commonPages}
 use Rattle.rules.specs.Questions.{pagesIn, listsIn, wordsGood}
+use Rattle.listlaws.proofs.RefusalLaws.{part-form as form-told}
+use Rattle.maplaws.proofs.Theorems.{part-valid}
 use Rattle.termlaws.proofs.Theorems.{accepted-lists}
 use Rattle.cardlaws.proofs.Theorems.{accepted-term}
 use Rattle.commonlaws.proofs.PickLaws.{lead-leads}
 use Rattle.commonlaws.proofs.CommonLaws.{common-listed}
 use Rattle.querylaws.specs.Lists.{span, pagesAt, pagesIn as allPages}
 use Rattle.querylaws.specs.Listings.{wholeIn}
-use Rattle.openlists.specs.Places.{placePart, placePages, placedIn, sourceOf, slotOf, Places, Alike, Opened}
+use Rattle.openlists.specs.Places.{placePart, placePages, placedIn, sourceOf, slotOf, Places, Alike, Edited, Opened}
 use Rattle.openlists.proofs.SourceLaws.{span-at, slot-lt, source-slot, source-order}
 use Rattle.openlists.proofs.Theorems.{placed-rise, opened-common}
 use Rattle.questions.proofs.GoodLaws.{words-parts}
@@ -47,6 +49,15 @@ module _ (s ts ps : List ℕ) (a : indexRefusal s ≡ Accepted) (g : wordsGood (
   part-bound : (i : ℕ) → i < length ts → listU (placePart s ps i) ≡ indexN s
   part-bound i h = ap listU (part-pages i h) ∙ accepted-term s a (getD ts i 0) (word-below (indexT s) ts g i h) .same-N
 
+  part-accepted : (i : ℕ) → i < length ts → partRefusal (indexV s) (placePart s ps i) ≡ Accepted
+  part-accepted i h = rw (part-pages i h)
+      (accepted-lists (indexV s) (termPart (getD ts i 0) s)
+      (accepted-term s a (getD ts i 0) (word-below (indexT s) ts g i h) .accepts) .pages)
+
+  -- the form that the card's version gives them
+  pub part-form : Edited (indexV s) s ps (length ts)
+  part-form i h = form-told (indexV s) (placePart s ps i) (part-accepted i h)
+
   pub pages-places : Places s ps (length ts)
   pages-places =
       let w = words-parts (indexT s) ts g in
@@ -57,9 +68,7 @@ module _ (s ts ps : List ℕ) (a : indexRefusal s ≡ Accepted) (g : wordsGood (
           room = omega (arith, w .1);
           starts = l i h .starts;
           ends = l i h .ends;
-          accepted =
-              rw (part-pages i h) (accepted-lists (termPart (getD ts i 0) s)
-              (accepted-term s a (getD ts i 0) (word-below (indexT s) ts g i h) .accepts) .pages);
+          accepted = rw (part-form i h) (part-valid (indexV s) (placePart s ps i) (part-accepted i h));
         };
       }
 
@@ -84,7 +93,7 @@ module _ (s ts ps : List ℕ) (a : indexRefusal s ≡ Accepted) (g : wordsGood (
         (placed-rise s ps (length ts) pages-places pages-alike);
     rule = λ b n.
         rw (part-bound 0 (words-parts (indexT s) ts g .0), placed-lists) at
-        (opened-common s ps (length ts) pages-places pages-alike r o b n);
+        (opened-common s ps (length ts) pages-places pages-alike (indexV s) part-form r o b n);
   }
 
 -- ---- the pages opened
@@ -98,16 +107,16 @@ module _ (s ts r : List ℕ) (o : OpenedPages s ts r) where
   pub opened-some : 0 < length (listsIn s ts)
   opened-some = rw (length-lists s ts) (o .lists .some)
 
-  pub opened-whole : wholeIn s r (length ts) ≡ common (indexN s) (listsIn s ts)
+  pub opened-whole : wholeIn s r (length ts) ≡ common (indexV s) (indexN s) (listsIn s ts)
   unfolding common
   opened-whole =
       o .rule 0 (length (getD (allPages s r (length ts)) 0 []) + 1)
-      ∙ ap (λ (ls : List (List ℕ)). commonFrom (indexN s) (listsIn s ts) 0 (length (getD ls 0 []) + 1)) (o .pages)
+      ∙ ap (λ (ls : List (List ℕ)). commonFrom (indexV s) (indexN s) (listsIn s ts) 0 (length (getD ls 0 []) + 1)) (o .pages)
 
   -- plain reading lists the same pages
   pub opened-listed : wholeIn s r (length ts) .listed ≡ commonPages (listsIn s ts)
   opened-listed =
-      ap (λ (t : Tally). t .listed) opened-whole ∙ common-listed (indexN s) (listsIn s ts) opened-some (o .rise)
+      ap (λ (t : Tally). t .listed) opened-whole ∙ common-listed (indexV s) (indexN s) (listsIn s ts) opened-some (o .rise)
 
   module _ (lead : ℕ) (e : lead ≡ leadOf (listsIn s ts)) where
     pub lead-within : lead < length ts

@@ -6,7 +6,7 @@ use mathlib.Core.Path.{_≡_}
 use mathlib.Core.List.{List, _∷_}
 use Prim.Native.Nat.{ℕ}
 use lib.ListN.{length}
-use Rattle.rules.specs.Index.{indexN}
+use Rattle.rules.specs.Index.{indexV, indexN}
 use Rattle.rules.specs.Common.{leadPages, otherPages, commonFrom}
 use Rattle.rules.specs.Questions.{listsIn}
 use Rattle.commonlaws.specs.Readers.{Rise}
@@ -19,4 +19,4 @@ pub record OpenedPages (s ts r : List ℕ) : Type 0 where
   pub pages : pagesIn s r (length ts) ≡ leadPages (listsIn s ts) ∷ otherPages (listsIn s ts)
   pub bound : boundIn r ≡ indexN s
   pub rise : Rise (indexN s) (listsIn s ts)
-  pub rule : (b n : ℕ) → ruleIn s r (length ts) b n ≡ commonFrom (indexN s) (listsIn s ts) b n
+  pub rule : (b n : ℕ) → ruleIn s r (length ts) b n ≡ commonFrom (indexV s) (indexN s) (listsIn s ts) b n

@@ -4,11 +4,10 @@
 ghost use mathlib.Core.Path.{_≡_};
 ghost use Prim.Native.Nat.{_+_, _≤_, _<_};
 ghost use lib.ListN.{length};
-ghost use Rattle.rules.specs.Write.{laid};
-ghost use Rattle.rules.specs.Term.{lentWord, next, places, termBlock};
+ghost use Rattle.rules.specs.Term.{lentWord, next, places};
 ghost use Rattle.rules.specs.Promises.{TermWritten};
 ghost use Rattle.termlaws.specs.Words.{Writable};
-ghost use Rattle.wordlaws.specs.Lists.{Shaped};
+ghost use Rattle.writeterm.specs.Laid.{SomeShaped, TermLaid};
 use rules::LIMIT;
 use rules::LISTS_AT;
 use rules::Refusal;
@@ -20,17 +19,16 @@ use wordlaws::Shapes;
 // Writes the block of a word whose lists have these shapes: its header, and behind it the lists, each straight into its
 // part.
 fn fill_term(room: &mut [u8], g: Shapes, pages: &[u32], counts: &[u32], positions: &[u32])
-    requires { ⌜ Shaped g (now pages) (now counts) (now positions)
+    requires { ⌜ SomeShaped g (now pages) (now counts) (now positions)
         × (5 + g .pages .end + g .counts .end + g .positions .end ≤ length (now room)) ⌝ }
-    ensures { λ _. ⌜ now (room .exit) ≡ laid
-        (termBlock (g .pages .u) (lentWord (now (pages .entry)) (now (counts .entry)) (now (positions .entry))))
-        (now (room .entry)) ⌝ }
+    ensures { λ _. ⌜ TermLaid g (now (pages .entry)) (now (counts .entry)) (now (positions .entry)) (now (room .entry))
+        (now (room .exit)) ⌝ }
 {
     let second = LISTS_AT + g.pages.end;
     let third = second + g.counts.end;
     numbers::write_u32(room, 0, (third + g.positions.end) as u64);
     room[VERSION_AT] = VERSION;
-    filling::fill(&mut room[LISTS_AT..], g.pages, pages);
+    fillmap::fill_pages(&mut room[LISTS_AT..], g.pages, pages);
     fillword::fill_sums(&mut room[second..], g.counts, counts);
     fillword::fill_places(&mut room[third..], g.positions, counts, positions);
 }
@@ -38,6 +36,7 @@ fn fill_term(room: &mut [u8], g: Shapes, pages: &[u32], counts: &[u32], position
 // Writes the block of a word that has passed its tests, the elements of whose positions end at `reach`; or tells that
 // the room is too small.
 fn write_tested(
+    version: u32,
     n: usize,
     reach: usize,
     pages: &[u32],
@@ -45,13 +44,14 @@ fn write_tested(
     positions: &[u32],
     room: &mut [u8],
 ) -> Written
-    requires { ⌜ Writable n (lentWord (now pages) (now counts) (now positions))
+    requires { ⌜ Writable version n (lentWord (now pages) (now counts) (now positions))
         × (reach ≡ next 0 (places (lentWord (now pages) (now counts) (now positions)))) ⌝ }
-    ensures { λ r. ⌜ TermWritten n (lentWord (now (pages .entry)) (now (counts .entry)) (now (positions .entry)))
-        (now (room .entry)) r (now (room .exit)) ⌝ }
+    ensures { λ r. ⌜ TermWritten version n
+        (lentWord (now (pages .entry)) (now (counts .entry)) (now (positions .entry))) (now (room .entry)) r
+        (now (room .exit)) ⌝ }
 {
     let g = Shapes {
-        pages: shape::shape_of(n, pages.len()),
+        pages: shape::pages_shape(version, n, pages.len()),
         counts: shape::shape_of(positions.len(), counts.len()),
         positions: shape::shape_of(reach, positions.len()),
     };
@@ -69,18 +69,26 @@ fn write_tested(
     }
 }
 
-// Writes a word's block at the front of the room: pages below n, how often the word is on each, and the positions of
-// all pages.
+// Writes a word's block at the front of the room, for an index of that version: pages below n, how often the word is on
+// each, and the positions of all pages.
 pub fn write_term(
+    version: u32,
     n: u32,
     pages: &[u32],
     counts: &[u32],
     positions: &[u32],
     room: &mut [u8],
 ) -> Written
-    ensures { λ r. ⌜ TermWritten n (lentWord (now (pages .entry)) (now (counts .entry)) (now (positions .entry)))
-        (now (room .entry)) r (now (room .exit)) ⌝ }
+    ensures { λ r. ⌜ TermWritten version n
+        (lentWord (now (pages .entry)) (now (counts .entry)) (now (positions .entry))) (now (room .entry)) r
+        (now (room .exit)) ⌝ }
 {
+    if !parts::known(version) {
+        return Written {
+            refusal: Refusal::Version,
+            size: 0,
+        };
+    }
     if LIMIT < n as usize {
         return Written {
             refusal: Refusal::Limit,
@@ -100,5 +108,13 @@ pub fn write_term(
             size: 0,
         };
     }
-    write_tested(n as usize, word.next, pages, counts, positions, room)
+    write_tested(
+        version,
+        n as usize,
+        word.next,
+        pages,
+        counts,
+        positions,
+        room,
+    )
 }

@@ -3,9 +3,10 @@
 use super::cards::{self, Card, Word};
 use super::random::Random;
 use super::raw::{RawCard, RawList, RawTerm};
-use super::{damage, faulty_inputs, lists, questions, rooms};
+use super::{damage, editions, faulty_inputs, lists, questions, rooms};
 use crate::case::Case;
 use crate::plain::ask::reply;
+use crate::plain::edition::{Edition, Form};
 use crate::plain::index::INDEX_HEADER;
 use crate::plain::list::{List, LIST_HEADER};
 use crate::plain::term::{Term, TERM_HEADER};
@@ -47,7 +48,11 @@ pub fn write_list_of(random: &mut Random, mut list: List) -> Case {
 }
 
 fn check_list(random: &mut Random) -> Case {
-    let raw = RawList::of(&lists::list(random));
+    let form = match random.once_in(8) {
+        true => Form::Bitmap,
+        false => Form::Runs,
+    };
+    let raw = RawList::of(&lists::list(random), form);
     check_list_of(random, raw)
 }
 
@@ -73,12 +78,18 @@ pub fn check_list_of(random: &mut Random, mut raw: RawList) -> Case {
 
 fn write_term(random: &mut Random) -> Case {
     let (card_pages, word) = cards::page_count_and_word(random);
-    write_term_of(random, card_pages, word)
+    let edition = editions::edition(random);
+    write_term_of(random, edition, card_pages, word)
 }
 
 /// Writing of this word's term, spoiled in some cases.
-pub fn write_term_of(random: &mut Random, mut card_pages: u32, mut word: Word) -> Case {
-    let needed = word.term(card_pages).block().len();
+pub fn write_term_of(
+    random: &mut Random,
+    edition: Edition,
+    mut card_pages: u32,
+    mut word: Word,
+) -> Case {
+    let needed = word.term(edition, card_pages).block().len();
     match random.from_to(0, 9) {
         0..=2 => {
             for _ in 0..damage::faults(random) {
@@ -89,7 +100,12 @@ pub fn write_term_of(random: &mut Random, mut card_pages: u32, mut word: Word) -
         _ => {}
     }
     let size = rooms::size(random, needed);
+    let version = match random.once_in(16) {
+        true => editions::unknown(random),
+        false => edition.version(),
+    };
     Case::WriteTerm {
+        version,
         card_pages,
         pages: word.pages,
         counts: word.counts,
@@ -100,7 +116,8 @@ pub fn write_term_of(random: &mut Random, mut card_pages: u32, mut word: Word) -
 
 fn check_term(random: &mut Random) -> Case {
     let (card_pages, word) = cards::page_count_and_word(random);
-    check_term_of(random, word.term(card_pages))
+    let edition = editions::edition(random);
+    check_term_of(random, word.term(edition, card_pages))
 }
 
 /// The check of this term's block, damaged in most cases.
@@ -124,7 +141,8 @@ pub fn check_term_of(random: &mut Random, mut term: Term) -> Case {
     if damaged && random.once_in(60) {
         block.truncate(random.place(TERM_HEADER));
     }
-    Case::CheckTerm { block }
+    let version = editions::told(random, term.edition);
+    Case::CheckTerm { version, block }
 }
 
 /// The pieces of a card, some of them damaged.
@@ -132,7 +150,7 @@ fn damaged_pieces(random: &mut Random, card: &Card, mut raw: RawCard) -> RawCard
     for _ in 0..damage::faults(random) {
         if random.once_in(3) && !card.words.is_empty() {
             let place = random.place(card.words.len());
-            let mut term = card.words[place].term(card.pages);
+            let mut term = card.term(place);
             damage::disagree(random, &mut term);
             if let Some(slot) = raw.terms.get_mut(place) {
                 *slot = RawTerm::of(&term);
@@ -198,16 +216,19 @@ pub fn close_index_of(random: &mut Random, card: &Card, mut raw: RawCard) -> Cas
     }
     let mut card_pages = raw.pages;
     let mut term_count = u32::from(raw.term_count);
+    let mut version = editions::told(random, card.edition);
     for _ in 0..random.pick(&[0, 0, 0, 1, 1, 2]) {
-        match random.from_to(0, 3) {
+        match random.from_to(0, 4) {
             0 | 1 => used = wrong_used(random, used, buffer.len()),
             2 => card_pages = wrong_pages(random, card_pages),
+            3 => version = editions::unknown(random),
             _ => term_count = wrong_terms(random, term_count),
         }
     }
     Case::CloseIndex {
         buffer,
         used,
+        version,
         card_pages,
         term_count,
     }

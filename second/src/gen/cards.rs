@@ -1,7 +1,8 @@
 //! Words and whole cards of every shape, as the writer is handed them.
 
-use super::lists;
 use super::random::Random;
+use super::{editions, lists};
+use crate::plain::edition::Edition;
 use crate::plain::term::Term;
 use crate::plain::GREATEST_BOUND;
 
@@ -16,9 +17,11 @@ pub struct Word {
     pub positions: Vec<u32>,
 }
 
-/// A card before it is written: its pages and words.
+/// A card before it is written: its edition, pages and words.
 #[derive(Clone, Debug)]
 pub struct Card {
+    /// The edition.
+    pub edition: Edition,
     /// N.
     pub pages: u32,
     /// The words in the order of their numbers.
@@ -36,8 +39,9 @@ impl Word {
     }
 
     /// The three lists of a valid word.
-    pub fn term(&self, card_pages: u32) -> Term {
-        Term::from_inputs(card_pages, &self.pages, &self.counts, &self.positions)
+    pub fn term(&self, edition: Edition, card_pages: u32) -> Term {
+        let (pages, counts) = (&self.pages, &self.counts);
+        Term::from_inputs(edition, card_pages, pages, counts, &self.positions)
             .expect("the generator makes valid words")
     }
 
@@ -49,9 +53,33 @@ impl Word {
     }
 }
 
+impl Card {
+    /// A card of some edition.
+    pub fn of(random: &mut Random, pages: u32, words: Vec<Word>) -> Card {
+        let edition = editions::edition(random);
+        Card {
+            edition,
+            pages,
+            words,
+        }
+    }
+
+    /// The lists of its word of this number.
+    pub fn term(&self, word: usize) -> Term {
+        self.words[word].term(self.edition, self.pages)
+    }
+}
+
 /// A number of pages and a valid word on them.
 pub fn page_count_and_word(random: &mut Random) -> (u32, Word) {
     let pages = lists::list(random);
+    let word = word_on(random, pages.elements);
+    (pages.bound, word)
+}
+
+/// The same with dense pages, whose number is a multiple of 256 or next to one.
+pub fn page_count_and_dense_word(random: &mut Random) -> (u32, Word) {
+    let pages = lists::around_whole_numbers(random);
     let word = word_on(random, pages.elements);
     (pages.bound, word)
 }
@@ -124,10 +152,8 @@ pub fn small_card(random: &mut Random) -> Card {
 }
 
 fn without_words(random: &mut Random) -> Card {
-    Card {
-        pages: lists::bound(random),
-        words: Vec::new(),
-    }
+    let pages = lists::bound(random);
+    Card::of(random, pages, Vec::new())
 }
 
 fn of_empty_words(random: &mut Random) -> Card {
@@ -137,7 +163,7 @@ fn of_empty_words(random: &mut Random) -> Card {
         lists::bound(random)
     };
     let words = vec![Word::nowhere(); random.from_to(1, 9) as usize];
-    Card { pages, words }
+    Card::of(random, pages, words)
 }
 
 fn of_text(random: &mut Random) -> Card {
@@ -161,7 +187,7 @@ pub fn text(random: &mut Random, pages: u32, vocabulary: usize, longest: u32) ->
             }
         }
     }
-    Card { pages, words }
+    Card::of(random, pages, words)
 }
 
 /// A few words with lists of all densities.
@@ -185,16 +211,17 @@ fn of_lists_on(random: &mut Random, pages: u32) -> Card {
         };
         words.push(word_on(random, on));
     }
-    Card { pages, words }
+    Card::of(random, pages, words)
 }
 
 fn pages_of_some_density(random: &mut Random, pages: u32) -> Vec<u32> {
     let most = pages.min(2_500);
-    let count = match random.from_to(0, 9) {
+    let count = match random.from_to(0, 11) {
         0 => 0,
         1 => most,
         2..=4 => random.from_to(1, most.min(12)),
         5 | 6 => random.from_to(most / 2, most),
+        7 | 8 => lists::count_at_density_edge(random, pages).min(most),
         _ => random.from_to(1, most),
     };
     lists::spread(random, pages, count).elements
@@ -235,7 +262,7 @@ pub fn run_ends(random: &mut Random, width: u32, whole: u32) -> Card {
     words.push(word_on(random, on));
     let turn = random.place(words.len());
     words.rotate_right(turn);
-    Card { pages, words }
+    Card::of(random, pages, words)
 }
 
 /// Many tiny words, up to the limit of terms.
@@ -251,5 +278,5 @@ fn of_many_words(random: &mut Random) -> Card {
         let on = (0..pages).filter(|_| random.once_in(3)).collect();
         words.push(word_on(random, on));
     }
-    Card { pages, words }
+    Card::of(random, pages, words)
 }

@@ -3,8 +3,9 @@
 use super::cards::{self, Word};
 use super::random::Random;
 use super::writing::{announced, runs, Host};
-use super::{lists, rooms};
+use super::{editions, lists, rooms};
 use crate::compare::Decided;
+use crate::plain::edition::Edition;
 use crate::plain::stream::Run;
 
 /// The most pages of a word that is cut in every way.
@@ -14,7 +15,7 @@ const MOST_PAGES: u32 = 6;
 const CUTS: u64 = 1 << MOST_PAGES;
 
 /// The words of each number of pages.
-const WORDS: u64 = 12;
+const WORDS: u64 = 15;
 
 /// The sessions in all: each cut without further runs, and with runs that have no postings put in.
 pub const SESSIONS: u64 = 2 * CUTS * WORDS;
@@ -23,13 +24,14 @@ pub const SESSIONS: u64 = 2 * CUTS * WORDS;
 pub fn session(seed: u64, number: u64) -> Vec<Decided> {
     let cut = Cut::of(number / 2 % CUTS);
     let of_word = number / 2 / CUTS * u64::from(MOST_PAGES + 1) + u64::from(cut.pages);
-    let (card_pages, word) = word_on(&mut Random::of_case(seed, 5, of_word), cut.pages);
-    let block = word.term(card_pages).block();
+    let of_word = &mut Random::of_case(seed, 5, of_word);
+    let (edition, card_pages, word) = word_on(of_word, cut.pages);
+    let block = word.term(edition, card_pages).block();
     let mut random = Random::of_case(seed, 6, number);
     let spare = random.pick(&[0, 0, 1, 9]);
     let size = block.len() + spare;
     let mut host = Host::with(rooms::bytes(&mut random, size));
-    host.begin(announced(card_pages, &word), size);
+    host.begin(announced(edition, card_pages, &word), size);
     let with_empty_runs = number % 2 == 1;
     for run in runs(&word, &cut.places()) {
         if with_empty_runs {
@@ -68,15 +70,19 @@ impl Cut {
     }
 }
 
-/// A number of pages on a card, and a word on so many of them.
-fn word_on(random: &mut Random, pages: u32) -> (u32, Word) {
-    let card_pages = lists::bound(random).max(pages);
+/// An edition, a number of pages on a card, and a word on so many of them, in half the cases a dense one.
+fn word_on(random: &mut Random, pages: u32) -> (Edition, u32, Word) {
+    let edition = editions::edition(random);
+    let card_pages = match random.once_in(2) {
+        true => pages + random.from_to(0, 3 * pages),
+        false => lists::bound(random).max(pages),
+    };
     let on = lists::spread(random, card_pages, pages).elements;
     let word = match random.once_in(3) {
         true => crowded(random, &on),
         false => cards::word_on(random, on),
     };
-    (card_pages, word)
+    (edition, card_pages, word)
 }
 
 /// A word that stands many times on each page, so that its positions have pointers.
@@ -113,7 +119,7 @@ mod tests {
     #[test]
     fn the_runs_of_a_session_make_the_word() {
         let mut random = Random::of_case(3, 0, 0);
-        let (_, word) = word_on(&mut random, MOST_PAGES);
+        let (.., word) = word_on(&mut random, MOST_PAGES);
         for cut in (CUTS / 2..CUTS).map(Cut::of) {
             let runs = runs(&word, &cut.places());
             assert_eq!(runs.len(), cut.places().len() + 1);

@@ -1,10 +1,12 @@
 //! Damage of every kind: to bytes, to headers at each level, to runs and
-//! pointers, to whole parts, and to what the parts say of each other.
+//! pointers, to the form of a list, to whole parts, and to what the parts say of each other.
 
 use super::random::Random;
 use super::raw::{RawCard, RawList, RawTerm};
-use crate::plain::bits::{bytes_to_run, place_of_bit};
+use crate::plain::bitmap;
+use crate::plain::bits::{bytes_for_bits, bytes_to_run, place_of_bit};
 use crate::plain::bytes::{number_at, push_number};
+use crate::plain::edition::Form;
 use crate::plain::list::{List, Shape};
 use crate::plain::term::Term;
 use crate::plain::GREATEST_BOUND;
@@ -29,8 +31,10 @@ fn wrong_length(random: &mut Random, right: u32) -> u32 {
     }
 }
 
-fn wrong_version(random: &mut Random) -> u8 {
-    random.pick(&[0, 2, 3, 129, 255])
+fn wrong_version(random: &mut Random, right: u8) -> u8 {
+    let mut versions = vec![0, 1, 2, 3, 7, 129, 255];
+    versions.retain(|version| *version != right);
+    random.pick(&versions)
 }
 
 fn wrong_bound(random: &mut Random, right: u32) -> u32 {
@@ -44,9 +48,14 @@ fn wrong_bound(random: &mut Random, right: u32) -> u32 {
 
 /// Makes one piece of a list block wrong.
 pub fn damage_list(random: &mut Random, list: &mut RawList) {
-    match random.from_to(0, 15) {
+    match random.from_to(0, 18) {
         0 => list.stated = Some(wrong_length(random, list.body.len() as u32 + 13)),
-        1 => list.version = wrong_version(random),
+        1 => {
+            list.version = wrong_version(random, list.version);
+            if random.once_in(4) {
+                list.bound = GREATEST_BOUND + 1;
+            }
+        }
         2 => list.bound = wrong_bound(random, list.bound),
         3 => list.count = wrong_count(random, list),
         4 => change_body_length(random, list),
@@ -56,7 +65,24 @@ pub fn damage_list(random: &mut Random, list: &mut RawList) {
         11 | 12 => move_a_one(random, list),
         13 => exchange_low_parts(random, list),
         14 => lower_bound_to_an_element(random, list),
-        _ => exchange_runs(list),
+        15 => exchange_runs(list),
+        _ => misplace_form(random, list),
+    }
+}
+
+/// Gives a list its other form, which no place has for it, in half the cases with a further fault.
+fn misplace_form(random: &mut Random, list: &mut RawList) {
+    match list.list() {
+        Some((right, form)) => *list = RawList::of(&right, form.other()),
+        None => list.version = random.pick(&Form::ALL).version(),
+    }
+    match random.from_to(0, 9) {
+        0 => list.bound = GREATEST_BOUND + 1,
+        1 | 6 => list.count = list.bound.wrapping_add(1),
+        2 | 3 => change_body_length(random, list),
+        4 => flip_bit_of_body(random, list),
+        5 => list.count = 0,
+        _ => {}
     }
 }
 
@@ -95,9 +121,11 @@ fn flip_bit_of_body(random: &mut Random, list: &mut RawList) {
     }
 }
 
-/// Where the runs of an undamaged body lie.
+/// Where the runs of an undamaged body lie, and how many bits they use; a bitmap is an upper run alone.
 struct Places {
-    shape: Shape,
+    width: usize,
+    numbers: usize,
+    upper_bits: usize,
     lower: std::ops::Range<usize>,
     upper: std::ops::Range<usize>,
 }
@@ -107,13 +135,18 @@ fn places(list: &RawList) -> Option<Places> {
         return None;
     }
     let shape = Shape::of(list.bound, list.count as usize);
-    let lower_start = shape.pointers() * 4;
-    let lower_bits = list.count as usize * shape.width as usize;
-    let upper_start = lower_start + lower_bits.div_ceil(64) * 8;
-    let upper_bits = list.count as usize + shape.zeros;
-    let upper_end = upper_start + upper_bits.div_ceil(64) * 8;
+    let in_runs = list.count as usize + shape.zeros;
+    let (numbers, width, upper_bits) = match list.version == Form::Bitmap.version() {
+        true => (bitmap::numbers(list.bound), 0, list.bound as usize),
+        false => (shape.pointers(), shape.width as usize, in_runs),
+    };
+    let lower_start = 4 * numbers;
+    let upper_start = lower_start + bytes_for_bits(list.count as usize * width);
+    let upper_end = upper_start + bytes_for_bits(upper_bits);
     (upper_end == list.body.len()).then_some(Places {
-        shape,
+        width,
+        numbers,
+        upper_bits,
         lower: lower_start..upper_start,
         upper: upper_start..upper_end,
     })
@@ -126,11 +159,10 @@ fn flip(bytes: &mut [u8], bit_of_run: usize) {
 
 fn set_spare_bit(random: &mut Random, list: &mut RawList) {
     let Some(places) = places(list) else { return };
-    let count = list.count as usize;
-    let (run, used) = if random.once_in(2) {
-        (places.lower, count * places.shape.width as usize)
-    } else {
-        (places.upper, count + places.shape.zeros)
+    let lower_bits = list.count as usize * places.width;
+    let (run, used) = match lower_bits > 0 && random.once_in(2) {
+        true => (places.lower, lower_bits),
+        false => (places.upper, places.upper_bits),
     };
     let spare = run.len() * 8 - used;
     if spare > 0 {
@@ -145,28 +177,28 @@ fn set_spare_bit(random: &mut Random, list: &mut RawList) {
 
 fn damage_pointer(random: &mut Random, list: &mut RawList) {
     let Some(places) = places(list) else { return };
-    if places.shape.pointers() == 0 {
+    if places.numbers == 0 {
         return;
     }
-    let place = random.place(places.shape.pointers()) * 4;
+    let place = random.place(places.numbers) * 4;
     let right = number_at(&list.body, place);
     let wrong = match random.from_to(0, 4) {
         0 => right.wrapping_add(1),
         1 => right.wrapping_sub(1),
         2 => right.wrapping_add(random.pick(&[64, 512, 65_536])),
         3 => random.pick(&[0, 256, u32::MAX]),
-        _ => list.count + places.shape.zeros as u32,
+        _ => places.upper_bits as u32,
     };
     let mut bytes = Vec::new();
     push_number(&mut bytes, wrong);
     list.body[place..place + 4].copy_from_slice(&bytes);
 }
 
-/// Moves a set bit of the upper run, so that the number of ones stays.
+/// Moves a set bit of the upper run or the bitmap, so that the number of ones stays.
 fn move_a_one(random: &mut Random, list: &mut RawList) {
     let Some(places) = places(list) else { return };
     let run = bytes_to_run(&list.body[places.upper.clone()]);
-    let used = list.count as usize + places.shape.zeros;
+    let used = places.upper_bits;
     let ones: Vec<usize> = (0..used).filter(|i| run[*i]).collect();
     let zeros: Vec<usize> = (0..used).filter(|i| !run[*i]).collect();
     if ones.is_empty() || zeros.is_empty() {
@@ -189,7 +221,7 @@ fn move_a_one(random: &mut Random, list: &mut RawList) {
 /// Exchanges the low parts of two neighbours.
 fn exchange_low_parts(random: &mut Random, list: &mut RawList) {
     let Some(places) = places(list) else { return };
-    let width = places.shape.width as usize;
+    let width = places.width;
     if width == 0 || list.count < 2 {
         return;
     }
@@ -224,12 +256,12 @@ fn exchange_runs(list: &mut RawList) {
 /// Makes one piece of a term block wrong.
 pub fn damage_term(random: &mut Random, term: &mut RawTerm) {
     let lists = term.lists.len();
-    match random.from_to(0, 11) {
+    match random.from_to(0, 12) {
         0 => {
             let right = term.bytes().len() as u32;
             term.stated = Some(wrong_length(random, right));
         }
-        1 => term.version = wrong_version(random),
+        1 => term.version = wrong_version(random, term.version),
         2 => {
             let length = random.pick(&[1, 4, 13, 20]);
             term.tail = random.bytes(length);
@@ -240,8 +272,14 @@ pub fn damage_term(random: &mut Random, term: &mut RawTerm) {
             let again = term.lists[random.place(lists)].clone();
             term.lists.push(again);
         }
+        6 if lists > 0 => {
+            let any = random.place(lists);
+            let place = random.pick(&[0, any]);
+            misplace_form(random, &mut term.lists[place]);
+        }
         _ if lists > 0 => {
-            let place = random.place(lists);
+            let any = random.place(lists);
+            let place = random.pick(&[0, any]);
             damage_list(random, &mut term.lists[place]);
         }
         _ => {}
@@ -256,7 +294,7 @@ pub fn damage_card(random: &mut Random, card: &mut RawCard) {
             let right = card.bytes().len() as u32;
             card.stated = Some(wrong_length(random, right));
         }
-        1 => card.version = wrong_version(random),
+        1 => card.version = wrong_version(random, card.version),
         2 => card.pages = wrong_bound(random, card.pages),
         3 | 4 => card.term_count = wrong_term_count(random, card.term_count),
         5 => {

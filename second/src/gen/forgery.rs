@@ -1,7 +1,8 @@
 //! Sessions that no call gave.
 
+use super::editions;
 use super::random::Random;
-use crate::plain::stream::Stream;
+use crate::plain::stream::{Announced, Stream};
 use crate::plain::GREATEST_BOUND;
 
 /// A session made up out of the one that the host has.
@@ -9,13 +10,14 @@ pub fn forged(random: &mut Random, stream: Stream) -> Stream {
     let mut numbers = stream.numbers();
     let place = random.place(numbers.len());
     let number = numbers[place];
-    match random.from_to(0, 9) {
+    match random.from_to(0, 10) {
         0..=2 => numbers[place] = random.pick(&[number.wrapping_add(1), number.wrapping_sub(1)]),
         3 | 4 => numbers[place] = special(random),
         5 => numbers[place] = random.bits() as u32,
-        6 => numbers = random.pick(&[[u32::MAX; 9], [1; 9], [0; 9]]),
+        6 => numbers = random.pick(&[[u32::MAX; 10], [1; 10], [0; 10]]),
         7 => numbers = numbers.map(|_| random.bits() as u32),
         8 => return with_laid(random, stream),
+        9 => return of_version(random, stream),
         _ => return with_far_base(random, stream),
     }
     Stream::of_numbers(numbers)
@@ -37,6 +39,19 @@ fn with_laid(random: &mut Random, stream: Stream) -> Stream {
         filled: laid(random, announced.positions, stream.filled),
         page: random.pick(&[0, stream.page, announced.card_pages]),
         base: random.pick(&[stream.base, announced.bound]),
+        ..stream
+    }
+}
+
+/// The same session, announced for an index of another version.
+fn of_version(random: &mut Random, stream: Stream) -> Stream {
+    let unknown = editions::unknown(random);
+    let version = random.pick(&[1, 2, 2, unknown]);
+    Stream {
+        announced: Announced {
+            version,
+            ..stream.announced
+        },
         ..stream
     }
 }

@@ -28,7 +28,7 @@ pub fn card(random: &mut Random, number: u64, long: u32) -> Card {
 
 fn of_lists(random: &mut Random, pages: u32, lists: Vec<Vec<u32>>) -> Card {
     let words = lists.into_iter().map(|on| word_on(random, on)).collect();
-    Card { pages, words }
+    Card::of(random, pages, words)
 }
 
 /// Long lists over all pages, two of them nearly the same, and short ones.
@@ -120,9 +120,7 @@ mod tests {
             let card = card(&mut random, number, long);
             let longest = card.words.iter().map(|word| word.pages.len()).max();
             assert!(longest > Some(long as usize / 3), "shape {number}");
-            card.words
-                .iter()
-                .for_each(|word| drop(word.term(card.pages)));
+            (0..card.words.len()).for_each(|word| drop(card.term(word)));
         }
     }
 }

@@ -1,6 +1,7 @@
 //! Valid lists of every shape.
 
 use super::random::Random;
+use crate::plain::edition::is_dense;
 use crate::plain::list::List;
 use crate::plain::GREATEST_BOUND;
 
@@ -9,7 +10,7 @@ pub const GREATEST_WIDTH: u32 = 24;
 
 /// A valid list of some shape.
 pub fn list(random: &mut Random) -> List {
-    match random.from_to(0, 19) {
+    match random.from_to(0, 23) {
         0 => empty(random),
         1 => full(random),
         2 | 3 => dense(random),
@@ -19,6 +20,8 @@ pub fn list(random: &mut Random) -> List {
         13 | 14 => tiny(random),
         15 | 16 => sparse(random),
         17 | 18 => of_any_bound(random),
+        19..=21 => at_density_edge(random),
+        22 => around_whole_numbers(random),
         _ => large(random),
     }
 }
@@ -158,6 +161,51 @@ fn large(random: &mut Random) -> List {
     spread(random, bound, count)
 }
 
+/// The most elements of a list at the edge of density.
+const MOST_AT_EDGE: u32 = 3_000;
+
+/// The fewest elements of a dense list below a bound that is not 0.
+pub fn least_dense(bound: u32) -> u32 {
+    let (mut below, mut dense) = (0, bound);
+    while dense - below > 1 {
+        let middle = below + (dense - below) / 2;
+        match is_dense(bound, middle as usize) {
+            true => dense = middle,
+            false => below = middle,
+        }
+    }
+    dense
+}
+
+/// As many elements as make a list dense, or one too few, or one more.
+pub fn count_at_density_edge(random: &mut Random, bound: u32) -> u32 {
+    let least = least_dense(bound);
+    random.pick(&[least - 1, least, least, (least + 1).min(bound)])
+}
+
+fn at_density_edge(random: &mut Random) -> List {
+    let bound = match random.from_to(0, 3) {
+        0 => random.from_to(1, 40),
+        1 => random.from_to(1, 1_100),
+        2 => near_multiple_of_256(random),
+        _ => bound(random).clamp(1, 4 * MOST_AT_EDGE),
+    };
+    let count = count_at_density_edge(random, bound);
+    spread(random, bound, count)
+}
+
+fn near_multiple_of_256(random: &mut Random) -> u32 {
+    256 * random.from_to(1, 12) - 1 + random.from_to(0, 2)
+}
+
+/// A dense list whose bound is a multiple of 256 or next to one, with and without the last numbers below it.
+pub fn around_whole_numbers(random: &mut Random) -> List {
+    let bound = near_multiple_of_256(random);
+    let some = random.from_to(least_dense(bound), bound);
+    let count = random.pick(&[some, some, bound, bound - 1]);
+    spread(random, bound, count)
+}
+
 /// A list of one chosen low width.
 pub fn of_width(random: &mut Random, width: u32, count: u32) -> List {
     let least = count << width;
@@ -194,4 +242,18 @@ fn with_last_pointer_at_end(random: &mut Random) -> List {
 /// A number of elements that gives a bound, at least 2 to the width, this low width.
 pub fn count_for_width(random: &mut Random, bound: u32, width: u32) -> u32 {
     random.from_to((bound >> (width + 1)) + 1, bound >> width)
+}
+
+#[cfg(test)]
+mod tests {
+    use super::*;
+
+    #[test]
+    fn one_element_less_than_the_fewest_is_not_dense() {
+        for bound in (1..2_000).chain([65_536, GREATEST_BOUND - 1, GREATEST_BOUND]) {
+            let least = least_dense(bound) as usize;
+            assert!(is_dense(bound, least), "{bound}");
+            assert!(!is_dense(bound, least - 1), "{bound}");
+        }
+    }
 }

@@ -4,9 +4,9 @@ use super::random::Random;
 use super::rooms;
 use crate::case::{Case, Outcome, RoomAfter};
 use crate::compare::Decided;
-use crate::plain::list::List;
 use crate::plain::meeting::Met;
 use crate::plain::screen::{Screened, Wanted};
+use crate::plain::seek::Formed;
 use crate::plain::term::Term;
 use crate::screen_case::{ScreenAfter, ScreenCase};
 use crate::text::Stored;
@@ -76,7 +76,7 @@ impl<'a> Panel<'a> {
     /// Asks for the common pages of these words, and gives them.
     pub fn ask_common(&mut self, words: &[u32]) -> Vec<u32> {
         let questions = [&[3, words.len() as u32], words].concat();
-        let lead = self.lists(words).map(|list| list.elements.len()).min();
+        let lead = self.lists(words).map(|on| on.list.elements.len()).min();
         let case = Case::Ask {
             card: self.card.to_vec(),
             questions,
@@ -104,9 +104,11 @@ impl<'a> Panel<'a> {
         self.met(wanted).map_or(0, |met| met.pages.len())
     }
 
-    fn lists<'b>(&'b self, words: &'b [u32]) -> impl Iterator<Item = &'a List> + 'b {
+    fn lists<'b>(&'b self, words: &'b [u32]) -> impl Iterator<Item = Formed<'a>> + 'b {
         let terms = self.terms.unwrap_or(&[]);
-        words.iter().map(|word| &terms[*word as usize].pages)
+        words
+            .iter()
+            .map(|word| terms[*word as usize].formed_pages())
     }
 
     fn show_in(&mut self, random: &mut Random, wanted: Wanted, pages: usize, counts: usize) {
@@ -148,15 +150,9 @@ impl<'a> Panel<'a> {
 
     /// The most seeks that a screen of these words can take, and the most looks with so many.
     fn most_counts(&self, words: &[u32], seeks: u32) -> [u32; 2] {
-        let lead = self.lists(words).map(|list| list.elements.len()).min();
-        let upper_words = |list: &List| {
-            let bits = list
-                .shape()
-                .map_or(0, |shape| list.elements.len() + shape.zeros);
-            bits.div_ceil(64) as u32
-        };
-        let all_words: u32 = self.lists(words).map(upper_words).sum();
+        let lead = self.lists(words).map(|on| on.list.elements.len()).min();
+        let all_words: usize = self.lists(words).map(|on| on.bits().div_ceil(64)).sum();
         let most_seeks = words.len() * lead.unwrap_or(0) + 1;
-        [most_seeks as u32, seeks + all_words]
+        [most_seeks as u32, seeks + all_words as u32]
     }
 }

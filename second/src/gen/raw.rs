@@ -3,7 +3,8 @@
 
 use super::cards::Card;
 use crate::plain::bytes::{number_at, push_number};
-use crate::plain::list::{List, LIST_HEADER};
+use crate::plain::edition::Form;
+use crate::plain::list::{check_list_of, List, LIST_HEADER};
 use crate::plain::term::Term;
 
 /// A list block in pieces.
@@ -17,7 +18,7 @@ pub struct RawList {
     pub bound: u32,
     /// n.
     pub count: u32,
-    /// Pointers and runs.
+    /// Pointers and runs, or numbers and bits.
     pub body: Vec<u8>,
 }
 
@@ -52,9 +53,9 @@ pub struct RawCard {
 }
 
 impl RawList {
-    /// The pieces of a valid list's block.
-    pub fn of(list: &List) -> RawList {
-        let block = list.block();
+    /// The pieces of a valid list's block in this form.
+    pub fn of(list: &List, form: Form) -> RawList {
+        let block = list.block_in(form);
         RawList {
             stated: None,
             version: block[4],
@@ -62,6 +63,13 @@ impl RawList {
             count: number_at(&block, 9),
             body: block[LIST_HEADER..].to_vec(),
         }
+    }
+
+    /// The list that the pieces make, in whichever form, and its form.
+    pub fn list(&self) -> Option<(List, Form)> {
+        let form = Form::of_version(self.version, &Form::ALL).ok()?;
+        let list = check_list_of(&self.bytes(), &[form], |_, _, _| true).ok()?;
+        Some((list, form))
     }
 
     /// The block that the pieces make.
@@ -77,11 +85,11 @@ impl RawList {
 impl RawTerm {
     /// The pieces of a term's block.
     pub fn of(term: &Term) -> RawTerm {
-        let lists = [&term.pages, &term.counts, &term.positions];
+        let lists = term.lists().into_iter().zip(term.forms());
         RawTerm {
             stated: None,
             version: 1,
-            lists: lists.into_iter().map(RawList::of).collect(),
+            lists: lists.map(|(list, form)| RawList::of(list, form)).collect(),
             tail: Vec::new(),
         }
     }
@@ -97,13 +105,13 @@ impl RawTerm {
 impl RawCard {
     /// The pieces of a card's block.
     pub fn of(card: &Card) -> RawCard {
-        let term_of = |word: &super::cards::Word| RawTerm::of(&word.term(card.pages));
+        let term_of = |word: usize| RawTerm::of(&card.term(word));
         RawCard {
             stated: None,
-            version: 1,
+            version: card.edition.version() as u8,
             pages: card.pages,
             term_count: card.words.len() as u16,
-            terms: card.words.iter().map(term_of).collect(),
+            terms: (0..card.words.len()).map(term_of).collect(),
             tail: Vec::new(),
         }
     }

@@ -70,7 +70,7 @@ fn small_card(random: &mut Random) -> Card {
         let on = lists::spread(random, pages, count).elements;
         words.push(cards::word_on(random, on));
     }
-    Card { pages, words }
+    Card::of(random, pages, words)
 }
 
 /// The common pages of some words, asked for at once and screen by screen.
@@ -128,7 +128,7 @@ fn far_card(random: &mut Random) -> Card {
         on.push(pages - 1);
         words.push(cards::word_on(random, on));
     }
-    Card { pages, words }
+    Card::of(random, pages, words)
 }
 
 /// Screens of any card, which is damaged in some cases, many of them wrong in some way.

@@ -1,10 +1,12 @@
 //! Sessions at random: words of every shape cut anywhere, and what a host can do wrong in between.
 
-use super::cards::{self, Word};
+use super::cards::{self, Card, Word};
 use super::random::Random;
 use super::writing::{announced, runs, Host};
-use super::{damage, faulty_inputs, forgery, rooms};
+use super::{damage, editions, faulty_inputs, forgery, rooms};
 use crate::compare::Decided;
+use crate::plain::bits::place_of_bit;
+use crate::plain::edition::Edition;
 use crate::plain::stream::{Announced, Run};
 use crate::plain::GREATEST_BOUND;
 
@@ -44,31 +46,42 @@ const LARGEST_BLOCK: usize = 1 << 19;
 pub fn session(seed: u64, number: u64) -> Vec<Decided> {
     let mut random = Random::of_case(seed, 7, number);
     let random = &mut random;
-    let (card_pages, word) = cards::page_count_and_word(random);
     let trouble = random.pick(&TROUBLES);
+    let of_bitmap = trouble == Trouble::ChangedRoom && random.once_in(2);
+    let (edition, (card_pages, word)) = match of_bitmap {
+        true => (Edition::Second, cards::page_count_and_dense_word(random)),
+        false => (
+            editions::edition(random),
+            cards::page_count_and_word(random),
+        ),
+    };
     match trouble {
-        Trouble::Nothing | Trouble::ShortRooms => good_session(random, card_pages, &word, trouble),
-        _ => bad_session(random, card_pages, &word, trouble),
+        Trouble::Nothing | Trouble::ShortRooms => {
+            good_session(random, edition, card_pages, &word, trouble)
+        }
+        _ => bad_session(random, edition, card_pages, &word, trouble),
     }
 }
 
-/// A session without trouble of this word.
-pub fn session_of(random: &mut Random, card_pages: u32, word: &Word) -> Vec<Decided> {
-    good_session(random, card_pages, word, Trouble::Nothing)
+/// A session without trouble of the word of this number on a card.
+pub fn session_of(random: &mut Random, card: &Card, word: usize) -> Vec<Decided> {
+    let word = &card.words[word];
+    good_session(random, card.edition, card.pages, word, Trouble::Nothing)
 }
 
 /// A session whose finished block is that of the whole-list writer.
 fn good_session(
     random: &mut Random,
+    edition: Edition,
     card_pages: u32,
     word: &Word,
     trouble: Trouble,
 ) -> Vec<Decided> {
-    let block = word.term(card_pages).block();
+    let block = word.term(edition, card_pages).block();
     let mut host = host_for(random, block.len());
     let size = |random: &mut Random, host: &Host| random.pick(&[block.len(), host.room.len()]);
     let first = size(random, &host);
-    host.begin(announced(card_pages, word), first);
+    host.begin(announced(edition, card_pages, word), first);
     for run in cut_anywhere(random, word) {
         if trouble == Trouble::ShortRooms && random.once_in(2) {
             host.put(&run, short_of(random, block.len()));
@@ -88,15 +101,16 @@ fn good_session(
 /// A session in which something goes wrong, now and then.
 fn bad_session(
     random: &mut Random,
+    edition: Edition,
     card_pages: u32,
     word: &Word,
     trouble: Trouble,
 ) -> Vec<Decided> {
-    let mut announced = announced(card_pages, word);
+    let mut announced = announced(edition, card_pages, word);
     if trouble == Trouble::Announcement {
         change_announcement(random, &mut announced);
     }
-    let whole = word.term(card_pages).block().len();
+    let whole = word.term(edition, card_pages).block().len();
     let needed = announced.block_length().unwrap_or(whole);
     let mut host = host_for(random, if needed > LARGEST_BLOCK { 0 } else { needed });
     let size = match random.once_in(8) {
@@ -169,7 +183,12 @@ fn meet(random: &mut Random, host: &mut Host, card_pages: u32, run: &mut Run, tr
             host.stream = forgery::forged(random, host.stream);
             fit_room(random, host);
         }
-        Trouble::ChangedRoom => change_room(random, &mut host.room),
+        Trouble::ChangedRoom => match host.stream.announced.bitmap() {
+            Some(map) if random.once_in(2) && map.end <= host.room.len() => {
+                change_map(random, &mut host.room[map]);
+            }
+            _ => change_room(random, &mut host.room),
+        },
         _ => {}
     }
 }
@@ -216,6 +235,22 @@ fn change_room(random: &mut Random, room: &mut [u8]) {
     }
 }
 
+/// Fills a bitmap, or changes some of its bits, often the last of its words, which may be spare.
+fn change_map(random: &mut Random, map: &mut [u8]) {
+    if random.once_in(4) {
+        return map.fill(u8::MAX);
+    }
+    let bits = 8 * map.len();
+    for _ in 0..random.from_to(1, 9) {
+        let place = match random.once_in(2) {
+            true => bits - 1 - random.place(bits.min(64)),
+            false => random.place(bits),
+        };
+        let (byte, bit) = place_of_bit(place);
+        map[byte] ^= 1 << bit;
+    }
+}
+
 /// Runs out of order, one too few or too many, or with a page that ends one and begins the next.
 fn disorder(random: &mut Random, runs: &mut Vec<Run>) {
     let place = random.place(runs.len());
@@ -236,11 +271,18 @@ fn disorder(random: &mut Random, runs: &mut Vec<Run>) {
 
 /// Announces a number that is not the word's: one off, at a limit or past it, or that of another number.
 fn change_announcement(random: &mut Random, announced: &mut Announced) {
+    if random.once_in(6) {
+        announced.version = editions::unknown(random);
+        if random.once_in(2) {
+            return;
+        }
+    }
     let Announced {
         card_pages,
         pages,
         positions,
         bound,
+        ..
     } = *announced;
     for _ in 0..damage::faults(random) {
         let number = match random.from_to(0, 4) {

@@ -3,6 +3,7 @@
 use super::cards::Word;
 use crate::case::{Case, Outcome, RoomAfter};
 use crate::compare::Decided;
+use crate::plain::edition::Edition;
 use crate::plain::stream::{Announced, Run, Stream};
 use crate::stream_case::StreamCase;
 use crate::text::Stored;
@@ -96,12 +97,13 @@ impl Host {
 }
 
 /// What is announced of a valid word.
-pub fn announced(card_pages: u32, word: &Word) -> Announced {
+pub fn announced(edition: Edition, card_pages: u32, word: &Word) -> Announced {
     Announced {
+        version: edition.version(),
         card_pages,
         pages: word.pages.len() as u32,
         positions: word.positions.len() as u32,
-        bound: word.term(card_pages).positions.bound,
+        bound: word.term(edition, card_pages).positions.bound,
     }
 }
 

@@ -108,7 +108,7 @@ fn at_bound(pages: &List, bound: u32) -> Vec<u32> {
 
 /// Seeks, looks, then the common pages.
 fn common(terms: &[&Term]) -> Vec<u32> {
-    let lists = terms.iter().map(|term| &term.pages).collect();
+    let lists = terms.iter().map(|term| term.formed_pages()).collect();
     let met = meet(lists, 0, usize::MAX);
     [vec![met.seeks, met.looks], met.pages].concat()
 }

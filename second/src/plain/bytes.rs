@@ -16,18 +16,15 @@ pub fn push_number(bytes: &mut Vec<u8>, number: u32) {
     }
 }
 
-/// Refusals 1, 2 and 3 of a block that is the whole of `bytes`.
-pub fn check_opening(bytes: &[u8], header: usize) -> Result<(), u32> {
+/// Refusals 1 and 2 of a block that is the whole of `bytes`; its version is then given.
+pub fn check_opening(bytes: &[u8], header: usize) -> Result<u8, u32> {
     if bytes.len() < header {
         return Err(refusal::SHORT);
     }
     if number_at(bytes, 0) as usize != bytes.len() {
         return Err(refusal::LENGTH);
     }
-    if bytes[4] != 1 {
-        return Err(refusal::VERSION);
-    }
-    Ok(())
+    Ok(bytes[4])
 }
 
 /// Splits the next part off `rest`, by the length the part states.

@@ -1,7 +1,9 @@
 //! One list: writing its block, and taking a block apart rule by rule.
 
+use super::bitmap;
 use super::bits::{bytes_for_bits, bytes_to_run, number_of_bits, run_to_bytes};
 use super::bytes::{check_opening, number_at, push_number, put};
+use super::edition::Form;
 use super::{refusal, GREATEST_BOUND};
 
 /// Bytes of a list's header.
@@ -63,12 +65,20 @@ impl List {
         self.elements.last().map_or(0, |last| last + 1)
     }
 
-    /// The block of a valid list.
+    /// The block of a valid list that is handled alone.
     pub fn block(&self) -> Vec<u8> {
-        let body = self.shape().map_or(Vec::new(), |shape| self.body(shape));
+        self.block_in(Form::Runs)
+    }
+
+    /// The block of a valid list in this form.
+    pub fn block_in(&self, form: Form) -> Vec<u8> {
+        let body = match form {
+            Form::Runs => self.shape().map_or(Vec::new(), |shape| self.body(shape)),
+            Form::Bitmap => bitmap::body(self),
+        };
         let mut block = Vec::new();
         push_number(&mut block, (LIST_HEADER + body.len()) as u32);
-        block.push(1);
+        block.push(form.version());
         push_number(&mut block, self.bound);
         push_number(&mut block, self.elements.len() as u32);
         block.extend(body);
@@ -138,9 +148,19 @@ pub fn write_list(bound: u32, elements: &[u32], room: &mut [u8]) -> Result<usize
     put(&list.block(), room)
 }
 
-/// Takes a block apart into its list, or gives the first refusal.
+/// Takes the block of a list that is handled alone apart, or gives the first refusal.
 pub fn check_list(block: &[u8]) -> Result<List, u32> {
-    check_opening(block, LIST_HEADER)?;
+    check_list_of(block, &[Form::Runs], |_, _, _| true)
+}
+
+/// Takes a block apart into its list, where these forms are known and this tells whether one is right for U and n.
+pub fn check_list_of(
+    block: &[u8],
+    known: &[Form],
+    is_right: impl Fn(Form, u32, usize) -> bool,
+) -> Result<List, u32> {
+    let version = check_opening(block, LIST_HEADER)?;
+    let form = Form::of_version(version, known)?;
     let bound = number_at(block, 5);
     let count = number_at(block, 9);
     if bound > GREATEST_BOUND {
@@ -149,11 +169,16 @@ pub fn check_list(block: &[u8]) -> Result<List, u32> {
     if count > bound {
         return Err(refusal::SIZE);
     }
+    let count = count as usize;
+    if !is_right(form, bound, count) {
+        return Err(refusal::VERSION);
+    }
     let body = &block[LIST_HEADER..];
-    let elements = match count {
-        0 if body.is_empty() => Vec::new(),
-        0 => return Err(refusal::SIZE),
-        _ => Parts::cut(bound, count as usize, body)?.elements()?,
+    let elements = match (form, count) {
+        (Form::Bitmap, _) => bitmap::elements(bound, count, body)?,
+        (Form::Runs, 0) if body.is_empty() => Vec::new(),
+        (Form::Runs, 0) => return Err(refusal::SIZE),
+        (Form::Runs, _) => Parts::cut(bound, count, body)?.elements()?,
     };
     Ok(List { bound, elements })
 }

@@ -1,7 +1,6 @@
 //! Common pages by the step rule, from any bound on, and what it counts.
 
-use super::list::List;
-use super::seek::{seek, Cursor};
+use super::seek::{seek, Cursor, Formed};
 
 /// The pages that were listed, and the seeks and looks that it took.
 #[derive(Clone, Debug, PartialEq, Eq)]
@@ -14,16 +13,40 @@ pub struct Met {
     pub looks: u32,
 }
 
+/// One seek, as it was made.
+pub struct Step<'a> {
+    /// The list that it was made on.
+    pub on: Formed<'a>,
+    /// The cursor before it.
+    pub before: Cursor,
+    /// What was sought.
+    pub bound: u32,
+    /// The page found.
+    pub found: Option<u32>,
+    /// Its looks.
+    pub looks: u32,
+}
+
 /// Lists the pages from a bound on that all of the lists hold, in the question's order, until there are so many.
-pub fn meet(mut lists: Vec<&List>, from: u32, most: usize) -> Met {
-    let shortest = lists.iter().map(|list| list.elements.len()).min();
-    let lead = lists
-        .iter()
-        .position(|list| Some(list.elements.len()) == shortest);
+pub fn meet(lists: Vec<Formed>, from: u32, most: usize) -> Met {
+    meet_watched(lists, from, most, &mut |_| {})
+}
+
+/// The same, where each seek is shown as it is made.
+pub fn meet_watched(
+    mut lists: Vec<Formed>,
+    from: u32,
+    most: usize,
+    watch: &mut dyn FnMut(Step),
+) -> Met {
+    let length = |on: &Formed| on.list.elements.len();
+    let shortest = lists.iter().map(length).min();
+    let lead = lists.iter().position(|on| Some(length(on)) == shortest);
     let lead = lists.remove(lead.expect("a question has a word"));
     let mut meeting = Meeting {
         lead: Seeker::on(lead),
         others: lists.into_iter().map(Seeker::on).collect(),
+        watch,
         seeks: 0,
         looks: 0,
     };
@@ -37,23 +60,36 @@ pub fn meet(mut lists: Vec<&List>, from: u32, most: usize) -> Met {
 
 /// A list with the cursor that seeks on it.
 struct Seeker<'a> {
-    list: &'a List,
+    on: Formed<'a>,
     cursor: Cursor,
 }
 
 impl<'a> Seeker<'a> {
-    fn on(list: &'a List) -> Seeker<'a> {
+    fn on(on: Formed<'a>) -> Seeker<'a> {
         Seeker {
-            list,
+            on,
             cursor: Cursor::Fresh,
+        }
+    }
+
+    fn seek(&mut self, bound: u32) -> Step<'a> {
+        let (on, before) = (self.on, self.cursor);
+        let (found, looks) = seek(on, &mut self.cursor, bound);
+        Step {
+            on,
+            before,
+            bound,
+            found,
+            looks,
         }
     }
 }
 
 /// The lead and the others on their way through common pages.
-struct Meeting<'a> {
+struct Meeting<'a, 'w> {
     lead: Seeker<'a>,
     others: Vec<Seeker<'a>>,
+    watch: &'w mut dyn FnMut(Step),
     seeks: u32,
     looks: u32,
 }
@@ -65,7 +101,7 @@ enum Round {
     OneSpent,
 }
 
-impl Meeting<'_> {
+impl Meeting<'_, '_> {
     fn common_pages(&mut self, from: u32, most: usize) -> Vec<u32> {
         let mut pages = Vec::new();
         let mut wanted = from;
@@ -86,18 +122,23 @@ impl Meeting<'_> {
     }
 
     fn seek_lead(&mut self, wanted: u32) -> Option<u32> {
-        let (found, looks) = seek(self.lead.list, &mut self.lead.cursor, wanted);
+        let step = self.lead.seek(wanted);
+        self.count(step)
+    }
+
+    /// Counts a seek, and gives the page that it has found.
+    fn count(&mut self, step: Step) -> Option<u32> {
+        let found = step.found;
         self.seeks += 1;
-        self.looks += looks;
+        self.looks += step.looks;
+        (self.watch)(step);
         found
     }
 
     fn seek_others(&mut self, page: u32) -> Round {
-        for other in &mut self.others {
-            let (found, looks) = seek(other.list, &mut other.cursor, page);
-            self.seeks += 1;
-            self.looks += looks;
-            match found {
+        for other in 0..self.others.len() {
+            let step = self.others[other].seek(page);
+            match self.count(step) {
                 None => return Round::OneSpent,
                 Some(further) if further > page => return Round::Ahead(further),
                 Some(_) => {}
@@ -112,6 +153,8 @@ mod tests {
     use super::*;
     use crate::gen::cards;
     use crate::gen::random::Random;
+    use crate::plain::edition::Form;
+    use crate::plain::list::List;
 
     fn s1_and(pages: &[u32]) -> [List; 2] {
         let on = |elements| List {
@@ -122,7 +165,8 @@ mod tests {
     }
 
     fn met(lists: &[List], from: u32, most: usize) -> (Vec<u32>, u32, u32) {
-        let met = meet(lists.iter().collect(), from, most);
+        let lists = lists.iter().map(|list| Formed::of(list, Form::Runs));
+        let met = meet(lists.collect(), from, most);
         (met.pages, met.seeks, met.looks)
     }
 
@@ -147,14 +191,21 @@ mod tests {
             let terms: Vec<_> = card
                 .words
                 .iter()
-                .map(|word| word.term(card.pages))
+                .map(|word| word.term(card.edition, card.pages))
                 .collect();
             let lists: Vec<&List> = terms.iter().map(|term| &term.pages).take(3).collect();
             let from = random.from_to(0, card.pages);
             let most = random.from_to(1, 4) as usize;
             let on_all = |page: &u32| lists.iter().all(|list| list.elements.contains(page));
             let common: Vec<u32> = (from..card.pages).filter(on_all).take(most).collect();
-            assert_eq!(meet(lists, from, most).pages, common);
+            let mut in_some_form = |list| Formed::of(list, random.pick(&Form::ALL));
+            let mixed = lists.iter().map(|list| in_some_form(list)).collect();
+            let met_mixed = meet(mixed, from, most);
+            let in_runs = lists.iter().map(|list| Formed::of(list, Form::Runs));
+            let met_in_runs = meet(in_runs.collect(), from, most);
+            assert_eq!(met_mixed.pages, common);
+            assert_eq!(met_in_runs.pages, common);
+            assert_eq!(met_mixed.seeks, met_in_runs.seeks);
         }
     }
 }

@@ -2,8 +2,10 @@
 //! from the text.
 
 pub mod ask;
+pub mod bitmap;
 pub mod bits;
 pub mod bytes;
+pub mod edition;
 pub mod form;
 pub mod index;
 pub mod list;
@@ -35,13 +37,13 @@ pub mod refusal {
     pub const SHORT: u32 = 1;
     /// The stated length is wrong.
     pub const LENGTH: u32 = 2;
-    /// The version is not 1.
+    /// The version is unknown, or a list has not the form of its place.
     pub const VERSION: u32 = 3;
     /// U, N, T or a closed length is over its limit.
     pub const LIMIT: u32 = 4;
     /// The size does not follow from U and n, or bytes are left over.
     pub const SIZE: u32 = 5;
-    /// Runs or pointers are not those of a valid list.
+    /// Runs, pointers, or a bitmap and its numbers are not those of a valid list.
     pub const RUNS: u32 = 6;
     /// The parts disagree.
     pub const PARTS: u32 = 7;

@@ -62,7 +62,7 @@ impl Wanted {
         let good_most = (1..=GREATEST_SCREEN).contains(&self.most);
         let good_number = (1..=GREATEST_WORDS).contains(&self.words.len());
         let named = self.words.iter().map(|word| terms.get(*word as usize));
-        let lists: Option<Vec<_>> = named.map(|term| Some(&term?.pages)).collect();
+        let lists: Option<Vec<_>> = named.map(|term| Some(term?.formed_pages())).collect();
         match lists {
             Some(lists) if good_most && good_number => {
                 Ok(meet(lists, self.bound, self.most as usize))

@@ -1,5 +1,6 @@
 //! How a seek moves and what it counts, on the list itself.
 
+use super::edition::Form;
 use super::list::{List, Shape};
 
 /// Where a cursor stands on its list.
@@ -13,24 +14,71 @@ pub enum Cursor {
     Spent,
 }
 
+/// A list in the form of its block.
+#[derive(Clone, Copy, Debug, PartialEq, Eq)]
+pub struct Formed<'a> {
+    /// The list.
+    pub list: &'a List,
+    /// Its form.
+    pub form: Form,
+    shape: Option<Shape>,
+}
+
+impl<'a> Formed<'a> {
+    /// The list in this form.
+    pub fn of(list: &'a List, form: Form) -> Formed<'a> {
+        let shape = list.shape();
+        Formed { list, form, shape }
+    }
+
+    /// The bits that a seek walks over, if the list has elements: the upper run's, or the bitmap's.
+    pub fn bits(self) -> usize {
+        match (self.form, self.shape) {
+            (_, None) => 0,
+            (Form::Runs, Some(shape)) => self.list.elements.len() + shape.zeros,
+            (Form::Bitmap, Some(_)) => self.list.bound as usize,
+        }
+    }
+
+    /// The bit of the element of this number.
+    pub fn bit_of(self, number: usize) -> usize {
+        let element = self.list.elements[number];
+        match (self.form, self.shape) {
+            (Form::Runs, Some(shape)) => (element >> shape.width) as usize + number,
+            _ => element as usize,
+        }
+    }
+
+    /// The bit that a seek for this bound can begin with, wherever its cursor stands.
+    fn first_bit(self, bound: u32) -> usize {
+        match (self.form, self.shape) {
+            (Form::Runs, Some(shape)) => {
+                let number = (bound >> shape.width) as usize / 256;
+                pointer(self.list, shape, number)
+            }
+            _ => bound as usize,
+        }
+    }
+}
+
 /// Seeks for `bound`: moves the cursor, gives the element found and the looks.
-pub fn seek(list: &List, cursor: &mut Cursor, bound: u32) -> (Option<u32>, u32) {
+pub fn seek(on: Formed, cursor: &mut Cursor, bound: u32) -> (Option<u32>, u32) {
+    let list = on.list;
     if let Cursor::On(i) = *cursor {
         if list.elements[i] >= bound {
             return (Some(list.elements[i]), 0);
         }
     }
-    let walk = match list.shape() {
-        Some(shape) if *cursor != Cursor::Spent && bound < list.bound => {
-            Walk::of(list, shape, *cursor, bound)
-        }
-        _ => Walk::NOWHERE,
+    let goes_nowhere = *cursor == Cursor::Spent || list.elements.is_empty() || bound >= list.bound;
+    let walk = match goes_nowhere {
+        true => Walk::NOWHERE,
+        false => Walk::of(on, *cursor, bound),
     };
     *cursor = walk.found.map_or(Cursor::Spent, Cursor::On);
     (walk.found.map(|i| list.elements[i]), walk.looks)
 }
 
-/// A walk over the upper run: the number of the element found, and the looks.
+/// A walk over the upper run or the bitmap: the number of the element found, and the looks.
 struct Walk {
     found: Option<usize>,
     looks: u32,
@@ -42,24 +90,22 @@ impl Walk {
         looks: 0,
     };
 
-    fn of(list: &List, shape: Shape, cursor: Cursor, bound: u32) -> Walk {
-        let bit_of = |i: usize| (list.elements[i] >> shape.width) as usize + i;
+    fn of(on: Formed, cursor: Cursor, bound: u32) -> Walk {
         let (first, own_bit) = match cursor {
-            Cursor::On(i) => (i, bit_of(i)),
+            Cursor::On(i) => (i, on.bit_of(i)),
             _ => (0, 0),
         };
-        let pointer_number = (bound >> shape.width) as usize / 256;
-        let start = own_bit.max(pointer(list, shape, pointer_number));
-        let run_end = list.elements.len() + shape.zeros;
-        if start == run_end {
+        let start = own_bit.max(on.first_bit(bound));
+        if start == on.bits() {
             return Walk::NOWHERE;
         }
-        let found = (first..list.elements.len())
-            .find(|i| bit_of(*i) >= start && list.elements[*i] >= bound);
-        let last_word = found.map_or(run_end - 1, bit_of) / 64;
+        let elements = &on.list.elements;
+        let found =
+            (first..elements.len()).find(|i| on.bit_of(*i) >= start && elements[*i] >= bound);
+        let last_bit = found.map_or(on.bits() - 1, |i| on.bit_of(i));
         Walk {
             found,
-            looks: (last_word - start / 64 + 1) as u32,
+            looks: (last_bit / 64 - start / 64 + 1) as u32,
         }
     }
 }
@@ -83,7 +129,58 @@ mod tests {
     use crate::plain::bytes::number_at;
 
     fn fresh_seek(list: &List, bound: u32) -> (Option<u32>, u32) {
-        seek(list, &mut Cursor::Fresh, bound)
+        seek(Formed::of(list, Form::Runs), &mut Cursor::Fresh, bound)
+    }
+
+    #[test]
+    fn a_seek_on_a_bitmap_begins_at_the_bound() {
+        let elements: Vec<u32> = (0..64).chain([200, 299]).collect();
+        let list = List {
+            bound: 300,
+            elements,
+        };
+        let map = Formed::of(&list, Form::Bitmap);
+        let fresh = |bound| seek(map, &mut Cursor::Fresh, bound);
+        assert_eq!(fresh(0), (Some(0), 1));
+        assert_eq!(fresh(63), (Some(63), 1));
+        assert_eq!(fresh(64), (Some(200), 3));
+        assert_eq!(fresh(128), (Some(200), 2));
+        assert_eq!(fresh(192), (Some(200), 1));
+        assert_eq!(fresh(201), (Some(299), 2));
+        assert_eq!(fresh(300), (None, 0));
+        let mut cursor = Cursor::Fresh;
+        assert_eq!(seek(map, &mut cursor, 5), (Some(5), 1));
+        assert_eq!(seek(map, &mut cursor, 3), (Some(5), 0));
+        assert_eq!(seek(map, &mut cursor, 130), (Some(200), 2));
+    }
+
+    #[test]
+    fn a_seek_on_a_bitmap_that_finds_none_looks_up_to_the_last_word() {
+        let list = List {
+            bound: 257,
+            elements: (0..100).collect(),
+        };
+        let mut cursor = Cursor::Fresh;
+        let map = Formed::of(&list, Form::Bitmap);
+        assert_eq!(seek(map, &mut cursor, 127), (None, 4));
+        assert_eq!(seek(map, &mut cursor, 0), (None, 0));
+        assert_eq!(seek(map, &mut Cursor::Fresh, 256), (None, 1));
+    }
+
+    #[test]
+    fn both_forms_find_the_same() {
+        let mut random = Random::of_case(9, 0, 0);
+        for _ in 0..600 {
+            let list = lists::list(&mut random);
+            let mut cursors = [Cursor::Fresh; 2];
+            for _ in 0..6 {
+                let bound = random.from_to(0, list.bound);
+                let [runs, map] = &mut cursors;
+                let in_runs = seek(Formed::of(&list, Form::Runs), runs, bound).0;
+                assert_eq!(seek(Formed::of(&list, Form::Bitmap), map, bound).0, in_runs);
+                assert_eq!(runs, map);
+            }
+        }
     }
 
     #[test]
@@ -147,7 +244,7 @@ mod tests {
             let mut bound = 0;
             for _ in 0..4 {
                 bound = random.from_to(bound, list.bound);
-                seek(&list, &mut cursor, bound);
+                seek(Formed::of(&list, Form::Runs), &mut cursor, bound);
                 let below = list.elements.iter().filter(|x| **x < bound).count();
                 assert_eq!(told(&list, cursor), below);
             }
@@ -167,7 +264,8 @@ mod tests {
             (44, None, 8),
             (0, None, 8),
         ] {
-            assert_eq!(seek(&list, &mut cursor, bound).0, found);
+            let on = Formed::of(&list, Form::Runs);
+            assert_eq!(seek(on, &mut cursor, bound).0, found);
             assert_eq!(told(&list, cursor), number);
         }
     }
@@ -209,12 +307,13 @@ mod tests {
             let first = random.from_to(0, list.bound - 1);
             let second = random.from_to(first, list.bound - 1);
             let mut cursor = Cursor::Fresh;
-            let found = seek(&list, &mut cursor, first);
+            let on = Formed::of(&list, Form::Runs);
+            let found = seek(on, &mut cursor, first);
             assert_eq!(found, walked(&list, None, first));
             if let Cursor::On(i) = cursor {
                 if list.elements[i] < second {
                     let bit = (list.elements[i] >> shape.width) as usize + i;
-                    let found = seek(&list, &mut cursor, second);
+                    let found = seek(on, &mut cursor, second);
                     assert_eq!(found, walked(&list, Some(bit), second));
                 }
             }

@@ -1,7 +1,9 @@
 //! A word written run by run: the room holds its block under way, as bytes in which bits are set one by one.
 
+use super::bitmap::{self, BITS_PER_NUMBER};
 use super::bits::{bytes_for_bits, bytes_to_run, place_of_bit};
 use super::bytes::push_number;
+use super::edition::{Edition, Form, Place};
 use super::list::{places_after_zeros, Shape, LIST_HEADER};
 use super::term::{Term, TERM_OPENING};
 use super::{refusal, GREATEST_BOUND};
@@ -11,6 +13,8 @@ use std::ops::Range;
 #[repr(C)]
 #[derive(Clone, Copy, Debug, Default, PartialEq, Eq)]
 pub struct Announced {
+    /// The version of the index that it is for.
+    pub version: u32,
     /// N.
     pub card_pages: u32,
     /// The number of its pages.
@@ -66,8 +70,9 @@ pub struct Run {
 pub const GOING_ON: u32 = 1;
 
 impl Announced {
-    /// Refusal 4 or 10, unless there is a word of these numbers.
+    /// Refusal 3, 4 or 10, unless there is a word of these numbers.
     pub fn check(self) -> Result<(), u32> {
+        Edition::of_version(self.version)?;
         if self.card_pages > GREATEST_BOUND || self.bound > GREATEST_BOUND {
             return Err(refusal::LIMIT);
         }
@@ -78,36 +83,62 @@ impl Announced {
         has_word.then_some(()).ok_or(refusal::INPUT)
     }
 
+    /// The lists of a run by themselves, as those of a word of this index.
+    pub fn run_alone(self, run: &Run) -> Result<Term, u32> {
+        let edition = Edition::of_version(self.version)?;
+        let Run {
+            pages,
+            counts,
+            positions,
+        } = run;
+        Term::from_inputs(edition, self.card_pages, pages, counts, positions)
+    }
+
     /// The length of the block, if there is a word of these numbers.
     pub fn block_length(self) -> Option<usize> {
-        self.check().ok().map(|()| self.parts()[2].end())
+        let parts = self.parts().ok()?;
+        Some(parts[2].end())
     }
 
     /// The number of pointers in the block of such a word.
     pub fn pointers(self) -> usize {
-        let parts = self.parts();
-        parts.iter().map(|part| part.shape.pointers()).sum()
+        let parts = self.parts().into_iter().flatten();
+        let in_runs = parts.filter(|part| part.form == Form::Runs);
+        in_runs.map(|part| part.numbers().len() / 4).sum()
     }
 
-    /// The lists of pages, counts and positions, one behind the other.
-    fn parts(self) -> [Part; 3] {
-        let pages = Part::at(TERM_OPENING, self.card_pages, self.pages);
-        let counts = Part::at(pages.end(), self.positions, self.pages);
-        let positions = Part::at(counts.end(), self.bound, self.positions);
-        [pages, counts, positions]
+    /// Where its pages are a bitmap: the place of the map in the block.
+    pub fn bitmap(self) -> Option<Range<usize>> {
+        let [pages, ..] = self.parts().ok()?;
+        (pages.form == Form::Bitmap).then(|| pages.upper())
+    }
+
+    /// The lists of pages, counts and positions, one behind the other, or refusal 3, 4 or 10.
+    fn parts(self) -> Result<[Part; 3], u32> {
+        self.check()?;
+        let edition = Edition::of_version(self.version)?;
+        let part = |start, place, bound, count| {
+            let form = edition.form(place, bound, count as usize);
+            Part::at(start, form, bound, count)
+        };
+        let pages = part(TERM_OPENING, Place::Pages, self.card_pages, self.pages);
+        let counts = part(pages.end(), Place::Counts, self.positions, self.pages);
+        let positions = part(counts.end(), Place::Positions, self.bound, self.positions);
+        Ok([pages, counts, positions])
     }
 }
 
-/// A list of the block under way: U, n, and where it begins in the room.
+/// A list of the block under way: its form, U, n, and where it begins in the room.
 struct Part {
     start: usize,
+    form: Form,
     bound: u32,
     count: u32,
     shape: Shape,
 }
 
 impl Part {
-    fn at(start: usize, bound: u32, count: u32) -> Part {
+    fn at(start: usize, form: Form, bound: u32, count: u32) -> Part {
         let empty = Shape { width: 0, zeros: 0 };
         let shape = match count {
             0 => empty,
@@ -115,29 +146,43 @@ impl Part {
         };
         Part {
             start,
+            form,
             bound,
             count,
             shape,
         }
     }
 
-    fn pointers(&self) -> Range<usize> {
+    /// The pointers, or the numbers of a bitmap.
+    fn numbers(&self) -> Range<usize> {
         let start = self.start + LIST_HEADER;
-        start..start + 4 * self.shape.pointers()
+        let count = match self.form {
+            Form::Runs => self.shape.pointers(),
+            Form::Bitmap => bitmap::numbers(self.bound),
+        };
+        start..start + 4 * count
     }
 
     fn lower(&self) -> Range<usize> {
-        let start = self.pointers().end;
-        start..start + bytes_for_bits(self.count as usize * self.shape.width as usize)
+        let start = self.numbers().end;
+        let bits = match self.form {
+            Form::Runs => self.count as usize * self.shape.width as usize,
+            Form::Bitmap => 0,
+        };
+        start..start + bytes_for_bits(bits)
     }
 
+    /// The upper run, or the map.
     fn upper(&self) -> Range<usize> {
         let start = self.lower().end;
         start..start + bytes_for_bits(self.upper_bits())
     }
 
     fn upper_bits(&self) -> usize {
-        self.count as usize + self.shape.zeros
+        match self.form {
+            Form::Runs => self.count as usize + self.shape.zeros,
+            Form::Bitmap => self.bound as usize,
+        }
     }
 
     fn end(&self) -> usize {
@@ -148,7 +193,7 @@ impl Part {
     fn header(&self) -> Vec<u8> {
         let mut header = Vec::new();
         push_number(&mut header, (self.end() - self.start) as u32);
-        header.push(1);
+        header.push(self.form.version());
         push_number(&mut header, self.bound);
         push_number(&mut header, self.count);
         header
@@ -156,6 +201,9 @@ impl Part {
 
     /// Sets the ones of an element, by its number among all.
     fn set(&self, room: &mut [u8], number: usize, element: u32) {
+        if self.form == Form::Bitmap {
+            return set_bit(&mut room[self.upper()], element as usize);
+        }
         let width = self.shape.width;
         for bit in (0..width).filter(|bit| element >> bit & 1 == 1) {
             let place = number * width as usize + bit as usize;
@@ -165,17 +213,38 @@ impl Part {
         set_bit(&mut room[self.upper()], place);
     }
 
-    /// Writes the pointers that the upper run in the room gives, the run's end where its zeros are too few.
-    fn put_pointers(&self, room: &mut [u8]) {
+    /// Writes the pointers, or the numbers, that the bits in the room give.
+    fn put_numbers(&self, room: &mut [u8]) {
         let run = bytes_to_run(&room[self.upper()]);
-        let mut places = places_after_zeros(&run[..self.upper_bits()]);
-        places.resize(self.shape.pointers(), self.upper_bits() as u32);
+        let run = &run[..self.upper_bits()];
+        let numbers = match self.form {
+            Form::Runs => self.pointers_in(run),
+            Form::Bitmap => ones_up_to_each_number(run),
+        };
         let mut bytes = Vec::new();
-        places
+        numbers
             .iter()
-            .for_each(|place| push_number(&mut bytes, *place));
-        room[self.pointers()].copy_from_slice(&bytes);
+            .for_each(|number| push_number(&mut bytes, *number));
+        room[self.numbers()].copy_from_slice(&bytes);
     }
+
+    /// The pointers of an upper run, the run's end where its zeros are too few.
+    fn pointers_in(&self, run: &[bool]) -> Vec<u32> {
+        let mut places = places_after_zeros(run);
+        places.resize(self.shape.pointers(), run.len() as u32);
+        places
+    }
+}
+
+/// How many of the first 256 bits of a map are ones, of the first 512, and so on.
+fn ones_up_to_each_number(map: &[bool]) -> Vec<u32> {
+    let mut ones = 0;
+    let whole = map.chunks_exact(BITS_PER_NUMBER as usize);
+    let up_to = whole.map(|bits| {
+        ones += bits.iter().filter(|bit| **bit).count() as u32;
+        ones
+    });
+    up_to.collect()
 }
 
 fn set_bit(run: &mut [u8], place: usize) {
@@ -185,14 +254,16 @@ fn set_bit(run: &mut [u8], place: usize) {
 
 impl Stream {
     /// A session that is over.
-    pub const OVER: Stream = Stream::of_numbers([0; 9]);
+    pub const OVER: Stream = Stream::of_numbers([0; 10]);
 
-    /// The session of nine numbers in their order.
-    pub const fn of_numbers(numbers: [u32; 9]) -> Stream {
-        let [mark, card_pages, pages, positions, bound, laid, filled, page, base] = numbers;
+    /// The session of ten numbers in their order.
+    pub const fn of_numbers(numbers: [u32; 10]) -> Stream {
+        let [mark, version, card_pages, pages, positions, bound, laid, filled, page, base] =
+            numbers;
         Stream {
             mark,
             announced: Announced {
+                version,
                 card_pages,
                 pages,
                 positions,
@@ -205,9 +276,10 @@ impl Stream {
         }
     }
 
-    /// Its nine numbers in their order.
-    pub fn numbers(self) -> [u32; 9] {
+    /// Its ten numbers in their order.
+    pub fn numbers(self) -> [u32; 10] {
         let Announced {
+            version,
             card_pages,
             pages,
             positions,
@@ -222,7 +294,7 @@ impl Stream {
             ..
         } = self;
         [
-            mark, card_pages, pages, positions, bound, laid, filled, page, base,
+            mark, version, card_pages, pages, positions, bound, laid, filled, page, base,
         ]
     }
 
@@ -234,10 +306,10 @@ impl Stream {
 
     /// The lists in a room that is long enough, or what a call gives before it reads anything else.
     fn open(self, room: &[u8]) -> Result<[Part; 3], Streamed> {
-        if !self.goes_on() {
-            return Err(ended(refusal::INPUT));
-        }
-        let parts = self.announced.parts();
+        let parts = match self.announced.parts() {
+            Ok(parts) if self.goes_on() => parts,
+            _ => return Err(ended(refusal::INPUT)),
+        };
         match room.len() < parts[2].end() {
             true => Err(going_on(refusal::ROOM, self)),
             false => Ok(parts),
@@ -248,9 +320,7 @@ impl Stream {
     ///
     /// The base behind the run is at most U, also where the run is empty and the host made up the base.
     fn next_part(self, run: &Run) -> Option<Term> {
-        let Announced { card_pages, .. } = self.announced;
-        let alone = Term::from_inputs(card_pages, &run.pages, &run.counts, &run.positions);
-        let mut term = alone.ok()?;
+        let mut term = self.announced.run_alone(run).ok()?;
         let in_order = run.pages.iter().all(|page| *page >= self.page);
         let pages = self.laid as usize + run.pages.len();
         let positions = self.filled as usize + run.positions.len();
@@ -306,10 +376,10 @@ fn going_on(refusal: u32, stream: Stream) -> Streamed {
 
 /// Announces a word: writes the headers of its block and clears the rest of it.
 pub fn begin_term(announced: Announced, room: &mut [u8]) -> Streamed {
-    if let Err(refusal) = announced.check() {
-        return ended(refusal);
-    }
-    let parts = announced.parts();
+    let parts = match announced.parts() {
+        Ok(parts) => parts,
+        Err(refusal) => return ended(refusal),
+    };
     let length = parts[2].end();
     if room.len() < length {
         return ended(refusal::ROOM);
@@ -350,7 +420,7 @@ pub fn put_postings(stream: Stream, run: &Run, room: &mut [u8]) -> Streamed {
     going_on(0, stream.behind(&term))
 }
 
-/// Closes a word: writes the pointers, if all that was announced has been laid.
+/// Closes a word: writes the pointers and a bitmap's numbers, if all that was announced has been laid.
 pub fn end_term(stream: Stream, room: &mut [u8]) -> Streamed {
     let parts = match stream.open(room) {
         Ok(parts) => parts,
@@ -361,7 +431,7 @@ pub fn end_term(stream: Stream, room: &mut [u8]) -> Streamed {
         room[..length].fill(0);
         return ended(refusal::INPUT);
     }
-    parts.iter().for_each(|part| part.put_pointers(room));
+    parts.iter().for_each(|part| part.put_numbers(room));
     Streamed {
         refusal: 0,
         length,

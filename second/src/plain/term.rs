@@ -1,7 +1,9 @@
 //! One word of the manual: its pages, counts and positions.
 
 use super::bytes::{check_opening, next_part, push_number, put};
-use super::list::{check_list, is_rising, List, LIST_HEADER};
+use super::edition::{Edition, Form, Place};
+use super::list::{check_list_of, is_rising, List, LIST_HEADER};
+use super::seek::Formed;
 use super::{refusal, GREATEST_BOUND};
 
 /// Bytes of a term's header and of the three headers in it.
@@ -10,9 +12,14 @@ pub const TERM_HEADER: usize = 44;
 /// Bytes before a term's first list.
 pub const TERM_OPENING: usize = 5;
 
-/// The three lists of a term block.
+/// The version in every term block.
+const TERM_VERSION: u8 = 1;
+
+/// The three lists of a term block, and the edition of the index that it is for.
 #[derive(Clone, Debug, PartialEq, Eq)]
 pub struct Term {
+    /// The edition.
+    pub edition: Edition,
     /// The page numbers.
     pub pages: List,
     /// The running sums of the counts, less 1.
@@ -24,6 +31,7 @@ pub struct Term {
 impl Term {
     /// The three lists that the writer's inputs give, or refusal 4 or 10.
     pub fn from_inputs(
+        edition: Edition,
         card_pages: u32,
         pages: &[u32],
         counts: &[u32],
@@ -44,6 +52,7 @@ impl Term {
         let positions = positions_list(&groups).ok_or(refusal::LIMIT)?;
         let counts = counts_list(counts);
         Ok(Term {
+            edition,
             pages,
             counts,
             positions,
@@ -52,17 +61,40 @@ impl Term {
 
     /// The block of a term whose lists are valid.
     pub fn block(&self) -> Vec<u8> {
-        let parts = [
-            self.pages.block(),
-            self.counts.block(),
-            self.positions.block(),
+        self.block_in(self.forms())
+    }
+
+    /// The forms that the edition gives its three lists.
+    pub fn forms(&self) -> [Form; 3] {
+        let [pages, counts, positions] = self.lists();
+        let form = |place, list: &List| self.edition.form(place, list.bound, list.elements.len());
+        [
+            form(Place::Pages, pages),
+            form(Place::Counts, counts),
+            form(Place::Positions, positions),
         ]
-        .concat();
+    }
+
+    /// The block with its lists in these forms, whichever they should have.
+    pub fn block_in(&self, forms: [Form; 3]) -> Vec<u8> {
+        let lists = self.lists().into_iter().zip(forms);
+        let parts: Vec<u8> = lists.flat_map(|(list, form)| list.block_in(form)).collect();
         let mut block = Vec::new();
         push_number(&mut block, (TERM_OPENING + parts.len()) as u32);
-        block.push(1);
+        block.push(TERM_VERSION);
         block.extend(parts);
         block
+    }
+
+    /// The three lists in their order.
+    pub fn lists(&self) -> [&List; 3] {
+        [&self.pages, &self.counts, &self.positions]
+    }
+
+    /// The pages in the form that the edition gives them.
+    pub fn formed_pages(&self) -> Formed<'_> {
+        let form = self.forms()[0];
+        Formed::of(&self.pages, form)
     }
 
     /// The positions on the page of this rank, each from 0.
@@ -130,27 +162,54 @@ fn positions_list(groups: &[&[u32]]) -> Option<List> {
 
 /// Writes a term's block into the room and gives its length, or a refusal.
 pub fn write_term(
+    version: u32,
     card_pages: u32,
     pages: &[u32],
     counts: &[u32],
     positions: &[u32],
     room: &mut [u8],
 ) -> Result<usize, u32> {
-    let term = Term::from_inputs(card_pages, pages, counts, positions)?;
+    let edition = Edition::of_version(version)?;
+    let term = Term::from_inputs(edition, card_pages, pages, counts, positions)?;
     put(&term.block(), room)
 }
 
-/// Takes a term block apart into its lists, or gives the first refusal.
-pub fn check_term(block: &[u8]) -> Result<Term, u32> {
+/// Takes the block of a term that is handled alone apart, or gives the first refusal.
+pub fn check_term(version: u32, block: &[u8]) -> Result<Term, u32> {
     check_opening(block, TERM_HEADER)?;
+    take_apart(Edition::of_version(version)?, block)
+}
+
+/// Takes a term block of this edition apart into its lists, or gives the first refusal.
+pub fn take_apart(edition: Edition, block: &[u8]) -> Result<Term, u32> {
+    take_apart_by(edition, block, &|place, form, bound, count| {
+        form == edition.form(place, bound, count)
+    })
+}
+
+/// The same, where this tells whether a form is right in its place for U and n.
+pub fn take_apart_by(
+    edition: Edition,
+    block: &[u8],
+    is_right: &dyn Fn(Place, Form, u32, usize) -> bool,
+) -> Result<Term, u32> {
+    if check_opening(block, TERM_HEADER)? != TERM_VERSION {
+        return Err(refusal::VERSION);
+    }
     let mut rest = &block[TERM_OPENING..];
-    let pages = check_list(next_part(&mut rest, LIST_HEADER)?)?;
-    let counts = check_list(next_part(&mut rest, LIST_HEADER)?)?;
-    let positions = check_list(next_part(&mut rest, LIST_HEADER)?)?;
+    let mut next_list = |place| {
+        let part = next_part(&mut rest, LIST_HEADER)?;
+        let is_right = |form, bound, count| is_right(place, form, bound, count);
+        check_list_of(part, &Form::ALL, is_right)
+    };
+    let pages = next_list(Place::Pages)?;
+    let counts = next_list(Place::Counts)?;
+    let positions = next_list(Place::Positions)?;
     if !rest.is_empty() {
         return Err(refusal::SIZE);
     }
     let term = Term {
+        edition,
         pages,
         counts,
         positions,

@@ -11,7 +11,7 @@ use Rattle.rules.specs.Term.{placed}
 use Rattle.rules.specs.InPlace.{added}
 use Rattle.termlaws.proofs.PlaceLaws.{length-placed}
 use Rattle.filllaws.proofs.SideLaws.{fitting-kept}
-use Rattle.filllaws.proofs.WriteLaws.{end-of}
+use Rattle.filllaws.proofs.SideLaws.{end-is}
 use Rattle.wordlaws.specs.Stretch.{Placing, SpotAt}
 use Rattle.addlaws.proofs.MoreLaws.{added-none, stretch-rises, stretch-added, placed-rise}
 use Rattle.addlists.proofs.add_places.Statement.{statement}
@@ -44,7 +44,7 @@ els-long : (s : tie.Start Inv-loop μ-loop) → length (els s) ≡ length (s .ar
 els-long s = length-placed (s .args .start) (s .args .counts .now) (s .args .positions .now) (s .pre .2)
 
 fits : (s : tie.Start Inv-loop μ-loop) → size (s .args .g .u) (s .args .g .n) ≤ length (s .args .block .now)
-fits s = omega (arith, end-of (s .args .g .u) (s .args .g .n) (s .args .g) (s .pre .0 .shape), s .pre .0 .room)
+fits s = omega (arith, end-is (s .args .g) (s .args .block .now) (s .pre .0), s .pre .0 .room)
 
 -- the start, seen from the loop
 abbrev entry : tie.At-loop Inv-loop μ-loop → tie.Start Inv-loop μ-loop

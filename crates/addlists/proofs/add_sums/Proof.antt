@@ -12,7 +12,7 @@ use Rattle.rules.specs.Term.{sums}
 use Rattle.rules.specs.InPlace.{added}
 use Rattle.termlaws.proofs.SumLaws.{length-sums}
 use Rattle.filllaws.proofs.SideLaws.{fitting-kept}
-use Rattle.filllaws.proofs.WriteLaws.{end-of}
+use Rattle.filllaws.proofs.SideLaws.{end-is}
 use Rattle.wordlaws.proofs.LayLaws.{sums-all, TallyAt}
 use Rattle.wordlaws.proofs.LayLaws.{tally-first, tally-left, tally-next, tally-part, tally-behind}
 use Rattle.addlaws.proofs.MoreLaws.{added-none, stretch-rises, stretch-added, sums-rise}
@@ -35,7 +35,7 @@ els-rise : (s : tie.Start Inv-loop μ-loop) → rising 0 (s .args .g .u) (els s)
 els-rise s = sums-rise (s .args .before) (s .args .g .u) (s .args .counts .now) (s .pre .2) (s .pre .3)
 
 fits : (s : tie.Start Inv-loop μ-loop) → size (s .args .g .u) (s .args .g .n) ≤ length (s .args .block .now)
-fits s = omega (arith, end-of (s .args .g .u) (s .args .g .n) (s .args .g) (s .pre .0 .shape), s .pre .0 .room)
+fits s = omega (arith, end-is (s .args .g) (s .args .block .now) (s .pre .0), s .pre .0 .room)
 
 -- the start, seen from the loop
 abbrev entry : tie.At-loop Inv-loop μ-loop → tie.Start Inv-loop μ-loop

@@ -10,13 +10,13 @@ use lib.ListN.{length}
 use Rattle.rules.specs.declared.Refusal.the-variants.{Accepted}
 use Rattle.rules.specs.ReadList.{listU, listN, decode, listRefusal}
 use Rattle.rules.specs.Term.{next}
-use Rattle.listlaws.proofs.RefusalLaws.{accepted-framed}
+use Rattle.listlaws.proofs.RefusalLaws.{alone-framed}
 use Rattle.agreeing.proofs.AgreeLaws.{differ-n, differ-sum, differ-positions, differ-last}
 use Rattle.agreeing.proofs.disagree.Statement.{statement}
 use Rattle.agreeing.proofs.disagree.Tie as tie
 
 header : (s : List ℕ) → listRefusal s ≡ Accepted → 13 ≤ length s
-header s a = accepted-framed s a .0 .header
+header s a = alone-framed s a .0 .header
 
 read-u32-requires : tie.Need-read-u32-requires
 read-u32-requires c κs =
@@ -26,7 +26,7 @@ read-u32-requires c κs =
 read-u32-requires-2 : tie.Need-read-u32-requires-2
 read-u32-requires-2 c κs =
     let b = c .before .before .before .before in
-    header (b .args .pages .now) (b .pre .0)
+    b .pre .0
 
 returns : tie.Need-returns
 unfolding listN

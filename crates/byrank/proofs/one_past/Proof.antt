@@ -1,4 +1,5 @@
--- `one_past` finds the one: x holds the ones of word k that are not passed, and of these and later ones `left` lie before it.
+-- `one_past` finds the one: x holds the ones of word k that are not passed, and of these and later ones `left` lie
+-- before it.
 use mathlib.Core.Path.{_≡_}
 use Prim.Native.Nat.{ℕ, _+_, _-_, _*_, _/_, _≤_, _<_}
 use native.Mathlib.Omega.{arith}

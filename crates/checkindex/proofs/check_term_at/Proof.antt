@@ -12,7 +12,7 @@ returns c =
     let f = c .before .before in
     let a = f .before .before .args in
     front-refused 44 (a .at) (a .s .now) (p .result) (f .check-front .result) (p .ensures)
-    (f .check-front .ensures) (wordRefusal (a .n)) (c .if1 .taken)
+    (f .check-front .ensures) (wordRefusal (a .version) (a .n)) (c .if1 .taken)
 
 part-at-requires : tie.Need-part-at-requires
 part-at-requires c κs =
@@ -30,7 +30,7 @@ returns-2 c =
     let f = e .before .before in
     let a = f .before .before .args in
     front-answers 44 (a .at) (a .s .now) (p .result) (f .check-front .result) (p .ensures) (f .check-front .ensures)
-    (wordRefusal (a .n))
+    (wordRefusal (a .version) (a .n))
     (m .result .now) (c .check-term-below .result) (e .if1 .left) (m .ensures) (c .check-term-below .ensures)
 
 pub check-term-at-spec : {M : Type 1} → statement M

@@ -19,10 +19,11 @@ use Rattle.checkindex.proofs.check_terms.Statement.{statement}
 use Rattle.checkindex.proofs.check_terms.Tie as tie
 
 abbrev Inv-loop : tie.InvT-loop
-Inv-loop s t n at₀ left₀ at left = (at ≤ length s) × (termsRefusal left n (drop at s) ≡ termsRefusal t n s)
+Inv-loop version s t n at₀ left₀ at left =
+    (at ≤ length s) × (termsRefusal version left n (drop at s) ≡ termsRefusal version t n s)
 
 abbrev μ-loop : tie.MeasureT-loop
-μ-loop s t n at₀ left₀ at left = left
+μ-loop version s t n at₀ left₀ at left = left
 
 loop-holds : tie.Need-loop-holds Inv-loop μ-loop
 loop-holds c = (omega arith, refl)
@@ -32,13 +33,13 @@ more : (c : tie.In-loop Inv-loop μ-loop)
     → let a = c .before .before .before .args in
     let l = c .before .loop in
     let rest = drop (l .at) (a .s .now) in
-    andThen (wordInside (a .n) rest) (termsRefusal (l .left - 1) (a .n) (drop (stated rest) rest))
-    ≡ termsRefusal (a .t) (a .n) (a .s .now)
+    andThen (wordInside (a .version) (a .n) rest) (termsRefusal (a .version) (l .left - 1) (a .n) (drop (stated rest) rest))
+    ≡ termsRefusal (a .version) (a .t) (a .n) (a .s .now)
 more c =
     let l = c .before in
     let a = l .before .before .args in
     let m : l .loop .left ≡ suc (l .loop .left - 1) = omega (arith, c .loop-test .taken) in
-    sym (terms-more (l .loop .left) (l .loop .left - 1) (a .n) (drop (l .loop .at) (a .s .now)) m) ∙ l .loop .inv .1
+    sym (terms-more (a .version) (l .loop .left) (l .loop .left - 1) (a .n) (drop (l .loop .at) (a .s .now)) m) ∙ l .loop .inv .1
 
 returns : tie.Need-returns Inv-loop μ-loop
 returns c =
@@ -47,20 +48,20 @@ returns c =
     let l = r .before .before in
     let a = l .before .before .args in
     let rest = drop (l .loop .at) (a .s .now) in
-    told-stop (p .result) (r .check-term-at .result) (wordInside (a .n) rest) (p .ensures) (r .check-term-at .ensures)
-    (termsRefusal (l .loop .left - 1) (a .n) (drop (stated rest) rest)) (c .if1 .taken)
+    told-stop (p .result) (r .check-term-at .result) (wordInside (a .version) (a .n) rest) (p .ensures) (r .check-term-at .ensures)
+    (termsRefusal (a .version) (l .loop .left - 1) (a .n) (drop (stated rest) rest)) (c .if1 .taken)
     ∙ more (r .before)
 
 term-at : (c : tie.Else1 Inv-loop μ-loop)
     → let l = c .before .before .before .before in
     let a = l .before .before .args in
-    wordInside (a .n) (drop (l .loop .at) (a .s .now)) ≡ Accepted
+    wordInside (a .version) (a .n) (drop (l .loop .at) (a .s .now)) ≡ Accepted
 term-at c =
     let p = c .before .passed in
     let r = c .before .before in
     let l = r .before .before in
     let a = l .before .before .args in
-    told-passed (p .result) (r .check-term-at .result) (wordInside (a .n) (drop (l .loop .at) (a .s .now))) (p .ensures)
+    told-passed (p .result) (r .check-term-at .result) (wordInside (a .version) (a .n) (drop (l .loop .at) (a .s .now))) (p .ensures)
     (r .check-term-at .ensures) (c .if1 .left)
 
 here : (c : tie.Else1 Inv-loop μ-loop)
@@ -69,7 +70,7 @@ here : (c : tie.Else1 Inv-loop μ-loop)
 here c =
     let l = c .before .before .before .before in
     let a = l .before .before .args in
-    inside-held termHeader (wordRefusal (a .n)) (l .loop .at) (a .s .now) (lit≤ tt) (l .loop .inv .0) (term-at c)
+    inside-held termHeader (wordRefusal (a .version) (a .n)) (l .loop .at) (a .s .now) (lit≤ tt) (l .loop .inv .0) (term-at c)
 
 loop-again : tie.Need-loop-again Inv-loop μ-loop
 loop-again c =
@@ -78,10 +79,10 @@ loop-again c =
     let l = r .before .before in
     let a = l .before .before .args in
     let rest = drop (l .loop .at) (a .s .now) in
-    let others = termsRefusal (l .loop .left - 1) (a .n) (drop (stated rest) rest) in (
+    let others = termsRefusal (a .version) (l .loop .left - 1) (a .n) (drop (stated rest) rest) in (
       omega (arith, here e, c .read-u32 .ensures .0),
       rw (c .read-u32 .ensures .0, ← drop-next (l .loop .at) (a .s .now))
-          (sym (andThen-next (wordInside (a .n) rest) others (term-at e)) ∙ more (r .before)),
+          (sym (andThen-next (wordInside (a .version) (a .n) rest) others (term-at e)) ∙ more (r .before)),
     )
 
 returns-2 : tie.Need-returns-2 Inv-loop μ-loop
@@ -89,7 +90,7 @@ returns-2 c =
     let l = c .before .before in
     let a = l .before .before .args in
     let d = length-drop (l .loop .at) (a .s .now) in
-    sym (terms-over (l .loop .left) (a .n) (drop (l .loop .at) (a .s .now)) (omega (arith, c .before .loop-test .left))
+    sym (terms-over (a .version) (l .loop .left) (a .n) (drop (l .loop .at) (a .s .now)) (omega (arith, c .before .loop-test .left))
     (omega (arith, c .if2 .taken)))
     ∙ l .loop .inv .1
 
@@ -98,7 +99,7 @@ returns-3 c =
     let l = c .before .before in
     let a = l .before .before .args in
     let d = length-drop (l .loop .at) (a .s .now) in
-    sym (terms-done (l .loop .left) (a .n) (drop (l .loop .at) (a .s .now)) (omega (arith, c .before .loop-test .left))
+    sym (terms-done (a .version) (l .loop .left) (a .n) (drop (l .loop .at) (a .s .now)) (omega (arith, c .before .loop-test .left))
     (omega (arith, c .if2 .left)))
     ∙ l .loop .inv .1
 

@@ -1,7 +1,7 @@
 -- `check_list_at` gives the refusal: of the length of the block first, and then of the part that it states.
 use borrow.Author.Needs.{needs}
 use lib.Dec.{lit≤}
-use Rattle.rules.specs.ReadList.{listRefusal}
+use Rattle.rules.specs.ReadList.{partRefusal}
 use Rattle.parts.proofs.PlaceLaws.{front-held, front-refused, front-answers}
 use Rattle.checkterm.proofs.check_list_at.Statement.{statement}
 use Rattle.checkterm.proofs.check_list_at.Tie as tie
@@ -12,7 +12,7 @@ returns c =
     let f = c .before .before in
     let a = f .before .before .args in
     front-refused 13 (a .at) (a .block .now) (p .result) (f .check-front .result) (p .ensures)
-    (f .check-front .ensures) listRefusal (c .if1 .taken)
+    (f .check-front .ensures) (partRefusal (a .version)) (c .if1 .taken)
 
 part-at-requires : tie.Need-part-at-requires
 part-at-requires c κs =
@@ -30,8 +30,8 @@ returns-2 c =
     let f = e .before .before in
     let a = f .before .before .args in
     front-answers 13 (a .at) (a .block .now) (p .result) (f .check-front .result) (p .ensures)
-    (f .check-front .ensures) listRefusal
-    (m .result .now) (c .check-list .result) (e .if1 .left) (m .ensures) (c .check-list .ensures)
+    (f .check-front .ensures) (partRefusal (a .version))
+    (m .result .now) (c .check-part .result) (e .if1 .left) (m .ensures) (c .check-part .ensures)
 
 pub check-list-at-spec : {M : Type 1} → statement M
 check-list-at-spec =

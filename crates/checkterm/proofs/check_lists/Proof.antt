@@ -7,8 +7,8 @@ use lib.Dec.{lit≤}
 use lib.ListN.{length, drop}
 use Rattle.rules.specs.declared.Refusal.the-variants.{Accepted}
 use Rattle.rules.specs.Refusal.{andThen}
-use Rattle.rules.specs.Limits.{listHeader}
-use Rattle.rules.specs.ReadList.{stated, listRefusal}
+use Rattle.rules.specs.Limits.{version, listHeader}
+use Rattle.rules.specs.ReadList.{stated, partRefusal}
 use Rattle.rules.specs.Parts.{inside}
 use Rattle.rules.specs.ReadTerm.{listsOf}
 use Rattle.laws.proofs.RefusalLaws.{told-stop, told-passed, andThen-next}
@@ -20,11 +20,11 @@ use Rattle.checkterm.proofs.check_lists.Statement.{statement}
 use Rattle.checkterm.proofs.check_lists.Tie as tie
 
 abbrev Inv-loop : tie.InvT-loop
-Inv-loop block at₀ left₀ at left =
-    (at ≤ length block) × (listsRefusal left (drop at block) ≡ listsRefusal 3 (listsOf block))
+Inv-loop version block told₀ at₀ left₀ told at left =
+    (at ≤ length block) × (listsRefusal told left (drop at block) ≡ listsRefusal version 3 (listsOf block))
 
 abbrev μ-loop : tie.MeasureT-loop
-μ-loop block at₀ left₀ at left = left
+μ-loop version block told₀ at₀ left₀ told at left = left
 
 loop-holds : tie.Need-loop-holds Inv-loop μ-loop
 unfolding listsOf
@@ -33,14 +33,16 @@ loop-holds c = (c .before .pre, refl)
 -- the first of the lists that are left, and then the others
 more : (c : tie.In-loop Inv-loop μ-loop)
     → let l = c .before .loop in
-    let s = c .before .before .before .args .block .now in
+    let a = c .before .before .before .args in
+    let s = a .block .now in
     let rest = drop (l .at) s in
-    andThen (inside listHeader listRefusal rest) (listsRefusal (l .left - 1) (drop (stated rest) rest))
-    ≡ listsRefusal 3 (listsOf s)
+    andThen (inside listHeader (partRefusal (l .told)) rest)
+    (listsRefusal version (l .left - 1) (drop (stated rest) rest))
+    ≡ listsRefusal (a .version) 3 (listsOf s)
 more c =
     let l = c .before in
     let m : l .loop .left ≡ suc (l .loop .left - 1) = omega (arith, c .loop-test .taken) in
-    sym (lists-more (l .loop .left) (l .loop .left - 1) (drop (l .loop .at) (l .before .before .args .block .now)) m)
+    sym (lists-more (l .loop .told) (l .loop .left) (l .loop .left - 1) (drop (l .loop .at) (l .before .before .args .block .now)) m)
     ∙ l .loop .inv .1
 
 returns : tie.Need-returns Inv-loop μ-loop
@@ -48,19 +50,19 @@ returns c =
     let r = c .before .before in
     let l = r .before .before in
     let rest = drop (l .loop .at) (l .before .before .args .block .now) in
-    told-stop (c .before .passed .result) (r .check-list-at .result) (inside listHeader listRefusal rest)
+    told-stop (c .before .passed .result) (r .check-list-at .result) (inside listHeader (partRefusal (l .loop .told)) rest)
     (c .before .passed .ensures) (r .check-list-at .ensures)
-    (listsRefusal (l .loop .left - 1) (drop (stated rest) rest)) (c .if1 .taken)
+    (listsRefusal version (l .loop .left - 1) (drop (stated rest) rest)) (c .if1 .taken)
     ∙ more (r .before)
 
 list-at : (c : tie.Else1 Inv-loop μ-loop)
     → let l = c .before .before .before .before in
-    inside listHeader listRefusal (drop (l .loop .at) (l .before .before .args .block .now)) ≡ Accepted
+    inside listHeader (partRefusal (l .loop .told)) (drop (l .loop .at) (l .before .before .args .block .now)) ≡ Accepted
 list-at c =
     let r = c .before .before in
     let l = r .before .before in
     told-passed (c .before .passed .result) (r .check-list-at .result)
-    (inside listHeader listRefusal (drop (l .loop .at) (l .before .before .args .block .now)))
+    (inside listHeader (partRefusal (l .loop .told)) (drop (l .loop .at) (l .before .before .args .block .now)))
     (c .before .passed .ensures) (r .check-list-at .ensures) (c .if1 .left)
 
 here : (c : tie.Else1 Inv-loop μ-loop)
@@ -68,7 +70,7 @@ here : (c : tie.Else1 Inv-loop μ-loop)
     Held (l .loop .at) (l .before .before .args .block .now)
 here c =
     let l = c .before .before .before .before in
-    inside-held listHeader listRefusal (l .loop .at) (l .before .before .args .block .now)
+    inside-held listHeader (partRefusal (l .loop .told)) (l .loop .at) (l .before .before .args .block .now)
     (lit≤ tt) (l .loop .inv .0) (list-at c)
 
 loop-again : tie.Need-loop-again Inv-loop μ-loop
@@ -78,17 +80,17 @@ loop-again c =
     let l = r .before .before in
     let s = l .before .before .args .block .now in
     let rest = drop (l .loop .at) s in
-    let others = listsRefusal (l .loop .left - 1) (drop (stated rest) rest) in (
+    let others = listsRefusal version (l .loop .left - 1) (drop (stated rest) rest) in (
       omega (arith, here e, c .read-u32 .ensures .0),
       rw (c .read-u32 .ensures .0, ← drop-next (l .loop .at) s)
-          (sym (andThen-next (inside listHeader listRefusal rest) others (list-at e)) ∙ more (r .before)),
+          (sym (andThen-next (inside listHeader (partRefusal (l .loop .told)) rest) others (list-at e)) ∙ more (r .before)),
     )
 
 returns-2 : tie.Need-returns-2 Inv-loop μ-loop
 returns-2 c =
     let l = c .before in
     let rest = drop (l .loop .at) (l .before .before .args .block .now) in
-    sym (lists-none (l .loop .left) rest (omega (arith, c .loop-test .left))) ∙ l .loop .inv .1
+    sym (lists-none (l .loop .told) (l .loop .left) rest (omega (arith, c .loop-test .left))) ∙ l .loop .inv .1
 
 pub check-lists-spec : {M : Type 1} → statement M
 check-lists-spec =
@@ -102,6 +104,7 @@ check-lists-spec =
     returns
     (λ c κs. omega (arith, here c))
     (λ c. omega (arith, here (c .before), c .read-u32 .ensures .0))
+    (λ c. search needs)
     (λ c. search needs)
     (λ c. search needs)
     loop-again

@@ -5,9 +5,10 @@ use lib.Dec.{lit<}
 use Rattle.rules.specs.declared.Refusal.the-variants.{Accepted, Parts}
 use Rattle.rules.specs.Parts.{after, part}
 use Rattle.rules.specs.ReadTerm.{listsOf, disagree}
+use Rattle.listlaws.proofs.RefusalLaws.{part-framed}
 use Rattle.parts.proofs.PlaceLaws.{after-held, part-front}
 use Rattle.checkterm.specs.Lists.{restRefusal}
-use Rattle.checkterm.proofs.ListsLaws.{lists-walk, disagree-parts, rest-more, rest-none}
+use Rattle.checkterm.proofs.ListsLaws.{runs-in, lists-walk, disagree-parts, rest-more, rest-none}
 use Rattle.checkterm.proofs.check_rest.Statement.{statement}
 use Rattle.checkterm.proofs.check_rest.Tie as tie
 
@@ -15,7 +16,7 @@ part-at-requires : tie.Need-part-at-requires
 part-at-requires c κs =
     let b = c .before .before in
     rw (c .blocks-from .ensures)
-    (after-held 5 2 (b .args .block .now) (lists-walk (b .args .block .now) (b .pre) 2 (lit< tt)))
+    (after-held 5 2 (b .args .block .now) (lists-walk (b .args .version) (b .args .block .now) (b .pre) 2 (lit< tt)))
 
 -- the last list, and the bytes from it on
 last : (c : tie.After-part-at) →
@@ -36,9 +37,10 @@ unfolding listsOf
 disagree-requires c κs =
     let p = c .before .before .before in
     let b = p .before .before .before in (
-      rw (c .before .block-of .ensures) (b .pre 0 (lit< tt) .accepts),
-      rw (c .block-of2 .ensures) (b .pre 1 (lit< tt) .accepts),
-      rw (last p .0) (b .pre 2 (lit< tt) .accepts),
+      rw (c .before .block-of .ensures)
+          (part-framed (b .args .version) (part 0 (listsOf (b .args .block .now))) (b .pre 0 (lit< tt) .accepts) .0 .header),
+      rw (c .block-of2 .ensures) (runs-in (b .args .version) (b .args .block .now) (b .pre) 0 (lit< tt)),
+      rw (last p .0) (runs-in (b .args .version) (b .args .block .now) (b .pre) 1 (lit< tt)),
     )
 
 -- what is left to tell
@@ -65,12 +67,13 @@ pub check-rest-spec : {M : Type 1} → statement M
 check-rest-spec =
     tie.close
     (tie.spec
-    (λ c κs. lists-walk (c .before .args .block .now) (c .before .pre) 2 (lit< tt))
+    (λ c κs. lists-walk (c .before .args .version) (c .before .args .block .now) (c .before .pre) 2 (lit< tt))
     part-at-requires
     returns
-    (λ c κs. lists-walk (c .before .before .before .before .args .block .now)
+    (λ c κs. lists-walk (c .before .before .before .before .args .version) (c .before .before .before .before .args .block .now)
     (c .before .before .before .before .pre) 0 (lit< tt))
-    (λ c κs. lists-walk (c .before .before .before .before .before .args .block .now)
+    (λ c κs. lists-walk (c .before .before .before .before .before .args .version)
+    (c .before .before .before .before .before .args .block .now)
     (c .before .before .before .before .before .pre) 1 (lit< tt))
     disagree-requires
     returns-2

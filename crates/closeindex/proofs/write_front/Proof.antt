@@ -14,10 +14,11 @@ use Rattle.closeindex.proofs.write_front.Tie as tie
 
 -- the length stays
 length-at : (c : tie.After-write-u32)
-    → length (set (c .write-u32 .last .0) 4 1) ≡ length (c .before .before .before .args .buffer .now)
+    → length (set (c .write-u32 .last .0) 4 (c .before .before .before .args .version))
+    ≡ length (c .before .before .before .args .buffer .now)
 length-at c =
     let a = c .before .before .before .args in
-    length-set (c .write-u32 .last .0) 4 1 ∙ ap length (c .write-u32 .ensures)
+    length-set (c .write-u32 .last .0) 4 (a .version) ∙ ap length (c .write-u32 .ensures)
     ∙ length-sets (a .buffer .now) 0 (be 4 (a .used))
 
 length-at-2 : (c : tie.After-write-u322) → length (c .write-u322 .last .0)
@@ -25,7 +26,7 @@ length-at-2 : (c : tie.After-write-u322) → length (c .write-u322 .last .0)
 length-at-2 c =
     let w = c .before .before .before .before in
     let a = w .before .before .before .args in
-    ap length (c .write-u322 .ensures) ∙ length-sets (set (w .write-u32 .last .0) 4 1) 5 (be 4 (a .n)) ∙ length-at w
+    ap length (c .write-u322 .ensures) ∙ length-sets (set (w .write-u32 .last .0) 4 (a .version)) 5 (be 4 (a .n)) ∙ length-at w
 
 returns : tie.Need-returns
 returns c =
@@ -35,7 +36,7 @@ returns c =
     let b = w .before .before .before in
     let a = b .args in
     front-stored (a .buffer .now) (w .write-u32 .last .0)
-    (set (w .write-u32 .last .0) 4 1) (v .write-u322 .last .0) (u .write-u16 .last .0) (a .used) (a .n) (a .t) (b .pre)
+    (set (w .write-u32 .last .0) 4 (a .version)) (v .write-u322 .last .0) (u .write-u16 .last .0) (a .used) (a .version) (a .n) (a .t) (b .pre)
     (w .write-u32 .ensures) refl (v .write-u322 .ensures) (u .write-u16 .ensures)
 
 same-length : tie.Need-same-length
@@ -44,8 +45,8 @@ same-length c =
     let b = v .before .before .before .before .before .before .before in
     let a = b .args in
     ap length (returns c)
-    ∙ length-laid (indexFront (a .used) (a .n) (a .t)) (a .buffer .now)
-    (omega (arith, b .pre, length-front (a .used) (a .n) (a .t)))
+    ∙ length-laid (indexFront (a .used) (a .version) (a .n) (a .t)) (a .buffer .now)
+    (omega (arith, b .pre, length-front (a .used) (a .version) (a .n) (a .t)))
 
 pub write-front-spec : {M : Type 1} → statement M
 write-front-spec =

@@ -8,6 +8,7 @@ use lib.ListN.{replicate}
 use Rattle.rules.specs.declared.Refusal.the-variants.{Accepted, Lists}
 use Rattle.rules.specs.Write.{laid}
 use Rattle.rules.specs.Stream.{over, live, sizeOf, pointedWord}
+use Rattle.sessionlaws.specs.Layout.{Housed}
 use Rattle.sessionlaws.proofs.LiveLaws.{live-parts}
 use Rattle.sessionlaws.proofs.LayoutLaws.{size-is, housed}
 use Rattle.sessionlaws.proofs.AnswerLaws.{streamed-is, end-dead, end-short, end-spoilt, end-whole, pointed-told}
@@ -32,7 +33,8 @@ unfolding sizeOf
 long c =
     let s = c .before .before .before .before .args .s in
     let p = live-parts s (goes-on (c .before)) in
-    size-is (s .n) (s .pages) (s .positions) (s .u) (p .announced) (c .layout-of .result) (c .layout-of .ensures)
+    size-is (s .version) (s .n) (s .pages) (s .positions) (s .u) (p .announced) (c .layout-of .result)
+    (c .layout-of .ensures)
 
 returns-2 : tie.Need-returns-2
 returns-2 c =
@@ -51,13 +53,22 @@ returns-3 c =
     ∙ sym (end-spoilt (a .s) (a .room .now) (goes-on (l .before)) (omega (arith, long l, d .before .if2 .left))
     (sym (d .is-complete .ensures) ∙ not-true (d .is-complete .result) (k .before .before .if3 .taken)))
 
-point-lists-requires : tie.Need-point-lists-requires
-point-lists-requires c κs =
-    let l = c .before .before .before .before in
+-- the layout is that of the session, and the room holds its block
+house : (c : tie.Else2)
+    → let l = c .before in
+    let a = l .before .before .before .before .args in
+    Housed (a .s .version) (l .layout-of .result) (a .room .now)
+house c =
+    let l = c .before in
     let a = l .before .before .before .before .args in
     let p = live-parts (a .s) (goes-on (l .before)) in
-    housed (a .s .n) (a .s .pages) (a .s .positions) (a .s .u) (p .accepts) (l .layout-of .result)
-    (l .layout-of .ensures) (a .room .now) (c .before .before .before .if2 .left)
+    housed (a .s .version) (a .s .n) (a .s .pages) (a .s .positions) (a .s .u) (p .accepts) (l .layout-of .result)
+    (l .layout-of .ensures) (a .room .now) (c .if2 .left)
+
+point-lists-requires : tie.Need-point-lists-requires
+point-lists-requires c κs =
+    let e = c .before .before .before in
+    record { version = e .before .before .before .before .before .args .s .version; house = house e }
 
 returns-4 : tie.Need-returns-4
 returns-4 c =
@@ -70,7 +81,7 @@ returns-4 c =
     streamed-is (c .ended3 .result) (k .point-lists .last .0) Accepted (sizeOf (a .s)) over
     (pointedWord (a .s) (a .room .now))
     (e .0, e .1 ∙ long l, e .2)
-    (k .point-lists .ensures
+    (k .point-lists .ensures (a .s .version) (house (d .before))
     ∙ pointed-told (a .s) (a .room .now) (p .announced) (l .layout-of .result) (l .layout-of .ensures))
     ∙ sym (end-whole (a .s) (a .room .now) (goes-on (l .before)) (omega (arith, long l, d .before .if2 .left))
     (sym (d .is-complete .ensures) ∙ not-false (d .is-complete .result) (k .before .before .if3 .left)))

@@ -6,9 +6,11 @@ use native.Mathlib.Omega.{arith}
 use borrow.Rule.Slice.PartMut.{putMid}
 use borrow.Author.Needs.{needs}
 use lib.ListN.{length}
-use Rattle.rules.specs.InPlace.{from, pointed}
+use Rattle.rules.specs.List.{formOf}
+use Rattle.rules.specs.InPlace.{from, pointed, formPointed}
 use Rattle.wordlaws.proofs.PieceLaws.{part-long}
-use Rattle.sessionlaws.proofs.LayoutLaws.{house-places, house-pages, house-counts, house-positions}
+use Rattle.sessionlaws.proofs.LayoutLaws.{house-places, house-shapes, house-pages, house-counts}
+use Rattle.sessionlaws.proofs.LayoutLaws.{house-positions}
 use Rattle.addlaws.proofs.FromLaws.{part-from}
 use Rattle.endterm.proofs.point_lists.Statement.{statement}
 use Rattle.endterm.proofs.point_lists.Tie as tie
@@ -27,68 +29,77 @@ from-positions c = from-counts (c .before .before .before .before)
 abbrev paged : tie.After-slice-known2 → List ℕ
 paged c =
     let r = from-pages c .args .room .now in
-    putMid 5 (length r - 5) r (c .before .before .set-pointers .last .0)
+    putMid 5 (length r - 5) r (c .before .before .point-pages .last .0)
 
 abbrev counted : tie.After-slice-known3 → List ℕ
 counted c =
     let r = paged (c .before .before .before .before) in
     let u = from-counts c .args .g .second in
-    putMid u (length r - u) r (c .before .before .set-pointers2 .last .0)
+    putMid u (length r - u) r (c .before .before .set-pointers .last .0)
+
+sub-point-pages : tie.Need-sub-point-pages
+sub-point-pages c =
+    let h = c .before .pre .house in
+    omega (arith, house-places h, h .fits)
+
+point-pages-requires : tie.Need-point-pages-requires
+point-pages-requires c κs =
+    let s = c .before .before in
+    let g = s .args .g in
+    record {
+      form = formOf (s .pre .version) (g .pages .u) (g .pages .n);
+      fitting = house-pages (s .pre .house) _ (part-long 5 (s .args .room .now));
+    }
 
 sub-set-pointers : tie.Need-sub-set-pointers
 sub-set-pointers c =
-    let s = c .before in
-    omega (arith, house-places (s .pre), s .pre .fits)
+    let h = from-pages c .pre .house in
+    omega (arith, house-places h, h .fits)
 
 set-pointers-requires : tie.Need-set-pointers-requires
 set-pointers-requires c κs =
-    let s = c .before .before in
-    house-pages (s .pre) _ (part-long 5 (s .args .room .now))
+    let b = c .before in
+    let s = from-pages b in
+    house-counts (s .pre .house) _ (omega (arith, part-long (s .args .g .second) (paged b)))
 
 sub-set-pointers-2 : tie.Need-sub-set-pointers-2
 sub-set-pointers-2 c =
-    let s = from-pages c in
-    omega (arith, house-places (s .pre), s .pre .fits)
+    let h = from-counts c .pre .house in
+    omega (arith, house-places h, h .fits)
 
 set-pointers-requires-2 : tie.Need-set-pointers-requires-2
 set-pointers-requires-2 c κs =
     let b = c .before in
-    let s = from-pages b in
-    house-counts (s .pre) _ (omega (arith, part-long (s .args .g .second) (paged b)))
-
-sub-set-pointers-3 : tie.Need-sub-set-pointers-3
-sub-set-pointers-3 c =
-    let s = from-counts c in
-    omega (arith, house-places (s .pre), s .pre .fits)
-
-set-pointers-requires-3 : tie.Need-set-pointers-requires-3
-set-pointers-requires-3 c κs =
-    let b = c .before in
     let s = from-counts b in
-    house-positions (s .pre) _ (omega (arith, part-long (s .args .g .third) (counted b)))
+    house-positions (s .pre .house) _ (omega (arith, part-long (s .args .g .third) (counted b)))
 
 returns : tie.Need-returns
-returns c =
+returns c v h =
     let b = c .before .before .before .before in
     let d = b .before .before .before .before in
-    let p = d .before .before .set-pointers in
-    let q = b .before .before .set-pointers2 in
-    let r = c .before .before .set-pointers3 in
+    let p = d .before .before .point-pages in
+    let q = b .before .before .set-pointers in
+    let r = c .before .before .set-pointers2 in
     let s = from-positions c in
     let g = s .args .g in
-    let P : List ℕ → List ℕ = pointed (g .pages .u) (g .pages .n) in
+    let f = formOf v (g .pages .u) (g .pages .n) in
+    let P : List ℕ → List ℕ = formPointed f (g .pages .u) (g .pages .n) in
     let C : List ℕ → List ℕ = pointed (g .counts .u) (g .counts .n) in
     let Q : List ℕ → List ℕ = pointed (g .positions .u) (g .positions .n) in
     part-from (g .third) Q (counted b) (r .last .0) (r .ensures)
     ∙ ap (from (g .third) Q)
     (part-from (g .second) C (paged d) (q .last .0) (q .ensures)
     ∙ ap (from (g .second) C)
-    (part-from 5 P (s .args .room .now) (p .last .0) (p .ensures)))
+    (part-from 5 P (s .args .room .now) (p .last .0) (p .ensures f (house-shapes h .0))))
 
 pub point-lists-spec : {M : Type 1} → statement M
 point-lists-spec =
     tie.close
     (tie.spec
+    sub-point-pages
+    sub-point-pages
+    (λ c. search needs)
+    point-pages-requires
     sub-set-pointers
     sub-set-pointers
     (λ c. search needs)
@@ -97,9 +108,5 @@ point-lists-spec =
     sub-set-pointers-2
     (λ c. search needs)
     set-pointers-requires-2
-    sub-set-pointers-3
-    sub-set-pointers-3
-    (λ c. search needs)
-    set-pointers-requires-3
     (λ c. search needs)
     returns)

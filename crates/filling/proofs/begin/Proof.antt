@@ -7,6 +7,7 @@ use borrow.Author.Needs.{needs}
 use lib.Seq.{sets}
 use Rattle.rules.specs.Limits.{version}
 use Rattle.rules.specs.Bytes.{be}
+use Rattle.rules.specs.List.{twoRuns}
 use Rattle.filllaws.proofs.SideLaws.{header-fits}
 use Rattle.filllaws.proofs.PartLaws.{framed-none, partly-none}
 use Rattle.filling.proofs.begin.Statement.{statement}
@@ -27,7 +28,8 @@ returns c =
     let s2 : List ℕ = sets s1 4 (version ∷ []) in
     let s3 : List ℕ = sets s2 5 (be 4 (g .u)) in
     partly-none g d (h .put-header .last .0)
-    (framed-none g d (s .pre) s1 s2 s3 (h .put-header .last .0) refl refl refl (h .put-header .ensures))
+    (framed-none g d (s .pre) s1 s2 s3 (h .put-header .last .0) refl refl refl
+    (h .put-header .ensures twoRuns (s .pre .shape)))
 
 pub begin-spec : {M : Type 1} → statement M
 begin-spec = tie.close (tie.spec put-header-requires (λ c. search needs) returns)

@@ -66,7 +66,7 @@ add-next : tie.Need-add-next
 add-next c =
     let k = c .before .before .before .before .before .before .before in
     let t = k .check-word in
-    let b = c .before .struct-known6 .given .1 .1 .1 .1 .1 .1 .1 .1 .0 in
+    let b = c .before .struct-known6 .given .1 .1 .1 .1 .1 .1 .1 .1 .1 .0 in
     let e = c .before .before .before .before .before in
     omega (arith, b, t .ensures .ends (not-false (t .result .ok) (e .if3 .left)))
 

@@ -1,5 +1,5 @@
 -- `by_rank` reads the word's pages.
-use Rattle.kinds.proofs.KindLaws.{pages-are, pages-accepted}
+use Rattle.kinds.proofs.KindLaws.{pages-are, pages-valid}
 use borrow.Author.Needs.{needs}
 use Rattle.kinds.proofs.by_rank.Statement.{statement}
 use Rattle.kinds.proofs.by_rank.Tie as tie
@@ -7,7 +7,7 @@ use Rattle.kinds.proofs.by_rank.Tie as tie
 put-ranked-requires : tie.Need-put-ranked-requires
 put-ranked-requires c κs =
     let a = c .before .before .before .before in (
-      rw (c .before .pages-in .ensures) (pages-accepted (a .args .card .now) (a .args .t) (a .pre .0) (a .pre .1)),
+      rw (c .before .pages-in .ensures) (pages-valid (a .args .card .now) (a .args .t) (a .pre .0) (a .pre .1)),
       a .pre .2,
     )
 

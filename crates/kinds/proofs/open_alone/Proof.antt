@@ -3,7 +3,6 @@ use Prim.Native.Nat.{_^_, _<_}
 use native.Mathlib.Omega.{arith}
 use lib.ListN.{length}
 use Rattle.laws.proofs.PartLaws.{stated-lt}
-use Rattle.listlaws.proofs.RefusalLaws.{accepted-framed}
 use Rattle.kinds.proofs.AloneLaws.{all-bytes, alone-opened}
 use Rattle.kinds.proofs.open_alone.Statement.{statement}
 use Rattle.kinds.proofs.open_alone.Tie as tie
@@ -13,7 +12,7 @@ numbers-at-requires c κs =
     let b = c .before in
     let s = b .args .pages .now in
     let short : length s < 2 ^ 32 =
-    rw (accepted-framed s (b .pre) .0 .length-stated) at
+    rw (b .pre .framed .length-stated) at
     (stated-lt s (λ i. c .shared-slice-known .given i .fits)) in
     (record { starts = omega arith; ends = omega arith; short = short }, rw (all-bytes s) (b .pre))
 

@@ -8,14 +8,17 @@ use borrow.Author.Count.{below-more}
 use borrow.Author.Tests.{ltb-true, ltb-false}
 use lib.Count.{trailingZeros}
 use lib.ListN.{getD}
+use Rattle.rules.specs.Runs.{wordsFor}
+use Rattle.rules.specs.List.{twoRuns}
 use Rattle.rules.specs.ReadList.{decode}
 use Rattle.shape.specs.declared.Shape.{Shape}
 use Rattle.readlaws.specs.Open.{OneAt}
 use Rattle.readlaws.proofs.ReadLaws.{open-reads}
 use Rattle.seeklaws.proofs.FirstLaws.{rising-below}
 use Rattle.walklaws.specs.declared.Ones.{Ones}
-use Rattle.walklaws.specs.Walks.{Before, Paid, Walking}
-use Rattle.walklaws.proofs.OpenLaws.{open-U, open-length, open-few, open-rising, words-few}
+use Rattle.walklaws.specs.Walks.{RunIn, Before, Paid, Walking}
+use Rattle.walklaws.proofs.OpenLaws.{words-few, open-U, open-some, open-length, open-rising, open-run}
+use Rattle.walklaws.proofs.OpenLaws.{open-stored}
 use Rattle.walklaws.proofs.WalkLaws.{one-lt, one-there, one-ahead, walking-drop}
 use Rattle.walklaws.proofs.LandLaws.{landed-on, landed-none}
 use Rattle.landing.proofs.land.Statement.{statement}
@@ -30,6 +33,10 @@ abbrev μ-loop : tie.MeasureT-loop
 loop-holds : tie.Need-loop-holds Inv-loop μ-loop
 loop-holds c = (c .before .pre .1, c .before .pre .2, refl)
 
+-- the upper run, over which it walks
+run : (c : tie.Start Inv-loop μ-loop) → RunIn (c .args .s .now) (c .args .g)
+run c = open-run (c .args .s .now) (c .args .g) (c .pre .0)
+
 -- a one lies ahead: in what is left of the word, or by the number of those that were passed
 ahead : (c : tie.Joined1 Inv-loop μ-loop)
     → c .before .before .loop .at .rank < c .before .before .before .before .args .g .n
@@ -37,7 +44,7 @@ ahead c =
     let at = c .before .before .loop in
     let start = c .before .before .before .before in
     elim (c .if1 .came) [
-      | inl t ↦ one-ahead (start .args .s .now) (start .args .g) (start .pre .0) (at .at) (at .inv .0)
+      | inl t ↦ one-ahead (start .args .s .now) (start .args .g) (run start) (at .at) (at .inv .0)
           (omega (arith, t .taken))
       | inr e ↦ ltb-true (at .at .rank) (start .args .g .n) (e .3 .taken)
     ]
@@ -46,7 +53,7 @@ to-one-requires : tie.Need-to-one-requires Inv-loop μ-loop
 to-one-requires c κs =
     let start = c .before .before .before .before .before in
     let at = c .before .before .before .loop in
-    (start .pre .0, at .inv .0, ahead (c .before), omega (arith, at .inv .2, start .pre .3))
+    (run start, at .inv .0, ahead (c .before), omega (arith, at .inv .2, start .pre .3))
 
 -- the element at the one that a turn finds
 pub record Turn (s : List ℕ) (g : Shape) (x : Ones) : Type 0 where
@@ -68,10 +75,10 @@ turn c =
     let w = c .to-one .ensures .0 .at in
     let some = c .to-one .ensures .0 .some in
     let r = open-reads s g o in
-    let number = one-ahead s g o x w some in
+    let number = one-ahead s g (run start) x w some in
     record {
-      inside = omega (arith, words-few s g o (x .k) (w .within), one-lt s g o x w some);
-      one = one-there s g o x w some;
+      inside = omega (arith, words-few s g (run start) (x .k) (w .within), one-lt s g (run start) x w some);
+      one = one-there s g (run start) x w some;
       number = number;
       few = omega arith;
       low = omega (
@@ -104,25 +111,21 @@ cast-t19 c = record { fits = omega (arith, turn (c .before .before .before .befo
 cast-t20 : tie.Need-cast-t20 Inv-loop μ-loop
 cast-t20 c = record { fits = omega (arith, turn (c .before .before .before .before) .inside) }
 
-cast-t21 : tie.Need-cast-t21 Inv-loop μ-loop
-cast-t21 c =
-    let t = turn (c .before .before .before .before .before) in
-    record { fits = omega (arith, t .number, t .few) }
-
 returns : tie.Need-returns Inv-loop μ-loop
 returns c =
-    let one = c .before .before .before .before .before in
+    let one = c .before .before .before .before in
     let at = one .before .before .before .before .loop in
     let start = one .before .before .before .before .before .before in
     let t = one .to-one .ensures in
-    let v = c .before .before .page-at .ensures in
-    let l = landed-on (start .args .s .now) (start .args .g) (start .pre .0) (start .args .b) (one .to-one .result)
+    let v = c .before .page-at .ensures in
+    let stored = open-stored (start .args .s .now) (start .args .g) (start .pre .0) in
+    let l = landed-on twoRuns (start .args .s .now) (start .args .g) stored (start .args .b) (one .to-one .result)
     (t .0 .at) (λ j h. at .inv .1 j (omega (arith, t .0 .rank-kept))) _ (t .0 .some)
-    (omega (arith, v, c .before .if3 .taken)) (ap (λ (x : ℕ). x + 1) v) refl refl in
+    (omega (arith, v, c .if3 .taken)) (ap (λ (x : ℕ). x + 1) v) refl in
     (l .0, omega (arith, l .1, at .inv .2, t .1))
 
-sub-t22 : tie.Need-sub-t22 Inv-loop μ-loop
-sub-t22 c = omega (arith, c .before .before .before .before .before .to-one .ensures .0 .some)
+sub-t21 : tie.Need-sub-t21 Inv-loop μ-loop
+sub-t21 c = omega (arith, c .before .before .before .before .before .to-one .ensures .0 .some)
 
 add-t14 : tie.Need-add-t14 Inv-loop μ-loop
 add-t14 c =
@@ -141,7 +144,7 @@ loop-again c =
     let start = one .before .before .before .before .before .before in
     let t = one .to-one .ensures in
     let v = c .before .before .before .before .page-at .ensures in (
-      walking-drop (start .args .s .now) (start .args .g) (start .pre .0) (one .to-one .result) (t .0 .at) (t .0 .some) _
+      walking-drop (start .args .s .now) (start .args .g) (run start) (one .to-one .result) (t .0 .at) (t .0 .some) _
           refl refl refl,
       below-more _ _ (λ j h. at .inv .1 j (omega (arith, t .0 .rank-kept)))
           (omega (arith, v, c .before .before .before .if3 .left)),
@@ -152,21 +155,19 @@ to-end-requires : tie.Need-to-end-requires Inv-loop μ-loop
 to-end-requires c κs =
     let start = c .before .before .before .before .before .before .before .before in
     let at = c .before .before .before .before .before .before .loop in
-    (start .pre .0, at .inv .0 .within, omega (arith, at .inv .2, start .pre .3))
-
-none-requires : tie.Need-none-requires Inv-loop μ-loop
-none-requires c κs =
-    let start = c .before .before .before .before .before .before .before .before .before in
-    open-few (start .args .s .now) (start .args .g) (start .pre .0)
+    (run start, at .inv .0 .within, omega (arith, at .inv .2, start .pre .3))
 
 returns-2 : tie.Need-returns-2 Inv-loop μ-loop
 returns-2 c =
     let at = c .before .before .before .before .before .before .before .before .loop in
     let start = c .before .before .before .before .before .before .before .before .before .before in
     let n = c .none .ensures in
-    let l = landed-none (start .args .s .now) (start .args .g) (start .pre .0) (start .args .b) (at .at) (at .inv .0)
-    (at .inv .1) _ (ltb-false (at .at .rank) (start .args .g .n) (c .before .before .before .if2 .left))
-    (n .0) (n .1) (n .2) in
+    let o = start .pre .0 in
+    let bits : 0 < start .args .g .bits = unfold wordsFor in omega (arith, at .inv .0 .within) in
+    let stored = open-stored (start .args .s .now) (start .args .g) o in
+    let l = landed-none twoRuns (start .args .s .now) (start .args .g) stored (start .args .b) (at .at)
+    (at .inv .0) (at .inv .1) _ (open-some (start .args .s .now) (start .args .g) o bits)
+    (ltb-false (at .at .rank) (start .args .g .n) (c .before .before .before .if2 .left)) (n .0) (n .1) in
     (l .0, omega (arith, l .1, at .inv .2, c .before .to-end .ensures))
 
 pub land-spec : {M : Type 1} → statement M
@@ -184,12 +185,11 @@ land-spec =
     add-t18
     cast-t19
     cast-t20
-    cast-t21
     returns
-    sub-t22
+    sub-t21
     add-t14
     loop-less
     loop-again
     to-end-requires
-    none-requires
+    (λ c κs. tt)
     returns-2)

@@ -3,7 +3,6 @@ use mathlib.Core.Path.{_≡_, refl}
 use Prim.Native.Nat.{_+_, _-_, _≤_}
 use native.Mathlib.Omega.{arith}
 use Rattle.rules.specs.Runs.{wordsFor}
-use Rattle.readlaws.proofs.ReadLaws.{open-reads}
 use Rattle.walklaws.specs.Walks.{Paid}
 use Rattle.looks.proofs.to_end.Statement.{statement}
 use Rattle.looks.proofs.to_end.Tie as tie
@@ -17,8 +16,7 @@ abbrev μ-loop : tie.MeasureT-loop
 add-last : tie.Need-add-last Inv-loop μ-loop
 add-last c =
     let start = c .before .before in
-    let r = open-reads (start .args .s .now) (start .args .g) (start .pre .0) in
-    record { fits = omega arith }
+    record { fits = omega (arith, start .pre .0 .short) }
 
 sub-last : tie.Need-sub-last Inv-loop μ-loop
 unfolding wordsFor

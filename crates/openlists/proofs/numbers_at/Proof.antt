@@ -1,19 +1,22 @@
 -- `numbers_at` reads the shape of an accepted block, whose numbers are narrow.
 use native.Mathlib.Omega.{arith}
 use borrow.Author.Needs.{needs}
+use Rattle.rules.specs.ReadList.{formAt}
+use Rattle.openlists.specs.Places.{bytesOf}
 use Rattle.openlists.proofs.SlotLaws.{Narrow, open-narrow}
 use Rattle.openlists.proofs.numbers_at.Statement.{statement}
 use Rattle.openlists.proofs.numbers_at.Tie as tie
 
 fits : (c : tie.After-shape-at) → Narrow (c .shape-at .result)
 fits c =
-    let a = c .before .before .before in
-    open-narrow _ (c .shape-at .result) (record { accepted = a .pre .1; shape = c .shape-at .ensures })
+    let a = c .before .before .before .args in
+    let s = bytesOf (a .card .now) (a .from) (a .to) in
+    open-narrow (formAt s) s (c .shape-at .result) (c .shape-at .ensures .0)
 
 returns : tie.Need-returns
 returns c =
     let d = c .before .before .before .before .before .before in
-    rw (d .shape-at .ensures)
+    rw (d .shape-at .ensures .1)
 
 pub numbers-at-spec : {M : Type 1} → statement M
 numbers-at-spec =

@@ -8,6 +8,7 @@ use Rattle.rules.specs.declared.Refusal.the-variants.{Accepted}
 use Rattle.rules.specs.ReadList.{listRefusal}
 use Rattle.rules.specs.Index.{indexT}
 use Rattle.questions.proofs.GoodLaws.{words-parts}
+use Rattle.readlaws.proofs.FormLaws.{alone-valid}
 use Rattle.openlists.specs.Places.{Within}
 use Rattle.wordlists.specs.Lying.{listOf, Lying}
 use Rattle.wordlists.proofs.LyingLaws.{card-short, word-below}
@@ -29,7 +30,7 @@ loop-holds c =
       omega arith,
       words-parts (indexT (b .args .card .now)) (b .args .terms .now) (b .pre .1) .1,
       record {
-        room = b .pre .3;
+        room = b .pre .4;
         slot = λ i h. absurd (omega arith);
       },
     )
@@ -39,8 +40,8 @@ list-in-requires c κs =
     let b = c .before .before .before .before .before .before .before in
     let i = c .before .before .loop .i in (
       b .pre .0,
-      record { number = getD (b .args .terms .now) i 0; starts = b .pre .5 i (c .before .loop-test .taken) },
-      b .pre .2,
+      record { number = getD (b .args .terms .now) i 0; starts = b .pre .6 i (c .before .loop-test .taken) },
+      b .pre .3,
     )
 
 -- the word's list lies in the card
@@ -54,7 +55,7 @@ lies : (c : tie.After-list-in Inv-loop μ-loop)
 lies c =
     let b = c .before .before .before .before .before .before .before .before in
     c .list-in .ensures (getD (b .args .terms .now) (c .before .before .before .loop .i) 0)
-    (b .pre .5 (c .before .before .before .loop .i) (c .before .before .loop-test .taken))
+    (b .pre .6 (c .before .before .before .loop .i) (c .before .before .loop-test .taken))
 
 -- the place of a word's list lies in the card, whose bytes are fewer than 2 ^ 32
 within : (c : tie.After-list-in Inv-loop μ-loop)
@@ -84,10 +85,10 @@ accepted c =
     let b = c .before .before .before .before .before .before .before .before in
     list-accepted (b .args .card .now) _ (b .args .k) (b .pre .0)
     (word-below (indexT (b .args .card .now)) (b .args .terms .now) (b .pre .1) (c .before .before .before .loop .i)
-    (c .before .before .loop-test .taken)) (b .pre .2)
+    (c .before .before .loop-test .taken)) (b .pre .2) (b .pre .3)
 
 numbers-at-requires : tie.Need-numbers-at-requires Inv-loop μ-loop
-numbers-at-requires c κs = (within c, rw (lies c .bytes) (accepted c))
+numbers-at-requires c κs = (within c, rw (lies c .bytes) (alone-valid _ (accepted c)))
 
 put-list-requires : tie.Need-put-list-requires Inv-loop μ-loop
 put-list-requires c κs =
@@ -117,7 +118,7 @@ loop-again c =
     )
 
 same-length : tie.Need-same-length Inv-loop μ-loop
-same-length c = c .before .loop .inv .2 .room ∙ sym (c .before .before .before .before .before .before .pre .3)
+same-length c = c .before .loop .inv .2 .room ∙ sym (c .before .before .before .before .before .before .pre .4)
 
 returns : tie.Need-returns Inv-loop μ-loop
 returns c =
@@ -133,7 +134,7 @@ open-words-spec =
     μ-loop
     loop-holds
     (λ c. omega arith)
-    (λ c. omega (arith, c .before .before .before .before .before .before .before .pre .4))
+    (λ c. omega (arith, c .before .before .before .before .before .before .before .pre .5))
     list-in-requires
     numbers-at-requires
     put-list-requires

@@ -5,7 +5,7 @@ use native.Mathlib.Omega.{arith}
 use borrow.Author.Needs.{needs}
 use Rattle.rules.specs.Runs.{runWord}
 use Rattle.readlaws.proofs.ReadLaws.{open-reads}
-use Rattle.walklaws.proofs.OpenLaws.{open-some, open-ruled, look-fits}
+use Rattle.walklaws.proofs.OpenLaws.{look-fits, open-some, open-run, open-ruled}
 use Rattle.walklaws.proofs.StartLaws.{start-word, own-le, passed-start, skipping-start, passed-skip}
 use Rattle.passing.proofs.pass.Statement.{statement}
 use Rattle.passing.proofs.pass.Tie as tie
@@ -21,7 +21,7 @@ look-requires c κs =
     let start = c .before .before .before .before in
     let a = start .args in
     let p = start .pre in
-    look-fits (a .s .now) (a .g) (p .0) (a .from .bit / 64) (a .looks .now)
+    look-fits (a .s .now) (a .g) (open-run (a .s .now) (a .g) (p .0)) (a .from .bit / 64) (a .looks .now)
     (start-word (a .s .now) (a .g) (p .0) (a .b) (a .from) (p .2) (p .3)) (omega arith)
 
 behind-requires : tie.Need-behind-requires

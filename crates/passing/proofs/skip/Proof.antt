@@ -8,8 +8,8 @@ use Rattle.rules.specs.Runs.{wordsFor}
 use Rattle.selectlaws.specs.ByteCounts.{runningOnes}
 use Rattle.readlaws.proofs.ReadLaws.{open-reads}
 use Rattle.walklaws.specs.declared.Ones.{Ones}
-use Rattle.walklaws.specs.Walks.{Skipping, Paid}
-use Rattle.walklaws.proofs.OpenLaws.{words-few}
+use Rattle.walklaws.specs.Walks.{RunIn, Skipping, Paid}
+use Rattle.walklaws.proofs.OpenLaws.{words-few, open-run}
 use Rattle.walklaws.proofs.WalkLaws.{rank-small, skipping-in, skipping-inside, skipping-next, skipped-at}
 use Rattle.passing.proofs.skip.Statement.{statement}
 use Rattle.passing.proofs.skip.Tie as tie
@@ -26,6 +26,10 @@ Inv-loop table s g h looks₀ left₀ k₀ wanted₀ counts₀ looks left k want
 abbrev μ-loop : tie.MeasureT-loop
 μ-loop table s g h looks₀ left₀ k₀ wanted₀ counts₀ looks left k wanted counts = wordsFor (g .bits) - k
 
+-- the upper run, whose words it passes
+run : (c : tie.Start Inv-loop μ-loop) → RunIn (c .args .s .now) (c .args .g)
+run c = open-run (c .args .s .now) (c .args .g) (c .pre .0)
+
 -- bounds of the numbers at the start
 record Bounds (h k rank : ℕ) : Type 0 where
   high : h < 2 ^ 32
@@ -36,12 +40,11 @@ record Bounds (h k rank : ℕ) : Type 0 where
 bounds : (c : tie.Start Inv-loop μ-loop) → Bounds (c .args .h) (c .args .from .k) (c .args .from .rank)
 bounds c =
     let a = c .args in
-    let o = c .pre .0 in
-    let r = open-reads (a .s .now) (a .g) o in
+    let r = open-reads (a .s .now) (a .g) (c .pre .0) in
     record {
       high = omega (arith, c .pre .1);
-      few = words-few (a .s .now) (a .g) o (a .from .k) (c .pre .2 .within);
-      small = rank-small (a .s .now) (a .g) o (a .h) (a .from) (c .pre .2);
+      few = words-few (a .s .now) (a .g) (run c) (a .from .k) (c .pre .2 .within);
+      small = rank-small (a .s .now) (a .g) (run c) (a .h) (a .from) (c .pre .2);
       short = omega (arith, c .pre .2 .short);
     }
 
@@ -68,12 +71,12 @@ at-loop c = placed (by-loop c .args .h) (c .loop .left) (c .loop .k) (c .loop .w
 few : (c : tie.At-loop Inv-loop μ-loop) → c .loop .k < 2 ^ 20
 few c =
     let start = by-loop c in
-    words-few (start .args .s .now) (start .args .g) (start .pre .0) (c .loop .k) (c .loop .inv .0 .within)
+    words-few (start .args .s .now) (start .args .g) (run start) (c .loop .k) (c .loop .inv .0 .within)
 
 low : (c : tie.At-loop Inv-loop μ-loop) → c .loop .wanted < 2 ^ 34
 low c =
     let start = by-loop c in
-    let r = rank-small (start .args .s .now) (start .args .g) (start .pre .0) (start .args .h) (at-loop c) (c .loop .inv .0) in
+    let r = rank-small (start .args .s .now) (start .args .g) (run start) (start .args .h) (at-loop c) (c .loop .inv .0) in
     omega (arith, r, bounds start .high, c .loop .inv .1)
 
 -- the zero is in a later word
@@ -89,8 +92,8 @@ next-word-requires c κs =
     let t = c .before .before in
     let l = t .before .before in
     let start = by-loop l in (
-      start .pre .0,
-      skipping-inside (start .args .s .now) (start .args .g) (start .pre .0) (start .args .h) (at-loop l) (l .loop .inv .0)
+      run start,
+      skipping-inside (start .args .s .now) (start .args .g) (run start) (start .args .h) (at-loop l) (l .loop .inv .0)
           (start .pre .1) (through t),
       omega (arith, l .loop .inv .2, start .pre .3),
     )
@@ -113,7 +116,7 @@ loop-again c =
     let g = through t in
     let h = l .loop .inv .1 in
     let e = p .with-ones2 .ensures in (
-      skipping-next (start .args .s .now) (start .args .g) (start .pre .0) (start .args .h) (at-loop l) (l .loop .inv .0)
+      skipping-next (start .args .s .now) (start .args .g) (run start) (start .args .h) (at-loop l) (l .loop .inv .0)
           (start .pre .1) g (placed (start .args .h) (x .left) (x .k) (x .rank)) (n .1) (n .0)
           (omega (arith, n .1, n .2, e, g, h)),
       omega (arith, n .1, n .2, e, g, h),
@@ -125,7 +128,7 @@ to-zero-requires : tie.Need-to-zero-requires Inv-loop μ-loop
 to-zero-requires c κs =
     let l = c .before .before in
     let start = by-loop l in (
-      skipping-in (start .args .s .now) (start .args .g) (start .pre .0) (start .args .h) (at-loop l) (l .loop .inv .0)
+      skipping-in (start .args .s .now) (start .args .g) (run start) (start .args .h) (at-loop l) (l .loop .inv .0)
           (omega (arith, l .loop .inv .1, c .before .with-ones .ensures, c .if1 .left)),
       l .loop .inv .3,
       start .pre .4,
@@ -136,7 +139,7 @@ returns c =
     let l = c .before .before .before in
     let start = by-loop l in
     let z = c .to-zero .ensures in (
-      skipped-at (start .args .s .now) (start .args .g) (start .pre .0) (start .args .h) (at-loop l) (l .loop .inv .0) _ z,
+      skipped-at (start .args .s .now) (start .args .g) (run start) (start .args .h) (at-loop l) (l .loop .inv .0) _ z,
       omega (arith, l .loop .inv .2, z .k-kept),
     )
 

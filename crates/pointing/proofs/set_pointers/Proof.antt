@@ -71,7 +71,8 @@ run-same : (c : tie.At-loop Inv-loop μ-loop)
 run-same c =
     let a = by-loop c .args in
     let i = c .loop .inv in
-    run-kept (a .g) (a .block .now) (c .loop .block) (by-loop c .pre) (c .loop .q) (i .2) (i .0) (i .1)
+    run-kept (a .g) (pointer-in (a .g) (a .block .now)) (a .block .now) (c .loop .block) (space (by-loop c))
+    (c .loop .q) (i .2) (i .1)
 
 pass-to-requires : tie.Need-pass-to-requires Inv-loop μ-loop
 pass-to-requires c κs =

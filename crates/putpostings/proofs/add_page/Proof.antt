@@ -7,7 +7,8 @@ use borrow.Rule.Slice.PartMut.{putMid}
 use borrow.Author.Needs.{needs}
 use lib.ListN.{length, getD}
 use Rattle.rules.specs.Term.{raised}
-use Rattle.rules.specs.InPlace.{from, added}
+use Rattle.rules.specs.List.{formOf}
+use Rattle.rules.specs.InPlace.{from, added, formAdded}
 use Rattle.wordlaws.proofs.PieceLaws.{part-long}
 use Rattle.addlaws.proofs.FromLaws.{part-from}
 use Rattle.sessionlaws.proofs.LayoutLaws.{house-places, house-positions}
@@ -16,8 +17,8 @@ use Rattle.putpostings.proofs.add_page.Statement.{statement}
 use Rattle.putpostings.proofs.add_page.Tie as tie
 
 -- the start, seen from before the first list and from behind each of the others
-abbrev from-start : tie.After-shared-slice-known5 → tie.Start
-from-start c = c .before .before .before .before .before .before .before .before .before .before .before
+abbrev from-start : tie.After-shared-slice-known4 → tie.Start
+from-start c = c .before .before .before .before .before .before .before .before .before .before
 
 abbrev from-pages : tie.After-slice-known2 → tie.Start
 from-pages c = from-start (c .before .before .before .before)
@@ -29,34 +30,38 @@ from-counts c = from-pages (c .before .before .before .before)
 abbrev paged : tie.After-slice-known2 → List ℕ
 paged c =
     let r = from-pages c .args .room .now in
-    putMid 5 (length r - 5) r (c .before .before .add-one .last .0)
+    putMid 5 (length r - 5) r (c .before .before .add-page .last .0)
 
 abbrev counted : tie.After-slice-known3 → List ℕ
 counted c =
     let r = paged (c .before .before .before .before) in
     let u = from-counts c .args .g .second in
-    putMid u (length r - u) r (c .before .before .add-one2 .last .0)
+    putMid u (length r - u) r (c .before .before .add-one .last .0)
+
+sub-add-page : tie.Need-sub-add-page
+sub-add-page c =
+    let p = from-start c .pre .0 in
+    omega (arith, house-places (laying-house p), p .fits)
+
+add-page-requires : tie.Need-add-page-requires
+add-page-requires c κs =
+    let s = from-start (c .before) in
+    let g = s .args .g in (
+      s .pre .1,
+      record {
+        form = formOf (s .args .s .version) (g .pages .u) (g .pages .n);
+        shape = g .pages;
+        slot = page-slot (s .pre .0) (s .pre .1) _ (part-long 5 (s .args .room .now));
+      },
+    )
 
 sub-add-one : tie.Need-sub-add-one
 sub-add-one c =
-    let p = from-start c .pre .0 in
+    let p = from-pages c .pre .0 in
     omega (arith, house-places (laying-house p), p .fits)
 
 add-one-requires : tie.Need-add-one-requires
 add-one-requires c κs =
-    let s = from-start (c .before) in
-    record {
-      shape = s .args .g .pages;
-      slot = page-slot (s .pre .0) (s .pre .1) _ (part-long 5 (s .args .room .now));
-    }
-
-sub-add-one-2 : tie.Need-sub-add-one-2
-sub-add-one-2 c =
-    let p = from-pages c .pre .0 in
-    omega (arith, house-places (laying-house p), p .fits)
-
-add-one-requires-2 : tie.Need-add-one-requires-2
-add-one-requires-2 c κs =
     let b = c .before in
     let s = from-pages b in
     record {
@@ -96,17 +101,18 @@ returns c =
     let m = part-long (g .second) (paged d) in
     let page = getD (s .args .pages .now) 0 0 in
     let sum = x .filled + getD (s .args .counts .now) 0 0 - 1 in
-    let P : List ℕ → List ℕ = added (g .pages .u) (g .pages .n) (x .laid) (page ∷ []) in
+    let f = formOf (x .version) (g .pages .u) (g .pages .n) in
+    let P : List ℕ → List ℕ = formAdded f (g .pages .u) (g .pages .n) (x .laid) (page ∷ []) in
     let C : List ℕ → List ℕ = added (g .counts .u) (g .counts .n) (x .laid) (sum ∷ []) in
     let Q : List ℕ → List ℕ = added (g .positions .u) (g .positions .n) (x .filled)
     (raised (x .base) (s .args .positions .now)) in
     part-from (g .third) Q (counted b) (c .before .before .add-all .last .0) (c .before .before .add-all .ensures)
     ∙ ap (from (g .third) Q)
-    (part-from (g .second) C (paged d) (b .before .before .add-one2 .last .0)
-    (b .before .before .add-one2 .ensures (g .counts) (sum-slot p one _ (omega (arith, m))))
+    (part-from (g .second) C (paged d) (b .before .before .add-one .last .0)
+    (b .before .before .add-one .ensures (g .counts) (sum-slot p one _ (omega (arith, m))))
     ∙ ap (from (g .second) C)
-    (part-from 5 P (s .args .room .now) (d .before .before .add-one .last .0)
-    (d .before .before .add-one .ensures (g .pages) (page-slot p one _ (part-long 5 (s .args .room .now))))))
+    (part-from 5 P (s .args .room .now) (d .before .before .add-page .last .0)
+    (d .before .before .add-page .ensures f (g .pages) (page-slot p one _ (part-long 5 (s .args .room .now))))))
     ∙ one-told p one
 
 pub add-page-spec : {M : Type 1} → statement M
@@ -115,20 +121,18 @@ add-page-spec =
     (tie.spec
     (λ c. search needs)
     (λ c. search needs)
-    (λ c. search needs)
+    (λ c. omega (arith, one-count (from-start c .pre .0) (from-start c .pre .1)))
     (λ c. omega (arith, c .shared-slice-known4 .given 0))
     (λ c. omega (arith, one-count (from-start c .pre .0) (from-start c .pre .1)))
-    (λ c. omega (arith, c .shared-slice-known5 .given 0))
     (λ c. omega (arith, one-count (from-start c .pre .0) (from-start c .pre .1)))
-    (λ c. omega (arith, one-count (from-start c .pre .0) (from-start c .pre .1)))
+    sub-add-page
+    sub-add-page
+    (λ c. search needs)
+    add-page-requires
     sub-add-one
     sub-add-one
     (λ c. search needs)
     add-one-requires
-    sub-add-one-2
-    sub-add-one-2
-    (λ c. search needs)
-    add-one-requires-2
     sub-add-all
     sub-add-all
     (λ c. search needs)

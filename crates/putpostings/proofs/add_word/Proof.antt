@@ -6,12 +6,14 @@ use native.Mathlib.Omega.{arith}
 use borrow.Rule.Slice.PartMut.{putMid}
 use borrow.Author.Needs.{needs}
 use lib.ListN.{length}
-use Rattle.rules.specs.Term.{lentWord, sums, raised, placed}
-use Rattle.rules.specs.InPlace.{from, added}
+use Rattle.rules.specs.List.{Form, formOf}
+use Rattle.rules.specs.Term.{lentWord, sums, placed}
+use Rattle.rules.specs.InPlace.{from, added, formAdded}
 use Rattle.sessionlaws.specs.Follow.{Laying}
 use Rattle.wordlaws.proofs.PieceLaws.{part-long}
 use Rattle.addlaws.proofs.FromLaws.{part-from}
-use Rattle.sessionlaws.proofs.LayoutLaws.{house-places, house-pages, house-counts, house-positions}
+use Rattle.sessionlaws.proofs.LayoutLaws.{house-places, house-shapes, house-pages, house-counts}
+use Rattle.sessionlaws.proofs.LayoutLaws.{house-positions}
 use Rattle.sessionlaws.proofs.PutLaws.{laying-house, ask-pages, ask-counts, ask-places, added-told}
 use Rattle.putpostings.proofs.add_word.Statement.{statement}
 use Rattle.putpostings.proofs.add_word.Tie as tie
@@ -46,7 +48,7 @@ from-counts c = from-pages (c .before .before .before .before)
 abbrev paged : tie.After-slice-known2 → List ℕ
 paged c =
     let r = start (from-pages c) .args .room .now in
-    putMid 5 (length r - 5) r (c .before .before .add-all .last .0)
+    putMid 5 (length r - 5) r (c .before .before .add-pages .last .0)
 
 abbrev counted : tie.After-slice-known3 → List ℕ
 counted c =
@@ -54,17 +56,28 @@ counted c =
     let u = from-counts c .layout-of .result .second in
     putMid u (length r - u) r (c .before .before .add-sums .last .0)
 
-sub-add-all : tie.Need-sub-add-all
-sub-add-all c =
+sub-add-pages : tie.Need-sub-add-pages
+sub-add-pages c =
     let p = laying (from-first c) in
     omega (arith, house-places (laying-house p), p .fits)
 
-add-all-requires : tie.Need-add-all-requires
-add-all-requires c κs =
+-- the pages' form
+abbrev form : tie.After-layout-of → Form
+form c =
+    let g = c .layout-of .result in
+    formOf (start c .args .s .version) (g .pages .u) (g .pages .n)
+
+add-pages-requires : tie.Need-add-pages-requires
+add-pages-requires c κs =
     let k = from-first (c .before) in
     let p = laying k in
     let a = ask-pages p in
-    (house-pages (laying-house p) _ (part-long 5 (start k .args .room .now)), a .0, a .1)
+    record {
+      form = form k;
+      fitting = house-pages (laying-house p) _ (part-long 5 (start k .args .room .now));
+      few = a .0;
+      rises = a .1;
+    }
 
 sub-add-sums : tie.Need-sub-add-sums
 sub-add-sums c =
@@ -113,14 +126,15 @@ returns c =
     let ps = s .args .pages .now in
     let cs = s .args .counts .now in
     let qs = s .args .positions .now in
-    let P : List ℕ → List ℕ = added (g .pages .u) (g .pages .n) (x .laid) (raised 0 ps) in
+    let P : List ℕ → List ℕ = formAdded (form k) (g .pages .u) (g .pages .n) (x .laid) ps in
     let C : List ℕ → List ℕ = added (g .counts .u) (g .counts .n) (x .laid) (sums (x .filled) cs) in
     let Q : List ℕ → List ℕ = added (g .positions .u) (g .positions .n) (x .filled) (placed (x .base) cs qs) in
     part-from (g .third) Q (counted b) (c .before .before .add-places .last .0) (c .before .before .add-places .ensures)
     ∙ ap (from (g .third) Q)
     (part-from (g .second) C (paged d) (b .before .before .add-sums .last .0) (b .before .before .add-sums .ensures)
     ∙ ap (from (g .second) C)
-    (part-from 5 P (s .args .room .now) (d .before .before .add-all .last .0) (d .before .before .add-all .ensures)))
+    (part-from 5 P (s .args .room .now) (d .before .before .add-pages .last .0)
+    (d .before .before .add-pages .ensures (form k) (house-shapes (laying-house (laying k)) .0))))
     ∙ added-told (laying k)
 
 pub add-word-spec : {M : Type 1} → statement M
@@ -130,10 +144,10 @@ add-word-spec =
     (λ c κs. c .before .before .before .before .pre .goes-on)
     (λ c. search needs)
     (λ c. search needs)
-    sub-add-all
-    sub-add-all
+    sub-add-pages
+    sub-add-pages
     (λ c. search needs)
-    add-all-requires
+    add-pages-requires
     sub-add-sums
     sub-add-sums
     (λ c. search needs)

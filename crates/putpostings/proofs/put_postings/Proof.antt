@@ -9,6 +9,7 @@ use Rattle.rules.specs.declared.Refusal.the-variants.{Accepted, Lists}
 use Rattle.rules.specs.Write.{laid}
 use Rattle.rules.specs.Term.{Word, lentWord}
 use Rattle.rules.specs.Stream.{over, live, follows, addedWord, advanced, sizeOf}
+use Rattle.sessionlaws.specs.Layout.{layoutOf}
 use Rattle.sessionlaws.specs.Follow.{Laying}
 use Rattle.sessionlaws.proofs.LiveLaws.{live-parts}
 use Rattle.sessionlaws.proofs.LayoutLaws.{size-is}
@@ -40,7 +41,16 @@ goes-on c = sym (c .before .is-live .ensures) ∙ not-false (c .before .is-live 
 
 -- behind that test, seen from where the layout is known
 abbrev from-layout : tie.After-layout → tie.Else1
-from-layout c = c .before .before .before .before .before
+from-layout c = c .before .before .before .before .before .before
+
+-- the layout is the session's
+layout-is : (c : tie.After-layout)
+    → let s = from-test (from-layout c .before) .args .s in
+    c .layout .result ≡ layoutOf (s .version) (s .n) (s .pages) (s .positions) (s .u)
+layout-is c =
+    let k = c .before .before .before in
+    let s = from-test (from-layout c .before) .args .s in
+    c .layout .ensures (s .version) (s .n) (s .pages) (k .pages-shape .ensures)
 
 -- the block's length
 long : (c : tie.After-layout) → c .layout .result .size ≡ sizeOf (from-test (from-layout c .before) .args .s)
@@ -48,12 +58,26 @@ unfolding sizeOf
 long c =
     let s = from-test (from-layout c .before) .args .s in
     let a = live-parts s (goes-on (from-layout c)) .announced in
-    size-is (s .n) (s .pages) (s .positions) (s .u) a (c .layout .result) (c .layout .ensures)
+    size-is (s .version) (s .n) (s .pages) (s .positions) (s .u) a (c .layout .result) (layout-is c)
+
+pages-shape-requires : tie.Need-pages-shape-requires
+pages-shape-requires c κs =
+    let e = c .before .before in
+    let a = live-parts (from-test (e .before) .args .s) (goes-on e) .announced in
+    (a .pages, a .within)
 
 layout-requires : tie.Need-layout-requires
 layout-requires c κs =
-    let e = c .before .before .before .before in
-    live-parts (from-test (e .before) .args .s) (goes-on e) .accepts
+    let k = c .before .before in
+    let e = k .before .before .before in
+    let s = from-test (e .before) .args .s in
+    record {
+      version = s .version;
+      n = s .n;
+      pages = s .pages;
+      shape = k .pages-shape .ensures;
+      accepts = live-parts s (goes-on e) .accepts;
+    }
 
 returns-2 : tie.Need-returns-2
 returns-2 c =
@@ -94,7 +118,7 @@ laying : (c : tie.Else3)
 laying c =
     let d = c .before .before in
     record {
-      layout = layout d .layout .ensures;
+      layout = layout-is (layout d);
       goes-on = goes-on (from-layout (layout d));
       may = may c;
       fits = d .before .if2 .left;
@@ -138,6 +162,7 @@ put-postings-spec =
     returns
     (λ c. search needs)
     (λ c. search needs)
+    pages-shape-requires
     (λ c. search needs)
     (λ c. search needs)
     layout-requires

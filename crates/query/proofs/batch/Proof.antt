@@ -51,17 +51,17 @@ step : (k : tie.After-seek-in Inv-loop μ-loop) →
     let a = k .before .before .before .before .before .before .args in
     let r = k .seek-in .result in
     Step (a .card .now) (a .shapes .now) (a .k) (a .q0) (a .b0) (a .room .now)
-    (l .q) (l .b) (l .i) (l .found) (l .room) (r .hand) (r .rank)
+    (l .q) (l .b) (l .i) (l .found) (l .room) (r .hand)
 unfolding unused
 step k =
     let e = k .seek-in .ensures in
-    record { amid = k .before .before .loop .inv; moved = e .1; told = e .2 }
+    record { amid = k .before .before .loop .inv; moved = e .1 }
 
 returns : tie.Need-returns Inv-loop μ-loop
 returns c =
     let k = c .before .before .before .before in
     rw (c .turn-of .ensures, k .seek-in .ensures .0)
-    (amid-none _ _ _ _ _ _ _ _ _ _ _ _ _ (step k) (c .before .if1 .taken))
+    (amid-none _ _ _ _ _ _ _ _ _ _ _ _ (step k) (c .before .if1 .taken))
 
 -- the mark that a seek leaves
 marked : (k : tie.After-seek-in Inv-loop μ-loop) → 0 < k .seek-in .result .hand .mark
@@ -93,7 +93,7 @@ unfolding unused
 loop-again c =
     let k = c .before .before .before .before .before in
     rw (k .seek-in .ensures .0)
-    (amid-larger _ _ _ _ _ _ _ _ _ _ _ _ _ (step k)
+    (amid-larger _ _ _ _ _ _ _ _ _ _ _ _ (step k)
     (c .before .before .if1 .left) (omega (arith, c .before .if2 .taken))
     (ltb-true (k .before .before .loop .b) (k .seek-in .result .hand .mark - 1) (c .if3 .taken)))
 
@@ -131,7 +131,7 @@ returns-2 : tie.Need-returns-2 Inv-loop μ-loop
 returns-2 c =
     let k = c .before .before .before .before .before .before .before in
     rw (c .turn-of2 .ensures, k .seek-in .ensures .0)
-    (amid-full _ _ _ _ _ _ _ _ _ _ _ _ _ (step k)
+    (amid-full _ _ _ _ _ _ _ _ _ _ _ _ (step k)
     (c .before .before .before .before .if1 .left) (no-larger (c .before .before .before)) (c .before .before .if4 .taken)
     (omega (arith, c .before .if5 .taken, room-long k)))
 
@@ -144,7 +144,7 @@ loop-again-2 : tie.Need-loop-again-2 Inv-loop μ-loop
 loop-again-2 c =
     let k = c .before .before .before .before .before .before in
     rw (k .seek-in .ensures .0)
-    (amid-page _ _ _ _ _ _ _ _ _ _ _ _ _ (step k)
+    (amid-page _ _ _ _ _ _ _ _ _ _ _ _ (step k)
     (c .before .before .before .if1 .left) (no-larger (c .before .before)) (c .before .if4 .taken)
     (omega (arith, c .if5 .left, room-long k)))
 
@@ -158,7 +158,7 @@ unfolding unused
 loop-again-3 c =
     let k = c .before .before .before .before .before in
     rw (k .seek-in .ensures .0)
-    (amid-same _ _ _ _ _ _ _ _ _ _ _ _ _ (step k)
+    (amid-same _ _ _ _ _ _ _ _ _ _ _ _ (step k)
     (c .before .before .if1 .left) (no-larger (c .before)) (c .if4 .left))
 
 pub batch-spec : {M : Type 1} → statement M

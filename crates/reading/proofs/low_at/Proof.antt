@@ -1,9 +1,9 @@
 -- `low_at` gives the low part: its field lies in the lower run, and is narrow.
 use mathlib.Core.Path.{_≡_, refl, ap₂, _∙_}
 use mathlib.Core.List.{List}
-use Prim.Native.Nat.{ℕ, zero, suc, _+_, _-_, _*_, _/_, _^_, _≤_}
+use Prim.Native.Nat.{ℕ, zero, suc, _+_, _-_, _*_, _^_, _≤_}
 use native.Mathlib.Omega.{arith}
-use lib.ListN.{length, take, drop, length-drop}
+use lib.ListN.{take, drop, length-drop}
 use lib.Seq.{length-take-le}
 use Rattle.rules.specs.Runs.{field, wordsFor}
 use Rattle.laws.proofs.RunLaws.{run-part}

@@ -1,15 +1,23 @@
-use Rattle.readlaws.proofs.NearLaws.{own-shape}
+use native.Mathlib.Omega.{arith}
+use Rattle.readlaws.proofs.ReadLaws.{open-reads, pointers-few}
+use Rattle.readlaws.proofs.FormLaws.{number-points}
 use Rattle.reading.proofs.pointer_at.Statement.{statement}
 use Rattle.reading.proofs.pointer_at.Tie as tie
 
-pointer-in-requires : tie.Need-pointer-in-requires
-pointer-in-requires c κs =
+number-in-requires : tie.Need-number-in-requires
+number-in-requires c κs =
     let start = c .before in
-    let o = start .pre .0 in
-    (own-shape (start .args .block .now) (start .args .g) o, rw (o .shape) at (start .pre .1))
+    let a = start .args in
+    let r = open-reads (a .block .now) (a .g) (start .pre .0) in (
+      omega (arith, start .pre .1, r .low, r .up, r .full),
+      omega (arith, start .pre .1, pointers-few (a .block .now) (a .g) (start .pre .0)),
+    )
 
 returns : tie.Need-returns
-returns c = rw (c .before .before .pre .0 .shape) (c .pointer-in .ensures)
+returns c =
+    let start = c .before .before in
+    let a = start .args in
+    rw (c .number-in .ensures) (number-points (a .block .now) (a .g) (start .pre .0) (a .i) (start .pre .1))
 
 pub pointer-at-spec : {M : Type 1} → statement M
-pointer-at-spec = tie.close (tie.spec pointer-in-requires returns)
+pointer-at-spec = tie.close (tie.spec number-in-requires returns)

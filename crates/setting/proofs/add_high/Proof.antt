@@ -14,8 +14,8 @@ returns-2 : tie.Need-returns-2
 returns-2 c q v d bytes l above long =
     let k = c .before .before in
     let a = c .before .before .before .before .before .before .before .args in
-    highs-far q v (a .a) d (a .run .now) l (a .place) above long (k .flush .last .0) (k .before .before .if1 .left) bytes
-    (k .flush .ensures)
+    highs-far q v (a .a) d (a .run .now) l (a .place) above long (k .flush .last .0) (k .before .before .if1 .left)
+    bytes (k .flush .ensures)
 
 pub add-high-spec : {M : Type 1} → statement M
 add-high-spec =

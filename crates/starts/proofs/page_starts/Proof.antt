@@ -8,7 +8,7 @@ use lib.ListN.{length, length-drop}
 use Rattle.openlists.specs.Places.{slotOf}
 use Rattle.querylaws.specs.Ranks.{rankBy}
 use Rattle.triallaws.specs.Asked.{pagesIn, leadIn, offsetsIn, CountedOn}
-use Rattle.triallaws.proofs.RankLaws.{slot-within, asked-list, asked-rank, rank-ready}
+use Rattle.triallaws.proofs.RankLaws.{slot-within, asked-rank, rank-ready}
 use Rattle.triallaws.proofs.PageLaws.{lone-counted}
 use Rattle.starts.proofs.page_starts.Statement.{statement}
 use Rattle.starts.proofs.page_starts.Tie as tie
@@ -28,16 +28,17 @@ rank-in-requires c κs =
     let a = b .pre .0 .0 .asked in
     let h = a .pages .lists .some in
     let r = asked-rank _ _ _ _ _ _ a 0 h _ _ (b .pre .0 .1) in
-    let l = asked-list _ _ _ _ _ _ a 0 h in
-    (omega (arith, l .room), omega arith, b .pre .0 .1 .eight, rw (leads (c .before)) at (r .on-element))
+    (b .pre .0 .1 .eight, rw (leads (c .before)) at (r .on-element))
 
 -- the rank that was read
 ranked : (c : tie.After-rank-in)
     → let a = start (c .before .before) .args in
-    c .rank-in .result ≡ rankBy (pagesIn (a .lists .now)) (a .turn .q) (slotOf (leadIn (a .lists .now)) 0)
+    c .rank-in .result
+    ≡ rankBy (a .card .now) (pagesIn (a .lists .now)) (a .turn .q) (slotOf (leadIn (a .lists .now)) 0)
 ranked c =
     let a = start (c .before .before) .args in
-    c .rank-in .ensures ∙ ap (rankBy (pagesIn (a .lists .now)) (a .turn .q)) (sym (leads (c .before .before)))
+    c .rank-in .ensures
+    ∙ ap (rankBy (a .card .now) (pagesIn (a .lists .now)) (a .turn .q)) (sym (leads (c .before .before)))
 
 ranks-at-requires : tie.Need-ranks-at-requires
 ranks-at-requires c κs =

@@ -9,7 +9,7 @@ use mir.Val.{Fits}
 use Rattle.querylaws.specs.Ranks.{rankBy}
 use Rattle.openlists.specs.Places.{slotOf}
 use Rattle.triallaws.specs.Asked.{pagesIn, leadIn}
-use Rattle.triallaws.proofs.RankLaws.{lead-few, asked-list, asked-rank, rank-ready, turn-ready, trying-turned}
+use Rattle.triallaws.proofs.RankLaws.{lead-few, asked-rank, rank-ready, turn-ready, trying-turned}
 use Rattle.triallaws.proofs.TrialLaws.{next-within, next-slot}
 use Rattle.trying.proofs.turn_next.Statement.{statement}
 use Rattle.trying.proofs.turn_next.Tie as tie
@@ -51,17 +51,18 @@ rank-in-requires c κs =
     let b = start (c .before) in
     let n = next (c .before) in
     let r = asked-rank _ _ _ _ _ _ (b .pre .0 .asked) _ (n .0) _ _ (b .pre .1) in
-    let l = asked-list _ _ _ _ _ _ (b .pre .0 .asked) _ (n .0) in
-    (omega (arith, l .room, n .1), omega (arith, l .few, n .1), b .pre .1 .eight, rw (n .1) at (r .on-element))
+    (b .pre .1 .eight, rw (n .1) at (r .on-element))
 
 -- the rank that was read
 ranked : (c : tie.After-rank-in)
     → let a = start (c .before .before) .args in
     c .rank-in .result
-    ≡ rankBy (pagesIn (a .lists .now)) (a .turn .q) (slotOf (leadIn (a .lists .now)) (c .before .before .source-of .result))
+    ≡ rankBy (a .card .now) (pagesIn (a .lists .now)) (a .turn .q)
+    (slotOf (leadIn (a .lists .now)) (c .before .before .source-of .result))
 ranked c =
     let a = start (c .before .before) .args in
-    c .rank-in .ensures ∙ ap (rankBy (pagesIn (a .lists .now)) (a .turn .q)) (sym (next (c .before .before) .1))
+    c .rank-in .ensures
+    ∙ ap (rankBy (a .card .now) (pagesIn (a .lists .now)) (a .turn .q)) (sym (next (c .before .before) .1))
 
 ranks-at-requires : tie.Need-ranks-at-requires
 ranks-at-requires c κs =

@@ -2,7 +2,7 @@
 use Prim.Native.Nat.{_+_, _-_, _<_}
 use native.Mathlib.Omega.{arith}
 use Rattle.rules.specs.Runs.{wordsFor}
-use Rattle.walklaws.proofs.OpenLaws.{words-few, look-fits}
+use Rattle.walklaws.proofs.OpenLaws.{words-few, look-fits, open-run}
 use Rattle.upto.specs.Bounds.{OnesLeft}
 use Rattle.upto.proofs.OnesLaws.{ones-go-on, ones-next}
 use Rattle.upto.proofs.skip_empty.Statement.{statement}
@@ -29,16 +29,15 @@ goes c =
 add-k : tie.Need-add-k Inv-loop μ-loop
 add-k c =
     let b = c .before .before .before .before .before in
-    omega (
-      arith,
-      words-few (b .args .block .now) (b .args .g) (b .pre .0) (c .before .before .before .loop .at .k)
-          (c .before .before .before .loop .inv .walking .within),
-    )
+    let run = open-run (b .args .block .now) (b .args .g) (b .pre .0) in
+    let at = c .before .before .before .loop in
+    omega (arith, words-few (b .args .block .now) (b .args .g) run (at .at .k) (at .inv .walking .within))
 
 run-word-requires : tie.Need-run-word-requires Inv-loop μ-loop
 run-word-requires c κs =
     let b = c .before .before .before .before .before in
-    look-fits (b .args .block .now) (b .args .g) (b .pre .0) (c .before .before .before .loop .at .k + 1) 0
+    let run = open-run (b .args .block .now) (b .args .g) (b .pre .0) in
+    look-fits (b .args .block .now) (b .args .g) run (c .before .before .before .loop .at .k + 1) 0
     (goes (c .before)) (omega arith) .0
 
 loop-less : tie.Need-loop-less Inv-loop μ-loop

@@ -5,12 +5,13 @@ use Prim.Native.Nat.{ℕ, _+_, _-_, _≤_}
 use native.Mathlib.Omega.{arith}
 use borrow.Author.Needs.{needs}
 use lib.ListN.{length}
-use Rattle.rules.specs.declared.Refusal.the-variants.{Accepted}
 use Rattle.rules.specs.Parts.{part}
-use Rattle.rules.specs.ReadTerm.{listsOf, termRefusal}
+use Rattle.rules.specs.ReadTerm.{listsOf}
+use Rattle.rules.specs.Index.{indexV}
 use Rattle.cardlaws.proofs.Theorems.{accepted-term}
 use Rattle.parts.specs.Places.{Walkable}
 use Rattle.parts.proofs.PlaceLaws.{after-held, part-front}
+use Rattle.findlaws.specs.Starts.{Accepts}
 use Rattle.findlaws.proofs.FindLaws.{term-walks, start-held, start-part}
 use Rattle.wordlists.specs.Lying.{listOf, Lying}
 use Rattle.wordlists.proofs.LyingLaws.{rest-within, list-lies}
@@ -18,12 +19,15 @@ use Rattle.wordlists.proofs.list_in.Statement.{statement}
 use Rattle.wordlists.proofs.list_in.Tie as tie
 
 -- the term is an accepted one, whose lists can be walked
-accepted : (c : tie.After-term-at) → termRefusal (c .term-at .result .now) ≡ Accepted
+accepted : (c : tie.After-term-at) → Accepts (c .term-at .result .now)
 accepted c =
     let b = c .before .before in
     let t = b .pre .1 .number in
     let o = b .pre .1 .starts in
-    rw (c .term-at .ensures t o) (accepted-term (b .args .card .now) (b .pre .0) t (o .below) .accepts)
+    rw (c .term-at .ensures t o) (record {
+      version = indexV (b .args .card .now);
+      accepted = accepted-term (b .args .card .now) (b .pre .0) t (o .below) .accepts;
+    })
 
 walks : (c : tie.After-term-at) → Walkable 5 (c .before .before .args .k) (c .term-at .result .now)
 walks c =

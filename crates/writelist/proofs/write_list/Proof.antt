@@ -4,6 +4,7 @@ use borrow.Author.Needs.{needs}
 use borrow.Author.Tests.{not-true, not-false}
 use lib.ListN.{length}
 use Rattle.rules.specs.declared.Refusal.the-variants.{Accepted}
+use Rattle.rules.specs.List.{twoRuns}
 use Rattle.rules.specs.Write.{Made}
 use Rattle.listlaws.proofs.RisingLaws.{rising-length}
 use Rattle.filllaws.proofs.WriteLaws.{write-limit, write-lists, write-room}
@@ -37,7 +38,7 @@ returns-3 c =
     let a = k .before .before .before .before .args in
     let xs = a .list .now in
     let r = sym (k .rises .ensures) ∙ not-false (k .rises .result) (g .before .if2 .left) in
-    let e = end-of (a .u) (length xs) (g .shape-of .result) (g .shape-of .ensures) in
+    let e = end-of twoRuns (a .u) (length xs) (g .shape-of .result) (g .shape-of .ensures) in
     sym (write-room (a .u) xs (a .room .now) (omega arith) r (omega arith))
 
 fill-requires : tie.Need-fill-requires
@@ -48,10 +49,10 @@ fill-requires c κs =
     let xs = a .list .now in
     let r = sym (k .rises .ensures) ∙ not-false (k .rises .result) (g .before .if2 .left) in
     let e = g .shape-of .ensures in (
-      fitting-of (a .u) (length xs) (g .shape-of .result) e (a .room .now)
+      fitting-of twoRuns (a .u) (length xs) (g .shape-of .result) e (a .room .now)
           (omega (arith, rising-length 0 (a .u) xs r (omega arith))) (omega arith) (omega arith),
-      sym (n-of (a .u) (length xs) (g .shape-of .result) e),
-      rw (u-of (a .u) (length xs) (g .shape-of .result) e) r,
+      sym (n-of twoRuns (a .u) (length xs) (g .shape-of .result) e),
+      rw (u-of twoRuns (a .u) (length xs) (g .shape-of .result) e) r,
     )
 
 returns-4 : tie.Need-returns-4
@@ -62,8 +63,9 @@ returns-4 c =
     let a = k .before .before .before .before .args in
     let xs = a .list .now in
     let r = sym (k .rises .ensures) ∙ not-false (k .rises .result) (g .before .if2 .left) in
-    let e = end-of (a .u) (length xs) (g .shape-of .result) (g .shape-of .ensures) in
-    let room = rw (u-of (a .u) (length xs) (g .shape-of .result) (g .shape-of .ensures)) at (f .fill .ensures) in
+    let e = end-of twoRuns (a .u) (length xs) (g .shape-of .result) (g .shape-of .ensures) in
+    let u = u-of twoRuns (a .u) (length xs) (g .shape-of .result) (g .shape-of .ensures) in
+    let room = rw u at (f .fill .ensures) in
     ap₂ {C = Made} (λ n l. record {
       refusal = Accepted;
       size = n;

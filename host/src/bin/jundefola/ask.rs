@@ -5,7 +5,7 @@ use std::ffi::OsString;
 use std::io::{self, Write};
 use std::path::Path;
 
-use jundefola::{ask_all, question_numbers, CardWriter, Question, Refusal};
+use jundefola::{ask_all, question_numbers, CardWriter, Edition, Question, Refusal};
 
 use crate::answers::write_answer;
 use crate::card;
@@ -132,7 +132,7 @@ fn begins_question(argument: &[&str], place: usize, names: Option<&Names>) -> bo
 
 /// A small card with as many terms: it refuses the same questions, and each call checks it soon.
 fn blank_card(terms: u16) -> Vec<u8> {
-    let mut writer = CardWriter::new(0);
+    let mut writer = CardWriter::new(Edition::LATEST, 0);
     for _ in 0..terms {
         writer
             .add(&[], &[], &[])

@@ -1,9 +1,11 @@
 //! Where the parts of a card lie, by the lengths that they state.
 
+use jundefola::Edition;
+
 use crate::list;
 
-/// The version of every block.
-pub const VERSION: u8 = 1;
+/// The version of a term block in every edition.
+pub const TERM_VERSION: u8 = 1;
 
 /// The bytes of a term block before its first list, and the fewest that a whole one has.
 pub const TERM_HEADER: usize = 5;
@@ -13,6 +15,16 @@ pub const SHORTEST_TERM: usize = TERM_HEADER + 3 * list::HEADER;
 pub fn four_bytes(bytes: &[u8], place: usize) -> u32 {
     let number = bytes[place..].first_chunk().expect("four bytes are there");
     u32::from_be_bytes(*number)
+}
+
+/// The version of a card that has its header.
+pub fn version(card: &[u8]) -> u32 {
+    card[4].into()
+}
+
+/// The edition of an accepted card.
+pub fn edition(card: &[u8]) -> Edition {
+    Edition::from_version(version(card)).expect("the card was accepted")
 }
 
 /// N of a card that has its header: the number of its pages.

@@ -1,17 +1,46 @@
 //! A plain reader of list blocks that the library accepted.
 
+use std::fmt;
+
 use crate::card::four_bytes;
 
-/// The bytes of a list block before its pointers.
+/// The bytes of a list block before its pointers or numbers.
 pub const HEADER: usize = 13;
 
-/// Zeros of the upper run for each pointer, and the bytes of one.
-const ZEROS_A_POINTER: u32 = 256;
-const POINTER: usize = 4;
+/// Zeros of the upper run for each pointer, or bits of the bitmap for each of its numbers, and the bytes of one.
+const BITS_A_NUMBER: u32 = 256;
+const NUMBER: usize = 4;
 
 /// Bits and bytes in a word of bits.
 const WORD_BITS: usize = 64;
 const WORD: usize = 8;
+
+/// How a list block holds its elements.
+#[derive(Clone, Copy, Debug, PartialEq, Eq)]
+pub enum Form {
+    /// A lower and an upper run.
+    Runs,
+    /// A bit for each number below U.
+    Bitmap,
+}
+
+impl fmt::Display for Form {
+    fn fmt(&self, f: &mut fmt::Formatter<'_>) -> fmt::Result {
+        f.write_str(match self {
+            Form::Runs => "runs",
+            Form::Bitmap => "bitmap",
+        })
+    }
+}
+
+/// The form of an accepted list block, told by its version.
+pub fn form(block: &[u8]) -> Form {
+    match block[4] {
+        1 => Form::Runs,
+        2 => Form::Bitmap,
+        version => unreachable!("a list of version {version} was accepted"),
+    }
+}
 
 /// The range U of a list block: its elements are below it.
 pub fn range(block: &[u8]) -> u32 {
@@ -19,57 +48,38 @@ pub fn range(block: &[u8]) -> u32 {
 }
 
 /// The elements of an accepted list block, rising.
-pub fn elements(block: &[u8]) -> Elements<'_> {
+pub fn elements(block: &[u8]) -> Box<dyn Iterator<Item = u32> + '_> {
+    match form(block) {
+        Form::Runs => Box::new(elements_of_runs(block)),
+        Form::Bitmap => Box::new(ones(behind_numbers(block, range(block)))),
+    }
+}
+
+/// What lies behind a block's pointers or numbers, one for every 256 of so many bits.
+fn behind_numbers(block: &[u8], bits: u32) -> &[u8] {
+    &block[HEADER + NUMBER * (bits / BITS_A_NUMBER) as usize..]
+}
+
+fn elements_of_runs(block: &[u8]) -> impl Iterator<Item = u32> + '_ {
     let (u, n) = (range(block), four_bytes(block, 9));
     let width = u.checked_div(n).map_or(0, u32::ilog2);
-    let pointers = if n == 0 {
-        0
-    } else {
-        (u >> width) / ZEROS_A_POINTER
-    };
-    let lower_at = HEADER + POINTER * pointers as usize;
+    let zeros = if n == 0 { 0 } else { u >> width };
     let lower_bits = n as usize * width as usize;
-    let (lower, upper) = block[lower_at..].split_at(WORD * lower_bits.div_ceil(WORD_BITS));
-    Elements {
-        lower,
-        upper,
-        width,
-        ones_left: word_of_run(upper, 0),
-        word: 0,
-        rank: 0,
-    }
+    let (lower, upper) =
+        behind_numbers(block, zeros).split_at(WORD * lower_bits.div_ceil(WORD_BITS));
+    ones(upper).zip(0..).map(move |(bit, rank)| {
+        let low = field(lower, rank as usize * width as usize, width);
+        (bit - rank) << width | low
+    })
 }
 
-/// An iterator over the elements of a list block.
-pub struct Elements<'a> {
-    lower: &'a [u8],
-    upper: &'a [u8],
-    width: u32,
-    /// The ones of the upper run's current word that are not read yet, and that word's number.
-    ones_left: u64,
-    word: usize,
-    /// The number of the next element.
-    rank: usize,
-}
-
-impl Iterator for Elements<'_> {
-    type Item = u32;
-
-    fn next(&mut self) -> Option<u32> {
-        while self.ones_left == 0 {
-            self.word += 1;
-            if self.word * WORD >= self.upper.len() {
-                return None;
-            }
-            self.ones_left = word_of_run(self.upper, self.word);
-        }
-        let bit = self.word * WORD_BITS + self.ones_left.trailing_zeros() as usize;
-        self.ones_left &= self.ones_left - 1;
-        let high = (bit - self.rank) as u32;
-        let low = field(self.lower, self.rank * self.width as usize, self.width);
-        self.rank += 1;
-        Some(high << self.width | low)
-    }
+/// The places of the ones of a run, rising.
+fn ones(run: &[u8]) -> impl Iterator<Item = u32> + '_ {
+    (0..run.len() / WORD).flat_map(move |word| {
+        let bits = word_of_run(run, word);
+        let set = (0..WORD_BITS).filter(move |bit| bits >> bit & 1 == 1);
+        set.map(move |bit| (word * WORD_BITS + bit) as u32)
+    })
 }
 
 /// The `width` bits of a run from a place on; they may cross two words.
@@ -94,6 +104,7 @@ mod tests {
     fn assert_read_back(u: u32, list: &[u32]) {
         let block = jundefola::list_block(u, list).unwrap();
         assert_eq!(range(&block), u);
+        assert_eq!(form(&block), Form::Runs);
         assert_eq!(elements(&block).collect::<Vec<u32>>(), list);
     }
 
@@ -113,6 +124,23 @@ mod tests {
             let list: Vec<u32> = rising.take_while(|element| element >> 24 == 0).collect();
             assert_read_back((list.len() as u32) << width, &list);
         }
+    }
+
+    /// The worked bitmaps of docs/FORMAT.md.
+    #[test]
+    fn bitmaps_are_read() {
+        let pump = [0, 1, 2, 5, 8, 9, 12, 16, 18, 23, 28, 35, 39];
+        let word = 0x8810851327_u64.to_be_bytes();
+        let header = [0, 0, 0, 0x15, 2, 0, 0, 0, 40, 0, 0, 0, 13];
+        let block = [&header[..], &word].concat();
+        assert_eq!(form(&block), Form::Bitmap);
+        assert_eq!(range(&block), 40);
+        assert_eq!(elements(&block).collect::<Vec<u32>>(), pump);
+
+        let header = [0, 0, 0, 0x39, 2, 0, 0, 1, 44, 0, 0, 1, 44];
+        let last = 0xFFF_FFFF_FFFF_u64.to_be_bytes();
+        let block = [&header[..], &[0, 0, 1, 0], &[0xFF; 32], &last].concat();
+        assert!(elements(&block).eq(0..300));
     }
 
     #[test]

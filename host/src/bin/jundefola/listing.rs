@@ -4,6 +4,9 @@ use std::collections::HashMap;
 use std::io::{self, Write};
 use std::path::Path;
 
+use jundefola::Edition;
+
+use crate::list::Form;
 use crate::numbers::number;
 use crate::problem::Problem;
 use crate::word::Word;
@@ -159,13 +162,14 @@ fn parse_positions(text: &str, positions: &mut Vec<u32>) -> Result<u32, String> 
     Ok(count)
 }
 
-/// Writes the first line of a listing.
-pub fn write_pages(n: u32, out: &mut dyn Write) -> io::Result<()> {
-    writeln!(out, "pages {n}")
+/// Writes the first line of a listing, with the edition of its card as a comment.
+pub fn write_pages(n: u32, edition: Edition, out: &mut dyn Write) -> io::Result<()> {
+    writeln!(out, "pages {n} # edition {}", edition.version())
 }
 
-/// Writes the line of a word.
-pub fn write_word(word: &Word, out: &mut dyn Write) -> io::Result<()> {
+/// Writes the line of a word, with the form of its pages as a comment; a word on no page has none, since a line with a
+/// comment alone is no word.
+pub fn write_word(word: &Word, form: Option<Form>, out: &mut dyn Write) -> io::Result<()> {
     let mut gap = "";
     for (page, positions) in word.postings() {
         write!(out, "{gap}{page}")?;
@@ -175,6 +179,9 @@ pub fn write_word(word: &Word, out: &mut dyn Write) -> io::Result<()> {
             write!(out, "{mark}{position}")?;
             mark = ',';
         }
+    }
+    if let Some(form) = form {
+        write!(out, " # {form}")?;
     }
     writeln!(out)
 }
@@ -210,9 +217,15 @@ mod tests {
         assert_eq!(word.pages, [0, 3, 39]);
         assert_eq!(word.counts, [2, 1, 3]);
         assert_eq!(word.positions, [5, 9, 0, 0, 1, 700]);
+        for (form, comment) in [(Form::Runs, "runs"), (Form::Bitmap, "bitmap")] {
+            let mut line = Vec::new();
+            write_word(&word, Some(form), &mut line).unwrap();
+            let expected = format!("0:5,9 3:0 39:0,1,700 # {comment}\n");
+            assert_eq!(line, expected.into_bytes());
+        }
         let mut line = Vec::new();
-        write_word(&word, &mut line).unwrap();
-        assert_eq!(line, b"0:5,9 3:0 39:0,1,700\n");
+        write_word(&Word::default(), None, &mut line).unwrap();
+        assert_eq!(line, b"\n");
     }
 
     #[test]

@@ -32,9 +32,10 @@ usage: jundefola make LISTING CARD      make a card from a listing
        jundefola ask CARD [QUESTION..]  answer questions, or those on standard input, one a line
        jundefola screens CARD TERM..    show the pages that have all the terms, one screen at a time
 
-Options: --names LISTING  with ask and screens: the words' names are those in that listing
-         --rows ROWS      with screens: so many pages on a screen, 1 to 64; without it 10
-         --from PAGE      with screens: only pages at or above that page
+Options: --edition EDITION  with make: the edition of the card, 1 or 2; without it 2
+         --names LISTING    with ask and screens: the words' names are those in that listing
+         --rows ROWS        with screens: so many pages on a screen, 1 to 64; without it 10
+         --from PAGE        with screens: only pages at or above that page
 
 A listing is a line `pages N`, then a line for each word: NAME page:position,position page:position ..
 The name may be left out; it has a letter and no colon, and no two are the same. A line without postings is a word on no
@@ -65,7 +66,7 @@ fn main() -> ExitCode {
 fn run(arguments: &[OsString], out: &mut dyn Write) -> Result<(), Problem> {
     let (name, rest) = arguments.split_first().ok_or(Problem::Usage)?;
     match (name.to_str(), rest) {
-        (Some("make"), [listing, card]) => make::make(Path::new(listing), Path::new(card), out),
+        (Some("make"), rest) => make::make(rest, out),
         (Some("check"), [card]) => check::check(Path::new(card), out),
         (Some("show"), [card]) => show::show(Path::new(card), out),
         (Some("ask"), rest) => ask::ask(rest, out),

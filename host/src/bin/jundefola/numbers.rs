@@ -13,6 +13,18 @@ pub fn counted(count: usize, one: &str) -> String {
     format!("{count} {one}{plural}")
 }
 
+/// Rising numbers, with neighbours joined, as `0-2 5 7-8`.
+pub fn ranges(numbers: &[usize]) -> String {
+    let joined = numbers.chunk_by(|number, next| number + 1 == *next);
+    let texts: Vec<String> = joined
+        .map(|range| match range {
+            [first, .., last] => format!("{first}-{last}"),
+            alone => alone.iter().map(usize::to_string).collect(),
+        })
+        .collect();
+    texts.join(" ")
+}
+
 #[cfg(test)]
 mod tests {
     use super::*;
@@ -24,5 +36,13 @@ mod tests {
         for text in ["", "+1", "-1", "4294967296", "1x", "x"] {
             assert!(number(text).is_err(), "{text}");
         }
+    }
+
+    #[test]
+    fn neighbours_are_joined() {
+        assert_eq!(ranges(&[]), "");
+        assert_eq!(ranges(&[4]), "4");
+        assert_eq!(ranges(&[0, 1, 2, 5, 7, 8]), "0-2 5 7-8");
+        assert_eq!(ranges(&[3, 5, 7]), "3 5 7");
     }
 }

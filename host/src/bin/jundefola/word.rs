@@ -1,7 +1,7 @@
 //! One word of the manual: what the writer of a term takes, and what an accepted term holds.
 
 use crate::card;
-use crate::list::elements;
+use crate::list::{elements, form, Form};
 
 /// A word's pages, the count of positions on each, and the positions page after page.
 #[derive(Debug, Default, PartialEq, Eq)]
@@ -9,6 +9,12 @@ pub struct Word {
     pub pages: Vec<u32>,
     pub counts: Vec<u32>,
     pub positions: Vec<u32>,
+}
+
+/// The form of the pages of a term block that the library accepted; none for a word on no page.
+pub fn form_of_pages(term: &[u8]) -> Option<Form> {
+    let [pages, ..] = card::lists(term);
+    elements(pages).next().map(|_| form(pages))
 }
 
 impl Word {
@@ -65,6 +71,12 @@ fn positions_of(counts: &[u32], mut laid: impl Iterator<Item = u32>) -> Vec<u32>
 #[cfg(test)]
 mod tests {
     use super::*;
+    use jundefola::{term_block, Edition};
+
+    /// The word's term block in this edition, for a card with `n` pages.
+    fn block(edition: Edition, n: u32, word: &Word) -> Vec<u8> {
+        term_block(edition, n, &word.pages, &word.counts, &word.positions).unwrap()
+    }
 
     #[test]
     fn a_term_is_read_back() {
@@ -73,15 +85,40 @@ mod tests {
             counts: vec![2, 1, 3],
             positions: vec![5, 9, 0, 0, 1, 700],
         };
-        let term = jundefola::term_block(40, &word.pages, &word.counts, &word.positions).unwrap();
-        assert_eq!(Word::of_term(&term), word);
+        for edition in Edition::ALL {
+            let term = block(edition, 40, &word);
+            assert_eq!(Word::of_term(&term), word);
+            assert_eq!(form_of_pages(&term), Some(Form::Runs));
+        }
         let postings: Vec<(u32, &[u32])> = word.postings().collect();
         assert_eq!(postings, [(0, &[5, 9][..]), (3, &[0]), (39, &[0, 1, 700])]);
     }
 
     #[test]
+    fn a_dense_term_is_read_back() {
+        for n in [4, 64, 65, 255, 256, 257, 512, 700] {
+            let word = Word {
+                pages: (0..n).filter(|page| page % 3 != 1).collect(),
+                counts: (0..n).filter(|i| i % 3 != 1).map(|i| i % 2 + 1).collect(),
+                positions: (0..n)
+                    .filter(|i| i % 3 != 1)
+                    .flat_map(|i| 0..i % 2 + 1)
+                    .collect(),
+            };
+            for (edition, form) in [(Edition::One, Form::Runs), (Edition::Two, Form::Bitmap)] {
+                let term = block(edition, n, &word);
+                assert_eq!(Word::of_term(&term), word);
+                assert_eq!(form_of_pages(&term), Some(form));
+            }
+        }
+    }
+
+    #[test]
     fn a_word_on_no_page_is_read_back() {
-        let term = jundefola::term_block(40, &[], &[], &[]).unwrap();
-        assert_eq!(Word::of_term(&term), Word::default());
+        for edition in Edition::ALL {
+            let term = block(edition, 40, &Word::default());
+            assert_eq!(Word::of_term(&term), Word::default());
+            assert_eq!(form_of_pages(&term), None);
+        }
     }
 }

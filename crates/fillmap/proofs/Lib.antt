@@ -1,0 +1,2 @@
+pub mod PartedLaws
+pub mod MappedLaws
