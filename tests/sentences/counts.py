@@ -43,6 +43,7 @@ CALLS = {
     SHOWING: ["jundefola::jf_screen"],
     # a rank is worked out behind the seeks, where kind 2 tells it or a phrase needs it
     RANK: [RANK_IN],
+    "maprank::ones_between": [RANK, RANK],
     RANK_IN: ["kinds::by_bound", "starts::page_starts", "trying::turn_next"],
 }
 # what `seek_in` is given and gives back: the query, and the cursor in hand

@@ -27,7 +27,7 @@ pub fn totals(q: Query, found: usize) -> Listed {
 PAGES = """
 pub fn list_common(table: &Table, card: &[u8], shapes: &[u32], k: usize, room: &mut [u32]) -> Listed {
     let q = Query::new();
-    let mut s = Turn { q, mark: 0, found: 0 };
+    let mut s = Turn { q, mark: 0, bit: 0, found: 0 };
     if 0 < room.len() {
         s = batch(table, card, shapes, q, k, 0, room);
     }
@@ -104,16 +104,22 @@ pub fn blocks_from(s: &[u8], from: usize, k: usize) -> &[u8] {
 """
 # the words that are read for a rank and not counted: from the number stored before a page up to the page's own word
 RANKED = """
-pub fn rank_at(s: &[u8], g: Shape, page: usize) -> usize {
-    let i = page / 256;
-    let last = page / 64;
-    let mut rank = reading::number_in(s, i);
-    let mut k = 4 * i;
+fn ones_between(s: &[u8], at: usize, from: usize, to: usize) -> usize {
+    let last = to / 64;
+    let mut i = 0;
+    let mut k = from;
     while k < last {
-        rank += u64::count_ones(runs::run_word(s, g.upper, k)) as usize;
+        i += u64::count_ones(runs::run_word(s, at, k)) as usize;
         k += 1;
     }
-    rank + fields::ones_below(runs::run_word(s, g.upper, last), page % 64) as usize
+    i + fields::ones_below(runs::run_word(s, at, last), to % 64) as usize
+}
+pub fn rank_at(s: &[u8], g: Shape, page: usize) -> usize {
+    let i = page / 256;
+    if i == 0 {
+        return ones_between(s, g.upper, 0, page);
+    }
+    reading::number_in(s, i) + ones_between(s, g.upper, 4 * i, page)
 }
 """
 TEXTS = {"looks": LOOK, "rows": SUMS, "query": PAGES, "bycommon": TOLD, "panel": SHOWN, "parts": WALK,

@@ -4,6 +4,7 @@ use mathlib.Core.Path.{_≡_, sym, ap, _∙_}
 use mathlib.Core.List.{List, [], _∷_}
 use Prim.Native.Nat.{ℕ, _-_, _^_, _<_}
 use native.Mathlib.Omega.{arith}
+use borrow.Author.Tests.{ne-eqb}
 use lib.ListN.{length, getD}
 use Rattle.rules.specs.List.{rising}
 use Rattle.rules.specs.Seek.{none, page}
@@ -19,8 +20,9 @@ use Rattle.readlaws.proofs.FormLaws.{form-length}
 use Rattle.walklaws.specs.Cursors.{spentMark}
 use Rattle.querylaws.specs.declared.Turn.{Turn}
 use Rattle.querylaws.specs.Lists.{span, numberOf, partAt, formIn, shapeIn, pagesAt, boundIn, ListAt}
-use Rattle.querylaws.specs.Queries.{newQuery, readerAt, leadIn, othersIn, nextFor, Apt, Turned}
-use Rattle.querylaws.specs.Ranks.{rankBy, OnElement}
+use Rattle.querylaws.specs.Queries.{cursorIn, newQuery, readerAt, leadIn, othersIn, nextFor, Apt, Turned}
+use Rattle.querylaws.specs.Batches.{bitBehind}
+use Rattle.querylaws.specs.Ranks.{rankOf, OnElement}
 use Rattle.querylaws.proofs.ListLaws.{list-rises, list-length}
 use Rattle.querylaws.proofs.RunLaws.{lead-ready, others-ready}
 use Rattle.querylaws.proofs.NewLaws.{new-running}
@@ -45,10 +47,10 @@ module _ (xs : List ℕ) (b : ℕ) where
 
 -- what is known where the turn found a page
 pub record Paged (s r : List ℕ) (b : ℕ) (u : Turn) : Type 0 where
-  pub on-element : OnElement s r (u .q) 0
+  pub on-element : OnElement s r 0 (u .mark) (u .bit)
   pub marked : 0 < u .mark
-  pub narrow : rankBy s r (u .q) 0 < 2 ^ 32
-  pub answer : byBound (decode s) b ≡ 2 ∷ ((u .mark - 1) ∷ (rankBy s r (u .q) 0 ∷ []))
+  pub narrow : rankOf s r 0 (u .mark) < 2 ^ 32
+  pub answer : byBound (decode s) b ≡ 2 ∷ ((u .mark - 1) ∷ (rankOf s r 0 (u .mark) ∷ []))
 
 module _ (s r : List ℕ) (o : OpenedAlone s r) (b : ℕ) (u : Turn) (n : Turned s r 1 newQuery b u) where
   apt : Apt s r 1 newQuery b
@@ -79,15 +81,18 @@ module _ (s r : List ℕ) (o : OpenedAlone s r) (b : ℕ) (u : Turn) (n : Turned
       let z = turned-none s r 1 newQuery b apt u n m in
       rw (← all-pages) (by-none (decode s) b (z .0) (sym found-first ∙ z .1))
 
-  pub bound-paged : (u .mark ≡ spentMark → ⊥) → Paged s r b u
-  bound-paged m =
+  pub bound-paged : (u .mark ≡ spentMark → ⊥) → u .bit ≡ bitBehind 1 (u .q) (u .mark) → Paged s r b u
+  unfolding bitBehind
+  bound-paged m t =
       let p = turned-page s r 1 newQuery b apt u n m in
       let d : p .0 ≡ u .mark - 1 = omega (arith, p .2) in
-      let on = turned-ranked s r 1 newQuery b apt u n m 0 (o .lists .some) in record {
-        on-element = on .on-element;
+      let on = turned-ranked s r 1 newQuery b apt u n m 0 (o .lists .some) in
+      let e : cursorIn (u .q) 0 .mark ≡ u .mark = omega (arith, on .marked, p .2) in
+      let within = rw e at (on .within) in record {
+        on-element = rw (t, ne-eqb (u .mark) spentMark m) (rw e at (on .on-element));
         marked = omega (arith, p .2);
-        narrow = omega (arith, on .within, list-length s r 0 list);
+        narrow = omega (arith, within, list-length s r 0 list);
         answer =
-            by-page (decode s) b (boundIn r) rises (u .mark - 1) (p .1) (rankBy s r (u .q) 0)
-            (rw (← d) (sym found-first ∙ p .3)) (rw (o .pages) at (on .within)) (rw (o .pages) at (on .there));
+            by-page (decode s) b (boundIn r) rises (u .mark - 1) (p .1) (rankOf s r 0 (u .mark))
+            (rw (← d) (sym found-first ∙ p .3)) (rw (o .pages) at within) (rw (o .pages) at (rw e at (on .there)));
       }

@@ -65,6 +65,6 @@ pub fn by_bound(table: &Table, card: &[u8], t: u32, bound: usize, room: &mut [u3
     if turn.mark == SPENT {
         return replies::put(&[1, shapes[LENGTH]], room);
     }
-    let rank = rows::rank_in(pages, &shapes, turn.q, 0);
+    let rank = rows::rank_in(pages, &shapes, 0, turn.mark, turn.bit);
     replies::put(&[2, turn.mark - 1, rank as u32], room)
 }

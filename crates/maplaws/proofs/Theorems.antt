@@ -1,14 +1,18 @@
 -- The theorems of one list in either form, each in a sentence; a list alone has its own in listlaws.
-use mathlib.Core.Bool.{true}
+use mathlib.Core.Bool.{Bool, true, false, cond, _&&_}
 use mathlib.Core.Logic.{_↔_}
 use mathlib.Core.Path.{_≡_, refl, sym, ap, ap₂, _∙_}
 use mathlib.Core.List.{List}
-use Prim.Native.Nat.{ℕ, _≤_}
+use Prim.Native.Nat.{ℕ, _≤_, _<_}
+use native.Mathlib.Decide.{decLt}
+use native.Mathlib.Omega.{arith}
+use borrow.Author.Tests.{le-ltb}
+use lib.Dec.{leb}
 use lib.ListN.{length}
 use Rattle.rules.specs.declared.Refusal.the-variants.{Accepted}
-use Rattle.rules.specs.Limits.{limit}
+use Rattle.rules.specs.Limits.{limit, mapEdition}
 use Rattle.rules.specs.Bytes.{Bytes, same}
-use Rattle.rules.specs.List.{rising, validList, Form, twoRuns, formOf, formBlock}
+use Rattle.rules.specs.List.{rising, validList, Form, twoRuns, bitmap, dense, formOf, formBlock}
 use Rattle.rules.specs.ReadList.{listU, listN, formAt, decode, isBlock, listRefusal, partRefusal}
 use Rattle.listlaws.proofs.RisingLaws.{and-parts}
 use Rattle.listlaws.proofs.BlockLaws.{same-eq, same-refl}
@@ -16,6 +20,23 @@ use Rattle.listlaws.proofs.RefusalLaws.{framed-form, alone-accepted, alone-fram
 use Rattle.listlaws.proofs.ValidLaws.{valid-parts, valid-from}
 use Rattle.maplaws.specs.Maps.{FormValid}
 use Rattle.maplaws.proofs.FormLaws.{form-bytes, form-at, form-U, form-n, form-decode, form-framed}
+
+-- ---- forms
+
+runs-no-map : twoRuns ≡ bitmap → ⊥
+runs-no-map e = let x : _≡_ {A = ℕ} 0 1 = cc in absurd (omega arith)
+
+-- An index stores no list without an element as a bitmap.
+dense-some : (v U n : ℕ) → formOf v U n ≡ bitmap → 0 < n
+unfolding formOf dense
+dense-some v U n e = elim (decLt 0 n) [
+  | yes h ↦ h
+  | no h ↦ absurd (runs-no-map (sym (rw (le-ltb 0 n (omega arith)) (go (leb mapEdition v))) ∙ e))
+]
+  where
+    go : (b : Bool) → cond (b && false) bitmap twoRuns ≡ twoRuns
+    go true = refl
+    go false = refl
 
 -- ---- a block in its form
 
@@ -37,11 +58,13 @@ form-unique f g U Y xs ys v y e =
     (a .0 ∙ sym (b .0), a .1 ∙ sym (b .1), a .2 ∙ sym (b .2))
 
 -- The block of a valid list is a valid block.
-pub block-valid : (f : Form) (U : ℕ) (xs : List ℕ) → validList U xs ≡ true → FormValid f (formBlock f U xs)
+pub block-valid : (f : Form) (U : ℕ) (xs : List ℕ) → validList U xs ≡ true → (f ≡ bitmap → 0 < length xs)
+    → FormValid f (formBlock f U xs)
 unfolding isBlock
-block-valid f U xs v = record {
+block-valid f U xs v some = record {
   framed = form-framed f U xs v;
   whole = rw (form-decode f U xs v, form-U f U xs v, valid-parts U xs v .1) (same-refl (formBlock f U xs));
+  some = λ e. rw (form-n f U xs v) (some e);
 }
 
 module _ (f : Form) (s : List ℕ) (a : FormValid f s) where
@@ -74,7 +97,7 @@ module _ (f : Form) (s : List ℕ) (a : FormValid f s) where
 pub valid-alone : (s : List ℕ) → (FormValid twoRuns s) ↔ (listRefusal s ≡ Accepted)
 valid-alone s = (
   λ a. alone-accepted s (a .framed) (a .whole),
-  λ e. let p = alone-framed s e in record { framed = p .0; whole = p .1 },
+  λ e. let p = alone-framed s e in record { framed = p .0; whole = p .1; some = λ z. absurd (runs-no-map z) },
 )
 
 -- ---- a list in a term
@@ -84,7 +107,9 @@ module _ (v : ℕ) (s : List ℕ) where
   form = formOf v (listU s) (listN s)
 
   pub part-valid : partRefusal v s ≡ Accepted → FormValid (formOf v (listU s) (listN s)) s
-  part-valid e = let p = part-framed v s e in record { framed = p .0; whole = p .1 }
+  part-valid e =
+      let p = part-framed v s e in
+      record { framed = p .0; whole = p .1; some = dense-some v (listU s) (listN s) }
 
   pub valid-part : (f : Form) → formOf v (listU s) (listN s) ≡ f → FormValid f s → partRefusal v s ≡ Accepted
   valid-part f g a = part-accepted v s f g (a .framed) (a .whole)
@@ -108,7 +133,8 @@ pub block-part : (v U : ℕ) (xs : List ℕ) → validList U xs ≡ true
     → partRefusal v (formBlock (formOf v U (length xs)) U xs) ≡ Accepted
 block-part v U xs a =
     let f : Form = formOf v U (length xs) in
-    valid-part v (formBlock f U xs) f (ap₂ (formOf v) (form-U f U xs a) (form-n f U xs a)) (block-valid f U xs a)
+    valid-part v (formBlock f U xs) f (ap₂ (formOf v) (form-U f U xs a) (form-n f U xs a))
+    (block-valid f U xs a (dense-some v U (length xs)))
 
 -- Accepted are the blocks of valid lists in the form that their place asks for, and nothing else.
 pub part-iff : (v : ℕ) (s : List ℕ) → (partRefusal v s ≡ Accepted)

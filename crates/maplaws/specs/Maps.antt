@@ -2,7 +2,7 @@
 --
 --   MapSound s U n   what refusal 6 leaves of a bitmap of n elements below U
 --   MapValid s       s is the block of a valid list that is a bitmap
---   FormValid f s    s is the block of a valid list in the form f
+--   FormValid f s    s is the block of a valid list in the form f, which as a bitmap has an element
 use mathlib.Core.Bool.{true}
 use mathlib.Core.Path.{_≡_}
 use mathlib.Core.List.{List}
@@ -11,7 +11,7 @@ use Rattle.rules.specs.Bytes.{beAt}
 use Rattle.rules.specs.Runs.{runBit, wordsFor}
 use Rattle.rules.specs.Counts.{onesBelow}
 use Rattle.rules.specs.List.{mapAt, Form, bitmap}
-use Rattle.rules.specs.ReadList.{listU, decode, isBlock}
+use Rattle.rules.specs.ReadList.{listU, listN, decode, isBlock}
 use Rattle.listlaws.specs.Sound.{FramedAs}
 
 pub record MapSound (s : List ℕ) (U n : ℕ) : Type 0 where
@@ -22,6 +22,7 @@ pub record MapSound (s : List ℕ) (U n : ℕ) : Type 0 where
 pub record FormValid (f : Form) (s : List ℕ) : Type 0 where
   pub framed : FramedAs f s
   pub whole : isBlock f s (listU s) (decode s) ≡ true
+  pub some : f ≡ bitmap → 0 < listN s
 
 abbrev pub MapValid : List ℕ → Type 0
 MapValid s = FormValid bitmap s

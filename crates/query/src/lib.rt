@@ -24,23 +24,36 @@ struct InHand {
     hand: Cursor,
 }
 
-// A seek for b on list i, by the cursor in hand: the query comes back as it was, and the hand moved.
+// A seek for b on list i, by the cursor in hand: the query comes back as it was, and the hand moved. Behind the lead b is
+// a page of it, and so one that the others may well have.
 fn seek_in(table: &Table, card: &[u8], shapes: &[u32], mut s: InHand, i: usize, b: usize) -> InHand
     requires { ⌜ Seekable (now card) (now shapes) i (s .hand) × PlacesOfOnes (now table) ⌝ }
     ensures { λ r. ⌜ (r .q ≡ s .q) × (r .hand ≡ movedIn (now (card .entry)) (now (shapes .entry)) i (s .hand) b) ⌝ }
 {
     let from = rows::number(shapes, i, FROM);
     let to = rows::number(shapes, i, TO);
-    let hand = seek::seek(table, &card[from..to], rows::shape_in(shapes, i), s.hand, b);
+    let hand = seek::seek(
+        table,
+        &card[from..to],
+        rows::shape_in(shapes, i),
+        s.hand,
+        b,
+        0 < i,
+    );
     s.hand = hand;
     s
 }
 
 // What the loop gives back.
-fn turn_of(q: Query, mark: u32, found: usize) -> Turn
-    ensures { λ r. ⌜ r ≡ record { q = q; mark = mark; found = found } ⌝ }
+fn turn_of(q: Query, mark: u32, bit: u32, found: usize) -> Turn
+    ensures { λ r. ⌜ r ≡ record { q = q; mark = mark; bit = bit; found = found } ⌝ }
 {
-    Turn { q, mark, found }
+    Turn {
+        q,
+        mark,
+        bit,
+        found,
+    }
 }
 
 // Lists the pages from b0 on that the first k lists share, until the room is full or none is left. It is the one loop
@@ -71,7 +84,7 @@ pub fn batch(
         q.cursors[i] = c;
         let mark = c.mark;
         if mark == SPENT {
-            return turn_of(q, mark, found);
+            return turn_of(q, mark, c.bit, found);
         }
         let page = mark as usize - 1;
         if 0 < i && b < page {
@@ -85,7 +98,7 @@ pub fn batch(
             room[found] = mark - 1;
             found += 1;
             if room.len() <= found {
-                return turn_of(q, mark, found);
+                return turn_of(q, mark, c.bit, found);
             }
             i = 0;
             b = mark as usize;
@@ -105,6 +118,7 @@ pub fn list_common(table: &Table, card: &[u8], shapes: &[u32], k: usize, room: &
     let mut s = Turn {
         q,
         mark: 0,
+        bit: 0,
         found: 0,
     };
     if 0 < room.len() {

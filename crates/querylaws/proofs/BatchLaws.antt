@@ -12,9 +12,9 @@ use Rattle.walklaws.specs.Cursors.{spentMark}
 use Rattle.querylaws.specs.declared.Query.{Query}
 use Rattle.querylaws.specs.declared.Turn.{Turn}
 use Rattle.querylaws.specs.Queries.{cursorIn, withCursor, movedIn, Running, Turned}
-use Rattle.querylaws.specs.Batches.{Turns, Batched}
+use Rattle.querylaws.specs.Batches.{Turns, bitBehind, Batched}
 use Rattle.querylaws.proofs.RunLaws.{Midst, midst-start, midst-none, midst-some, midst-larger, midst-same}
-use Rattle.querylaws.proofs.RunLaws.{midst-page}
+use Rattle.querylaws.proofs.RunLaws.{midst-page, midst-spent, midst-last}
 use Rattle.querylaws.proofs.TurnLaws.{turned-unique, turned-like}
 
 -- ---- one batch and one room
@@ -41,9 +41,10 @@ module _ (s sh : List ℕ) (k : ℕ) where
       → Batched s sh k q b room r room₁ → Batched s sh k q b room r′ room₂ → (r ≡ r′) × (room₁ ≡ room₂)
   batched-unique q b room r r′ room₁ room₂ h h′ =
       let e = turns-unique (length room) q b (h .pages) (h′ .pages) r r′ (h .turns) (h′ .turns) in
-      let found : r .found ≡ r′ .found = h .found ∙ ap length (e .0) ∙ sym (h′ .found) in (
-        ap₂ (λ (x : Query) (m : ℕ). record { q = x; mark = m; found = r .found }) (e .1) (e .2)
-            ∙ ap (λ (n : ℕ). record { q = r′ .q; mark = r′ .mark; found = n }) found,
+      let found : r .found ≡ r′ .found = h .found ∙ ap length (e .0) ∙ sym (h′ .found) in
+      let bit : r .bit ≡ r′ .bit = h .bit ∙ ap₂ (bitBehind k) (e .1) (e .2) ∙ sym (h′ .bit) in (
+        ap₂ (λ (x : Query) (m : ℕ). record { q = x; mark = m; bit = r .bit; found = r .found }) (e .1) (e .2)
+            ∙ ap₂ (λ (p n : ℕ). record { q = r′ .q; mark = r′ .mark; bit = p; found = n }) bit found,
         h .laid-out ∙ ap (λ (xs : List ℕ). laid xs room) (e .0) ∙ sym (h′ .laid-out),
       )
 
@@ -140,13 +141,14 @@ module _ (s sh : List ℕ) (k : ℕ) (q₀ : Query) (b₀ : ℕ) (room₀ : List
 
     -- no page is left
     pub amid-none : c .mark ≡ spentMark
-        → Batched s sh k q₀ b₀ room₀ (record { q = withCursor q i c; mark = c .mark; found = found }) room
+        → Batched s sh k q₀ b₀ room₀ (record { q = withCursor q i c; mark = c .mark; bit = c .bit; found = found }) room
     unfolding Turns
     amid-none e =
-        let t : Turn = record { q = withCursor q i c; mark = c .mark; found = found } in
-        let u = midst-none s sh k (a .from) (a .bound) q b i (a .midst) (a .within) c w found e in record {
+        let t : Turn = record { q = withCursor q i c; mark = c .mark; bit = c .bit; found = found } in
+        let u = midst-none s sh k (a .from) (a .bound) q b i (a .midst) (a .within) c w (c .bit) found e in record {
           pages = a .pages;
           turns = rw append-nil at (a .behind .goes-on [] t (rw more-left (u, e)));
+          bit = midst-spent s sh k (a .from) (a .bound) q b i (a .midst) (a .within) c w e;
           found = sym (a .behind .sized);
           laid-out = a .behind .laid-out;
         }
@@ -178,13 +180,13 @@ module _ (s sh : List ℕ) (k : ℕ) (q₀ : Query) (b₀ : ℕ) (room₀ : List
         -- where there is none, all share the page
         module _ (l : k ≤ i + 1) where
           abbrev turn : Turn
-          turn = record { q = withCursor q i c; mark = c .mark; found = found + 1 }
+          turn = record { q = withCursor q i c; mark = c .mark; bit = c .bit; found = found + 1 }
 
           abbrev more : List ℕ
           more = a .pages ++ (c .mark - 1) ∷ []
 
           turned : Turned s sh k (a .from) (a .bound) turn
-          turned = midst-page s sh k (a .from) (a .bound) q b i (a .midst) (a .within) c w e (found + 1) g l
+          turned = midst-page s sh k (a .from) (a .bound) q b i (a .midst) (a .within) c w e (c .bit) (found + 1) g l
 
           room-more : set room found (c .mark - 1) ≡ laid more room₀
           room-more =
@@ -232,6 +234,7 @@ module _ (s sh : List ℕ) (k : ℕ) (q₀ : Query) (b₀ : ℕ) (room₀ : List
               let whole = turns-more [] turn (rw none-left (refl, refl, refl)) in record {
                 pages = more;
                 turns = rw append-nil at whole;
+                bit = midst-last s sh k (a .from) (a .bound) q b i (a .midst) (a .within) c w e l;
                 found = sym sized-more;
                 laid-out = room-more;
               }

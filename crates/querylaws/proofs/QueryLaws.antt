@@ -8,9 +8,10 @@ use native.Mathlib.Omega.{arith}
 use borrow.Author.Tests.{eq-eqb, ne-eqb}
 use lib.ListN.{length, getD, set, drop, length-set, length-drop}
 use lib.Seq.{drop-cons, getD-set-same, getD-set-other}
-use Rattle.rules.specs.Seek.{none, page, Sought}
+use Rattle.rules.specs.Seek.{Cursor as Placing, fresh, on, spent, none, page, Sought, cursorBit}
 use Rattle.rules.specs.Common.{seekBy, movedBy}
-use Rattle.seeklaws.specs.Cursors.{firstAt, cursorAt, floor}
+use Rattle.seeklaws.specs.Cursors.{Placed, firstAt, cursorAt, floor}
+use Rattle.seeklaws.proofs.FirstLaws.{rising-below}
 use Rattle.seeklaws.proofs.SeekLaws.{seek-answered}
 use Rattle.commonlaws.specs.Readers.{moved}
 use Rattle.commonlaws.specs.Next.{Next, stop, plus}
@@ -173,6 +174,23 @@ module _ (s sh : List ℕ) (k : ℕ) (q : Query) (b : ℕ) (a : Apt s sh k q b) 
       (at-some (pagesAt s sh i)
       (firstAt (max (floor (boundIn sh) (pagesAt s sh i) (ruleCursor (formIn s sh i) (boundIn sh) (pagesAt s sh i) (cursorIn q i))) b)
       (pagesAt s sh i)))
+
+  -- and where it is spent it has no place
+  pub spent-bit : next .mark ≡ spentMark → next .bit ≡ 0
+  unfolding markOf cursorBit
+  spent-bit e = go (next-held .place) (next-held .placed) (next-held .mark-is) (next-held .bit-is)
+    where
+      go : (p : Placing) → Placed (pagesAt s sh i) p → next .mark ≡ markOf (pagesAt s sh i) p
+          → next .bit ≡ cursorBit (formIn s sh i) (boundIn sh) (pagesAt s sh i) p → next .bit ≡ 0
+      go fresh l m t = t
+      go spent l m t = t
+      go (on j) l m t = absurd (omega (
+        arith,
+        e,
+        m,
+        rising-below 0 (boundIn sh) (pagesAt s sh i) (list-rises s sh i list) j l,
+        list-within s sh i list,
+      ))
 
   -- what is left after it
   counted : (n : Next) → plus (seeksOf q) (looksOf q) (plus 1 (this .looks) n) ≡ plus (seeksOf after) (looksOf after) n

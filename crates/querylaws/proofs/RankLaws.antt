@@ -6,16 +6,17 @@ use native.Mathlib.Decide.{ℕ-discrete}
 use native.Mathlib.Omega.{arith}
 use lib.ListN.{length, getD}
 use Rattle.rules.specs.Seek.{on, cursorBit}
+use Rattle.rules.specs.Plain.{below}
 use Rattle.rules.specs.Common.{Reader}
-use Rattle.seeklaws.proofs.FirstLaws.{rising-below}
+use Rattle.seeklaws.proofs.FirstLaws.{firstAt-self, below-first}
 use Rattle.commonlaws.specs.Readers.{OnPage, AllOnPage}
-use Rattle.walklaws.specs.Cursors.{spentMark, markOf, rankIn, Held}
-use Rattle.walklaws.proofs.CursorLaws.{rank-at, held-rule}
+use Rattle.walklaws.specs.Cursors.{spentMark, markOf, Held}
+use Rattle.walklaws.proofs.CursorLaws.{held-rule}
 use Rattle.querylaws.specs.declared.Query.{Query}
 use Rattle.querylaws.specs.declared.Turn.{Turn}
 use Rattle.querylaws.specs.Lists.{span, formIn, pagesAt, boundIn, ListAt}
 use Rattle.querylaws.specs.Queries.{cursorIn, readerAt, Apt, Turned}
-use Rattle.querylaws.specs.Ranks.{rankBy, OnElement}
+use Rattle.querylaws.specs.Ranks.{rankOf, rankBy, OnElement}
 use Rattle.querylaws.proofs.ListLaws.{list-rises, list-within}
 use Rattle.querylaws.proofs.RunLaws.{came}
 use Rattle.querylaws.proofs.SpanLaws.{span-cons}
@@ -25,14 +26,15 @@ use Rattle.querylaws.proofs.TurnLaws.{turned-page}
 
 -- cursor i is on page c, of that rank in its list
 pub record Ranked (s sh : List ℕ) (q : Query) (i c : ℕ) : Type 0 where
-  pub on-element : OnElement s sh q i
+  pub on-element : OnElement s sh i (cursorIn q i .mark) (cursorIn q i .bit)
+  pub marked : cursorIn q i .mark ≡ c + 1
   pub within : rankBy s sh q i < length (pagesAt s sh i)
   pub there : getD (pagesAt s sh i) (rankBy s sh q i) 0 ≡ c
 
 pub ranked : (s sh : List ℕ) (q : Query) (i c : ℕ) → ListAt s sh i
     → Held (formIn s sh i) (boundIn sh) (pagesAt s sh i) (cursorIn q i)
     → OnPage c (readerAt s sh q i) → Ranked s sh q i c
-unfolding readerAt rankBy markOf cursorBit
+unfolding readerAt rankOf markOf cursorBit
 ranked s sh q i c l h p =
     let f = formIn s sh i in
     let U = boundIn sh in
@@ -41,16 +43,18 @@ ranked s sh q i c l h p =
     let rises = list-rises s sh i l in
     let e : h .place ≡ on (p .rank) = sym (held-rule f U xs rises (list-within s sh i l) cu h) ∙ p .stands in
     let m : cu .mark ≡ getD xs (p .rank) 0 + 1 = h .mark-is ∙ ap (markOf xs) e in
-    let b : cu .bit ≡ cursorBit f U xs (on (p .rank)) = h .bit-is ∙ ap (cursorBit f U xs) e in
-    let r : rankIn f U xs cu ≡ p .rank = rank-at f U xs rises cu (p .rank) (p .within) m b in
-    let below = rising-below 0 U xs rises (p .rank) (p .within) in
+    let page : cu .mark - 1 ≡ getD xs (p .rank) 0 = omega (arith, m) in
+    let r : below (cu .mark - 1) xs ≡ p .rank =
+    rw page (below-first (getD xs (p .rank) 0) 0 U xs rises ∙ firstAt-self 0 U xs rises (p .rank) (p .within)) in
     record {
       on-element = record {
         list = l;
-        held = h;
-        marked = omega (arith, m);
-        unspent = λ x. absurd (omega (arith, m, below, list-within s sh i l));
+        number = p .rank;
+        inside = p .within;
+        marked = m;
+        placed = h .bit-is ∙ ap (cursorBit f U xs) e;
       };
+      marked = omega (arith, m, p .there);
       within = rw r (p .within);
       there = rw r (p .there);
     }

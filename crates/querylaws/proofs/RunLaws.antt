@@ -4,7 +4,9 @@ use mathlib.Core.List.{List, _∷_}
 use Prim.Native.Nat.{ℕ, _+_, _-_, _*_, _^_, _≤_, _<_}
 use native.Mathlib.Nat.{mul-le-mul-left}
 use native.Mathlib.Omega.{arith}
+use borrow.Author.Tests.{eq-eqb, ne-eqb}
 use lib.ListN.{length}
+use lib.Seq.{getD-set-same}
 use Rattle.rules.specs.Seek.{Found, none, page}
 use Rattle.commonlaws.specs.Readers.{Ready, AllReady, wordsOf, leftIn}
 use Rattle.commonlaws.specs.Next.{Next, stop, plus}
@@ -13,18 +15,19 @@ use Rattle.commonlaws.proofs.SharedLaws.{from-mono}
 use Rattle.commonlaws.proofs.AgreeLaws.{ready-more}
 use Rattle.commonlaws.proofs.NextLaws.{next-came}
 use Rattle.walklaws.specs.declared.Cursor.{Cursor}
-use Rattle.walklaws.specs.Cursors.{spentMark}
+use Rattle.walklaws.specs.Cursors.{spentMark, unused}
 use Rattle.querylaws.specs.declared.Query.{Query}
 use Rattle.querylaws.specs.declared.Turn.{Turn}
 use Rattle.querylaws.specs.Lists.{pagesAt, boundIn}
 use Rattle.querylaws.specs.Queries.{cursorIn, withCursor, readerAt, leadIn, othersIn, movedIn, seeksOf}
 use Rattle.querylaws.specs.Queries.{looksOf, markFound, nextFor, listAfter, Seekable, Apt, Running, Turned}
+use Rattle.querylaws.specs.Batches.{bitBehind}
 use Rattle.querylaws.proofs.SpanLaws.{length-span, span-cons, span-ready}
 use Rattle.querylaws.proofs.PendingLaws.{cursorRank, listAfter-larger, listAfter-same, listAfter-le, pending}
 use Rattle.querylaws.proofs.PendingLaws.{pending-end}
 use Rattle.querylaws.proofs.ListLaws.{list-within, list-length, span-words}
 use Rattle.querylaws.proofs.QueryLaws.{total-at, left, seek-apt, seek-seeks, mark-some, left-none, left-page}
-use Rattle.querylaws.proofs.QueryLaws.{endOf, end-all, end-none, end-page, page-least}
+use Rattle.querylaws.proofs.QueryLaws.{spent-bit, endOf, end-all, end-none, end-page, page-least}
 
 apt-more : (s sh : List ℕ) (k : ℕ) (q : Query) (b d : ℕ) → Apt s sh k q b → b ≤ d → Apt s sh k q d
 apt-more s sh k q b d a l = record {
@@ -170,13 +173,13 @@ module _ (s sh : List ℕ) (k : ℕ) (q₀ : Query) (b₀ : ℕ) where
     omega (arith, ap (λ (n : Next). n .looks) (m .same)),
   )
 
-  midst-end : (n : ℕ) (q : Query) (b i : ℕ) → Midst q b i → k ≤ i
-      → Turned s sh k q₀ b₀ (record { q = q; mark = b + 1; found = n })
-  midst-end n q b i m h =
+  midst-end : (p n : ℕ) (q : Query) (b i : ℕ) → Midst q b i → k ≤ i
+      → Turned s sh k q₀ b₀ (record { q = q; mark = b + 1; bit = p; found = n })
+  midst-end p n q b i m h =
       let e : i ≡ k = omega (arith, m .within) in
-      let p = pending-end (boundIn sh) k b (readerAt s sh q) (m .apt .lists .some) in
-      let end = ap (plus (seeksOf q) (looksOf q)) p in
-      turned-from (page b (cursorRank (leadIn s sh q .cursor))) (record { q = q; mark = b + 1; found = n }) b
+      let end =
+      ap (plus (seeksOf q) (looksOf q)) (pending-end (boundIn sh) k b (readerAt s sh q) (m .apt .lists .some)) in
+      turned-from (page b (cursorRank (leadIn s sh q .cursor))) (record { q = q; mark = b + 1; bit = p; found = n }) b
       (m .running) (m .apt) (sym end ∙ rw e at (m .same))
       (sym (end-all s sh k q b (m .apt .lists .some)) ∙ rw e at (m .ends)) (unfold markFound in refl)
       (λ c j z. let x : b ≡ c = cc in omega arith)
@@ -196,20 +199,35 @@ module _ (s sh : List ℕ) (k : ℕ) (q₀ : Query) (b₀ : ℕ) where
         }
 
     module _ (h : i < k) (c : Cursor) (w : c ≡ movedIn s sh i (cursorIn q i) b) where
-      pub midst-none : (n : ℕ) → c .mark ≡ spentMark
-          → Turned s sh k q₀ b₀ (record { q = withCursor q i c; mark = c .mark; found = n })
-      midst-none n =
+      pub midst-none : (p n : ℕ) → c .mark ≡ spentMark
+          → Turned s sh k q₀ b₀ (record { q = withCursor q i c; mark = c .mark; bit = p; found = n })
+      midst-none p n =
           rw w
           (λ e.
           turned-from (none (length (pagesAt s sh 0))) (record {
             q = withCursor q i (movedIn s sh i (cursorIn q i) b);
             mark = movedIn s sh i (cursorIn q i) b .mark;
+            bit = p;
             found = n;
           }) b (m .running)
           (seek-apt s sh k q b (m .apt) i h b (omega arith)) (sym (left-none s sh k q b (m .apt) i h e) ∙ m .same)
           (sym (end-none s sh k q b (m .apt) i h e) ∙ m .ends)
           (e ∙ (unfold markFound in refl))
           (λ c j z. let x : _≡_ {A = ℕ} 0 1 = cc in absurd (omega arith)))
+
+      -- its bit is then none
+      pub midst-spent : c .mark ≡ spentMark → c .bit ≡ bitBehind k (withCursor q i c) (c .mark)
+      unfolding bitBehind
+      midst-spent e =
+          rw (eq-eqb (c .mark) spentMark e) (rw (← w) at (spent-bit s sh k q b (m .apt) i h) e)
+
+      -- and that of the last list where all share a page
+      pub midst-last : (c .mark ≡ spentMark → ⊥) → k ≤ i + 1 → c .bit ≡ bitBehind k (withCursor q i c) (c .mark)
+      unfolding bitBehind
+      midst-last e l =
+          let last : k - 1 ≡ i = omega arith in
+          let inside : i < length (q .cursors) = omega (arith, m .apt .eight, m .apt .lists .each i h .few) in
+          rw (ne-eqb (c .mark) spentMark e, last, getD-set-same (q .cursors) i c unused inside)
 
       pub midst-some : 0 < c .mark
       midst-some = rw w (mark-some s sh k q b (m .apt) i h)
@@ -253,8 +271,8 @@ module _ (s sh : List ℕ) (k : ℕ) (q₀ : Query) (b₀ : ℕ) where
         midst-same g = step-to e (i + 1) (listAfter-same i b (c .mark - 1) g) (omega arith)
 
         -- of which there is none where all share the page
-        pub midst-page : (n : ℕ) → (0 < i → b < c .mark - 1 → ⊥) → k ≤ i + 1
-            → Turned s sh k q₀ b₀ (record { q = withCursor q i c; mark = c .mark; found = n })
-        midst-page n g l =
+        pub midst-page : (p n : ℕ) → (0 < i → b < c .mark - 1 → ⊥) → k ≤ i + 1
+            → Turned s sh k q₀ b₀ (record { q = withCursor q i c; mark = c .mark; bit = p; found = n })
+        midst-page p n g l =
             let some : c .mark - 1 + 1 ≡ c .mark = omega (arith, midst-some) in
-            rw some at (midst-end n (withCursor q i c) (c .mark - 1) (i + 1) (midst-same g) l)
+            rw some at (midst-end p n (withCursor q i c) (c .mark - 1) (i + 1) (midst-same g) l)

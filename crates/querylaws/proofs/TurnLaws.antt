@@ -75,8 +75,8 @@ module _ (s sh : List ℕ) (k : ℕ) (q : Query) (b : ℕ) where
   -- query and mark are all that it speaks of
   pub turned-like : (t t′ : Turn) → t .q ≡ t′ .q → t .mark ≡ t′ .mark → Turned s sh k q b t → Turned s sh k q b t′
   turned-like t t′ e m u =
-      subst (λ (r : Query). Turned s sh k q b (record { q = r; mark = t′ .mark; found = t′ .found })) e
-      (subst (λ (n : ℕ). Turned s sh k q b (record { q = t .q; mark = n; found = t′ .found })) m
+      subst (λ (r : Query). Turned s sh k q b (record { q = r; mark = t′ .mark; bit = t′ .bit; found = t′ .found })) e
+      (subst (λ (n : ℕ). Turned s sh k q b (record { q = t .q; mark = n; bit = t′ .bit; found = t′ .found })) m
       (record {
         query = u .query;
         eight = u .eight;

@@ -38,11 +38,12 @@ impl Query {
     }
 }
 
-// A query behind pages that were found, the mark of the last, page + 1, or SPENT where none is left, and how many pages
-// they are.
+// A query behind pages that were found, the mark of the last, page + 1, or SPENT where none is left, the bit at which the
+// last list has that page, or 0, and how many pages they are.
 pub struct Turn {
     pub q: Query,
     pub mark: u32,
+    pub bit: u32,
     pub found: usize,
 }
 

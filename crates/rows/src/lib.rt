@@ -5,7 +5,7 @@ ghost use Prim.Native.Nat.{_+_, _*_, _^_, _≤_, _<_};
 ghost use lib.ListN.{length};
 ghost use Rattle.querylaws.specs.Lists.{numberOf, shapeIn};
 ghost use Rattle.querylaws.specs.Queries.{seeksOf, looksOf};
-ghost use Rattle.querylaws.specs.Ranks.{rankBy, OnElement};
+ghost use Rattle.querylaws.specs.Ranks.{rankOf, OnElement};
 use querylaws::BITS;
 use querylaws::BOUND;
 use querylaws::FROM;
@@ -43,21 +43,20 @@ pub fn shape_in(shapes: &[u32], i: usize) -> Shape
     }
 }
 
-// The rank of the page that cursor i of a query is on, in its list: a bitmap tells it by its numbers, two runs by the
-// zeros before the page's bit.
-pub fn rank_in(card: &[u8], shapes: &[u32], q: Query, i: usize) -> usize
-    requires { ⌜ (length (q .cursors) ≡ 8) × OnElement (now card) (now shapes) q i ⌝ }
-    ensures { λ r. ⌜ r ≡ rankBy (now (card .entry)) (now (shapes .entry)) q i ⌝ }
+// The rank in list i of the page of a cursor's mark and bit: a bitmap tells it by its numbers, two runs by the zeros
+// before that bit.
+pub fn rank_in(card: &[u8], shapes: &[u32], i: usize, mark: u32, bit: u32) -> usize
+    requires { ⌜ OnElement (now card) (now shapes) i mark bit ⌝ }
+    ensures { λ r. ⌜ r ≡ rankOf (now (card .entry)) (now (shapes .entry)) i mark ⌝ }
 {
-    let c = q.cursors[i];
-    let page = c.mark as usize - 1;
+    let page = mark as usize - 1;
     let w = number(shapes, i, WIDTH);
     if w == BITMAP {
         let from = number(shapes, i, FROM);
         let to = number(shapes, i, TO);
         return maprank::rank_at(&card[from..to], shape_in(shapes, i), page);
     }
-    c.bit as usize - (page >> w)
+    bit as usize - (page >> w)
 }
 
 // The seeks and looks of all cursors.

@@ -13,7 +13,15 @@ use walklaws::Cursor;
 use walklaws::Landing;
 
 // Where a seek for b ends: it stays, is spent with no look, finds its page in a bitmap, or passes and lands.
-fn find(table: &Table, s: &[u8], g: Shape, c: Cursor, b: usize, looks: &mut u32) -> Landing
+fn find(
+    table: &Table,
+    s: &[u8],
+    g: Shape,
+    c: Cursor,
+    b: usize,
+    likely: bool,
+    looks: &mut u32,
+) -> Landing
     requires { ⌜ FormOpen (formAt (now s)) (now s) g × Held (formAt (now s)) (listU (now s)) (decode (now s)) c
         × (now looks < 2 ^ 31) × PlacesOfOnes (now table) ⌝ }
     ensures { λ r. ⌜ (r ≡ landing (formAt (now (s .entry))) (listU (now (s .entry))) (decode (now (s .entry))) c b)
@@ -26,11 +34,14 @@ fn find(table: &Table, s: &[u8], g: Shape, c: Cursor, b: usize, looks: &mut u32)
             bit: c.bit,
         };
     }
+    if g.w == BITMAP {
+        if g.u <= b {
+            return landing::none();
+        }
+        return mapseek::find_in_map(s, g, b, likely, looks);
+    }
     if g.n == 0 || g.u <= b {
         return landing::none();
-    }
-    if g.w == BITMAP {
-        return mapseek::find_in_map(s, g, b, looks);
     }
     let from = starting::start(s, g, c, b);
     if from.own == 0 && from.bit == g.bits {
@@ -42,8 +53,8 @@ fn find(table: &Table, s: &[u8], g: Shape, c: Cursor, b: usize, looks: &mut u32)
 
 // One seek for b: the cursor moves as the step rule says, and stands for what the rule's seek finds, the page with its
 // rank or none with the list's n. This function alone adds one seek, and the count that every look of it adds to is the
-// cursor's own.
-pub fn seek(table: &Table, s: &[u8], g: Shape, c: Cursor, b: usize) -> Cursor
+// cursor's own. `likely` says that the list may well have b itself; it changes no answer.
+pub fn seek(table: &Table, s: &[u8], g: Shape, c: Cursor, b: usize, likely: bool) -> Cursor
     requires { ⌜ FormOpen (formAt (now s)) (now s) g × Held (formAt (now s)) (listU (now s)) (decode (now s)) c
         × (c .seeks < 2 ^ 31) × (c .looks < 2 ^ 31) × PlacesOfOnes (now table) ⌝ }
     ensures { λ r. ⌜ (r ≡ movedTo (formAt (now (s .entry))) (listU (now (s .entry))) (decode (now (s .entry))) c b)
@@ -51,7 +62,7 @@ pub fn seek(table: &Table, s: &[u8], g: Shape, c: Cursor, b: usize) -> Cursor
         ≡ foundFor (formAt (now (s .entry))) (listU (now (s .entry))) (decode (now (s .entry))) c b) ⌝ }
 {
     let mut looks = c.looks;
-    let to = find(table, s, g, c, b, &mut looks);
+    let to = find(table, s, g, c, b, likely, &mut looks);
     Cursor {
         mark: to.mark,
         bit: to.bit,

@@ -62,7 +62,9 @@ pub fn page_starts(
         (now (words .exit)) ⌝ }
 {
     if terms.len() == 1 {
-        let rank = rows::rank_in(card, &lists[0..COUNTS], turn.q, 0);
+        let q = turn.q;
+        let c = q.cursors[0];
+        let rank = rows::rank_in(card, &lists[0..COUNTS], 0, c.mark, c.bit);
         let x = turning::ranks_at(table, card, &lists[COUNTS..POSITIONS], 0, rank, words);
         return x.to - x.from;
     }

@@ -32,7 +32,10 @@ pub fn turn_next(
         return at;
     }
     let i = openlists::source_of(lists[LEAD] as usize, at.standing);
-    let rank = rows::rank_in(card, &lists[0..COUNTS], turn.q, at.standing);
+    let q = turn.q;
+    let slot = at.standing;
+    let c = q.cursors[slot];
+    let rank = rows::rank_in(card, &lists[0..COUNTS], slot, c.mark, c.bit);
     let x = turning::ranks_at(table, card, &lists[COUNTS..POSITIONS], i, rank, words);
     turning::turn_to(table, card, &lists[POSITIONS..LEAD], i, x, words);
     Trial {

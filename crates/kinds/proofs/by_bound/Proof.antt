@@ -69,12 +69,12 @@ paged : (c : tie.After-batch) → (c .batch .result .mark ≡ spentMark → ⊥)
 paged c m =
     let o = opened c in
     bound-paged (o .before .pages-in .result .now) (o .open-alone .result) (o .open-alone .ensures)
-    (o .before .before .before .before .args .bound) (c .batch .result) (next c) m
+    (o .before .before .before .before .args .bound) (c .batch .result) (next c) m (c .batch .ensures .bit)
 
 rank-in-requires : tie.Need-rank-in-requires
 rank-in-requires c κs =
     let n = c .before .before .before .before in
-    (next n .eight, paged n (c .before .if1 .left) .on-element)
+    paged n (c .before .if1 .left) .on-element
 
 sub-t30 : tie.Need-sub-t30
 sub-t30 c = paged (c .before .before .before .before .before .before) (c .before .before .before .if1 .left) .marked

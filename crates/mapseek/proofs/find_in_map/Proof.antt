@@ -1,135 +1,115 @@
--- `find_in_map` walks from bit b on; every word that it passes has no one left.
-use mathlib.Core.Path.{_≡_, refl}
-use Prim.Native.Nat.{_+_, _-_, _*_, _/_, _^_, _<_}
+-- `find_in_map` looks at the word of bit b: the first one from there on is the page, or the search goes on behind it.
+use mathlib.Core.Path.{_≡_, ap}
+use Prim.Native.Nat.{ℕ, _+_, _/_, _%_, _^_, _<_}
 use native.Mathlib.Omega.{arith}
+use borrow.Author.Needs.{needs}
+use borrow.Author.Tests.{eqb-true}
 use lib.Count.{trailingZeros}
-use Rattle.rules.specs.Runs.{wordsFor}
+use Rattle.rules.specs.Runs.{runWord}
 use Rattle.rules.specs.List.{bitmap}
 use Rattle.readlaws.proofs.FormLaws.{map-reads}
-use Rattle.walklaws.specs.Walks.{Paid, Walking}
 use Rattle.walklaws.proofs.OpenLaws.{Stored, look-fits, form-stored}
-use Rattle.mapseek.proofs.MapLaws.{mapWalk, word-inside, map-starts, map-next, map-lands-none}
-use Rattle.mapseek.proofs.MapLaws.{page-small, map-lands}
+use Rattle.mapseek.proofs.MapLaws.{word-inside, here-small, lands-here, lands-on-bound}
 use Rattle.mapseek.proofs.find_in_map.Statement.{statement}
 use Rattle.mapseek.proofs.find_in_map.Tie as tie
 
-abbrev Inv-loop : tie.InvT-loop
-Inv-loop s g b looks₀ last k₀ word left₀ looks k left = Walking s g (mapWalk s g b left k) × Paid k₀ looks₀ k looks
-
-abbrev μ-loop : tie.MeasureT-loop
-μ-loop s g b looks₀ last k₀ word left₀ looks k left = wordsFor (g .bits) - k
-
-stored : (c : tie.Start Inv-loop μ-loop) → Stored bitmap (c .args .s .now) (c .args .g)
+stored : (c : tie.Start) → Stored bitmap (c .args .s .now) (c .args .g)
 stored c = form-stored bitmap (c .args .s .now) (c .args .g) (c .pre .0)
 
-inside : (c : tie.Start Inv-loop μ-loop) → c .args .b < c .args .g .bits
+inside : (c : tie.Start) → c .args .b < c .args .g .bits
 inside c = omega (arith, map-reads (c .args .s .now) (c .args .g) (c .pre .0) .bits-are)
 
-sub-last : tie.Need-sub-last Inv-loop μ-loop
-sub-last c = omega (arith, inside (c .before .before))
-
-look-requires : tie.Need-look-requires Inv-loop μ-loop
+look-requires : tie.Need-look-requires
 look-requires c κs =
-    let start = c .before .before .before in
+    let start = c .before .before in
     let a = start .args in
     let t = stored start in
     look-fits (a .s .now) (a .g) (t .run) (a .b / 64) (a .looks .now)
     (word-inside (a .s .now) (a .g) t (a .b) (inside start)) (omega arith)
 
-loop-holds : tie.Need-loop-holds Inv-loop μ-loop
-loop-holds c =
-    let start = c .before .before .before .before .before in
-    let a = start .args in (
-      map-starts (a .s .now) (a .g) (stored start) (a .b) (inside start) (c .from-bit .result)
-          (rw (← c .before .look .ensures .0) (c .from-bit .ensures)),
-      refl,
-    )
+-- the function's own start, seen from behind the look
+abbrev begun : tie.After-look → tie.Start
+begun c = c .before .before .before
 
--- the function's own start, and its count of looks there, seen from the loop
-abbrev begun : tie.At-loop Inv-loop μ-loop → tie.Start Inv-loop μ-loop
-begun c = c .before .before .before .before .before .before
+-- what is left of the word from bit b on
+abbrev rest : tie.After-look → ℕ
+rest c = c .look .result / 2 ^ (begun c .args .b % 64)
 
-paid : (c : tie.At-loop Inv-loop μ-loop)
-    → Paid (begun c .args .b / 64) (begun c .args .looks .now + 1) (c .loop .k) (c .loop .looks)
-paid c = omega (arith, c .loop .inv .1, c .before .before .look .ensures .1)
+rest-is : (c : tie.After-look) →
+    let a = begun c .args in
+    rest c ≡ runWord (a .s .now) (a .g .upper) (a .b / 64) / 2 ^ (a .b % 64)
+rest-is c = ap (λ (x : ℕ). x / 2 ^ (begun c .args .b % 64)) (c .look .ensures .0)
 
-returns : tie.Need-returns Inv-loop μ-loop
+-- ---- b itself
+
+abbrev tested : tie.Then2 → tie.After-look
+tested c = c .before .before
+
+odd : (c : tie.Then2) → rest (tested c) % 2 ≡ 1
+odd c = eqb-true _ _ (c .if2 .taken)
+
+on-page-requires : tie.Need-on-page-requires
+on-page-requires c κs =
+    let start = begun (tested c) in
+    omega (arith, inside start, stored start .run .short)
+
+returns : tie.Need-returns
 returns c =
-    let at = c .before .before .before in
+    let at = tested (c .before) in
     let start = begun at in
     let a = start .args in
-    let end : at .loop .k + 1 ≡ wordsFor (a .g .bits) = unfold wordsFor
-    in omega (arith, inside start, c .before .if1 .taken) in
-    let l = map-lands-none (a .s .now) (a .g) (stored start) (a .b) (inside start) (at .loop .left) (at .loop .k)
-    (at .loop .inv .0) (start .pre .1) (c .before .before .loop-test .taken) end _ (c .none .ensures .0)
-    (c .none .ensures .1) in
-    (l .0, omega (arith, l .1, paid at))
+    let one = odd (c .before) in
+    let bound = lands-on-bound (a .s .now) (a .g) (stored start) (a .b) (inside start) (rest at) (rest-is at)
+    (omega (arith, one)) one _ (c .on-page .ensures .0) (c .on-page .ensures .1) in
+    (bound .0, omega (arith, bound .1, at .look .ensures .1))
 
--- the next word is in the run
-more : (c : tie.Else1 Inv-loop μ-loop)
-    → c .before .before .loop .k + 1 < wordsFor (begun (c .before .before) .args .g .bits)
-unfolding wordsFor
-more c =
+-- ---- a page behind it in its word
+
+some : (c : tie.Then3) → 0 < rest (c .before .before)
+some c = omega (arith, c .if3 .taken)
+
+small : (c : tie.Then3) →
     let at = c .before .before in
-    omega (arith, inside (begun at), at .loop .inv .0 .within, c .if1 .left)
-
-next-word-requires : tie.Need-next-word-requires Inv-loop μ-loop
-next-word-requires c κs =
-    let at = c .before .before .before in
-    (stored (begun at) .run, more (c .before), omega (arith, paid at, begun at .pre .3))
-
-loop-less : tie.Need-loop-less Inv-loop μ-loop
-loop-less c = omega (arith, more (c .before .before), c .next-word .ensures .1)
-
-loop-again : tie.Need-loop-again Inv-loop μ-loop
-loop-again c =
-    let at = c .before .before .before .before in
-    let start = begun at in
-    let a = start .args in
-    let n = c .next-word .ensures in (
-      rw (n .1) (map-next (a .s .now) (a .g) (stored start) (a .b) (inside start) (at .loop .left) (at .loop .k)
-          (at .loop .inv .0) (c .next-word .result .left) (c .before .before .before .loop-test .taken)
-          (more (c .before .before)) (n .0)),
-      omega (arith, at .loop .inv .1, n .1, n .3),
-    )
-
-small : (c : tie.After-loop Inv-loop μ-loop)
-    → 64 * c .before .loop .k + trailingZeros 64 (c .before .loop .left) < 2 ^ 27
+    begun at .args .b + trailingZeros 64 (rest at) < 2 ^ 27
 small c =
-    let at = c .before in
+    let at = c .before .before in
     let start = begun at in
     let a = start .args in
-    page-small (a .s .now) (a .g) (stored start) (a .b) (inside start) (at .loop .left) (at .loop .k) (at .loop .inv .0)
-    (omega (arith, c .loop-test .left))
+    here-small (a .s .now) (a .g) (stored start) (a .b) (inside start) (rest at) (rest-is at) (some c)
 
-returns-2 : tie.Need-returns-2 Inv-loop μ-loop
+returns-2 : tie.Need-returns-2
 returns-2 c =
-    let at = c .before in
+    let at = c .before .before .before in
     let start = begun at in
     let a = start .args in
-    let l = map-lands (a .s .now) (a .g) (stored start) (a .b) (inside start) (at .loop .left) (at .loop .k)
-    (at .loop .inv .0) (omega (arith, c .loop-test .left)) _ refl refl in
-    (l .0, omega (arith, l .1, paid at))
+    let here = lands-here (a .s .now) (a .g) (stored start) (a .b) (inside start) (rest at) (rest-is at)
+    (some (c .before)) _ (c .on-page2 .ensures .0) (c .on-page2 .ensures .1) in
+    (here .0, omega (arith, here .1, at .look .ensures .1))
+
+-- ---- none in its word
+
+find-behind-requires : tie.Need-find-behind-requires
+find-behind-requires c κs =
+    let at = c .before .before .before in
+    let start = begun at in (
+      start .pre .0,
+      start .pre .1,
+      start .pre .2,
+      omega (arith, at .look .ensures .1, start .pre .3),
+      omega (arith, rest-is at, c .before .if3 .left),
+    )
 
 pub find-in-map-spec : {M : Type 1} → statement M
 find-in-map-spec =
     tie.close
     (tie.spec
-    Inv-loop
-    μ-loop
-    sub-last
     look-requires
-    (λ c κs. omega arith)
-    loop-holds
-    (λ c κs. tt)
+    (λ c. search needs)
+    on-page-requires
     returns
-    next-word-requires
-    loop-less
-    loop-again
     (λ c. omega (arith, small c))
     (λ c. omega (arith, small c))
-    (λ c. omega (arith, small c))
-    (λ c. omega (arith, small c))
-    (λ c. omega (arith, small c))
-    (λ c. omega (arith, small c))
-    returns-2)
+    (λ c κs. small c)
+    returns-2
+    find-behind-requires
+    (λ c. search needs))

@@ -26,43 +26,57 @@ returns c =
     ends-stays (formAt (b .args .s .now)) (b .args .s .now) (b .args .g) (stored b) (b .args .c) (b .pre .1)
     (b .args .b) (c .if1 .taken) _ _ refl refl
 
-returns-2 : tie.Need-returns-2
-returns-2 c =
-    let b = c .before .before .before .before .before .before in
-    ends-none (formAt (b .args .s .now)) (b .args .s .now) (b .args .g) (stored b) (b .args .c) (b .pre .1)
-    (b .args .b) _ _ (c .before .before .before .if1 .left) (elim (c .before .if2 .came) [
-      | inl w ↦ inl (omega arith)
-      | inr w ↦ inr (omega (arith, leb-true))
-    ]) (c .none .ensures)
-
 -- the function's own start, seen from behind the first tests
-abbrev begun : tie.Else3 → tie.Start
-begun c = c .before .before .before .before .before .before .before
+abbrev begun : tie.After-struct-known2 → tie.Start
+begun c = c .before .before .before .before
 
--- past these the cursor moves
-moving : (c : tie.Else3)
+-- past these, and in a list with an element and a bound below U, the cursor moves
+moving : (c : tie.After-struct-known2) → 0 < begun c .args .g .n → begun c .args .b < begun c .args .g .u
     → Moving (formAt (begun c .args .s .now)) (begun c .args .s .now) (begun c .args .c) (begun c .args .b)
-moving c =
+moving c some below =
     let b = begun c in
     record {
       cursor = b .pre .1;
       some = omega (arith, stored b .n-is);
-      ahead = c .before .before .before .before .if1 .left;
-      below = omega (arith, leb-false, stored b .u-is);
+      ahead = c .before .if1 .left;
+      below = omega (arith, stored b .u-is);
     }
 
 -- ---- a bitmap
 
-map : (c : tie.Then4) → MapOpen (begun (c .before .before) .args .s .now) (begun (c .before .before) .args .g)
+returns-2 : tie.Need-returns-2
+returns-2 c =
+    let at = c .before .before .before .before in
+    let b = begun at in
+    ends-none (formAt (b .args .s .now)) (b .args .s .now) (b .args .g) (stored b) (b .args .c) (b .pre .1)
+    (b .args .b) _ _ (at .before .if1 .left) (inr (c .before .if3 .taken)) (c .none .ensures)
+
+-- what the tests found first, seen from behind the bitmap's own
+abbrev tested : tie.Else3 → tie.After-struct-known2
+tested c = c .before .before .before
+
+map : (c : tie.Else3) → MapOpen (begun (tested c) .args .s .now) (begun (tested c) .args .g)
 map c =
-    let b = begun (c .before .before) in
-    wide-open (formAt (b .args .s .now)) (b .args .s .now) (b .args .g) (b .pre .0) (c .if4 .taken)
+    let b = begun (tested c) in
+    wide-open (formAt (b .args .s .now)) (b .args .s .now) (b .args .g) (b .pre .0)
+    (c .before .before .if2 .taken)
+
+map-form : (c : tie.Else3) → formAt (begun (tested c) .args .s .now) ≡ bitmap
+map-form c = valid-form bitmap (begun (tested c) .args .s .now) (map c .valid)
+
+map-moving : (c : tie.Else3) →
+    let a = begun (tested c) .args in
+    Moving bitmap (a .s .now) (a .c) (a .b)
+map-moving c =
+    let b = begun (tested c) in
+    rw (map-form c) at
+    (moving (tested c) (omega (arith, map c .valid .some refl, stored b .n-is)) (omega (arith, c .if3 .left)))
 
 find-in-map-requires : tie.Need-find-in-map-requires
 find-in-map-requires c κs =
     let at = c .before in
-    let b = begun (at .before .before) in
-    let m = moving (at .before .before) in (
+    let b = begun (tested at) in
+    let m = map-moving at in (
       map at,
       omega (arith, m .some, stored b .n-is),
       omega (arith, m .below, stored b .u-is),
@@ -72,55 +86,69 @@ find-in-map-requires c κs =
 returns-3 : tie.Need-returns-3
 returns-3 c =
     let at = c .before .before in
-    let b = begun (at .before .before) in
-    let a = b .args in
+    let a = begun (tested at) .args in
     let o = map at in
-    let e : formAt (a .s .now) ≡ bitmap = valid-form bitmap (a .s .now) (o .valid) in
-    let m = rw e at (moving (at .before .before)) in
+    let m = map-moving at in
     let t = form-stored bitmap (a .s .now) (a .g) o in
     let l = c .find-in-map .ensures in
     let start = start-map (a .s .now) (a .g) t (a .c) (a .b) m in
-    rw e (ends-walked bitmap (a .s .now) (a .g) t (a .c) (m .cursor) (a .b) m _ _ _
+    rw (map-form at) (ends-walked bitmap (a .s .now) (a .g) t (a .c) (m .cursor) (a .b) m _ _ _
     (omega (arith, start, map-reads (a .s .now) (a .g) o .bits-are, m .below, t .u-is)) (l .0)
     (rw start (omega (arith, l .1))))
 
 -- ---- two runs
 
-runs : (c : tie.Else4) → Open (begun (c .before .before) .args .s .now) (begun (c .before .before) .args .g)
-runs c =
-    let b = begun (c .before .before) in
-    narrow-open (formAt (b .args .s .now)) (b .args .s .now) (b .args .g) (b .pre .0) (c .if4 .left)
+returns-4 : tie.Need-returns-4
+returns-4 c =
+    let at = c .before .before .before .before in
+    let b = begun at in
+    ends-none (formAt (b .args .s .now)) (b .args .s .now) (b .args .g) (stored b) (b .args .c) (b .pre .1)
+    (b .args .b) _ _ (at .before .if1 .left) (elim (c .before .if4 .came) [
+      | inl w ↦ inl (omega arith)
+      | inr w ↦ inr (omega (arith, leb-true))
+    ]) (c .none2 .ensures)
 
-runs-moving : (c : tie.Else4) →
-    let a = begun (c .before .before) .args in
+-- the function's own start, seen from behind all tests but the last
+abbrev run-begun : tie.Else5 → tie.Start
+run-begun c = begun (c .before .before .before .before .before)
+
+runs : (c : tie.Else5) → Open (run-begun c .args .s .now) (run-begun c .args .g)
+runs c =
+    let b = run-begun c in
+    narrow-open (formAt (b .args .s .now)) (b .args .s .now) (b .args .g) (b .pre .0)
+    (c .before .before .before .before .if2 .left)
+
+runs-moving : (c : tie.Else5) →
+    let a = run-begun c .args in
     Moving twoRuns (a .s .now) (a .c) (a .b)
 runs-moving c =
-    let b = begun (c .before .before) in
-    rw (open-two (b .args .s .now) (b .args .g) (runs c)) at (moving (c .before .before))
+    let b = run-begun c in
+    rw (open-two (b .args .s .now) (b .args .g) (runs c)) at
+    (moving (c .before .before .before .before .before) (omega arith) (omega (arith, leb-false)))
 
 start-requires : tie.Need-start-requires
 start-requires c κs = (runs c, runs-moving c)
 
-returns-4 : tie.Need-returns-4
-returns-4 c =
+returns-5 : tie.Need-returns-5
+returns-5 c =
     let there = c .before .before .before .before .before .before in
-    let b = begun (there .before .before .before) in
+    let b = run-begun (there .before) in
     let a = b .args in
     let o = runs (there .before) in
     let m = runs-moving (there .before) in
-    let here : there .start .result .bit ≡ a .g .bits = eqb-true _ _ (c .before .if6 .taken) in
+    let here : there .start .result .bit ≡ a .g .bits = eqb-true _ _ (c .before .if7 .taken) in
     rw (open-two (a .s .now) (a .g) o)
     (ends-at-end twoRuns (a .s .now) (a .g) (open-stored (a .s .now) (a .g) o) (a .c) (m .cursor) (a .b) m _ _
-    (sym (there .start .ensures .1) ∙ here) (c .none2 .ensures))
+    (sym (there .start .ensures .1) ∙ here) (c .none3 .ensures))
 
 -- where the start is not the run's end
-inside : (c : tie.Joined5)
-    → c .before .before .start .result .bit < begun (c .before .before .before .before .before) .args .g .bits
+inside : (c : tie.Joined6)
+    → c .before .before .start .result .bit < run-begun (c .before .before .before) .args .g .bits
 inside c =
     let there = c .before .before in
-    let b = begun (there .before .before .before) in
+    let b = run-begun (there .before) in
     let t = there .start .ensures .0 in
-    elim (c .if5 .came) [
+    elim (c .if6 .came) [
       | inl w ↦ omega (arith, t .within, eqb-false (there .start .result .bit) (b .args .g .bits) (w .3 .left))
       | inr w ↦ own-inside (b .args .s .now) (b .args .g) (runs (there .before)) (b .args .b) (there .start .result) t
           (w .left)
@@ -129,7 +157,7 @@ inside c =
 pass-requires : tie.Need-pass-requires
 pass-requires c κs =
     let there = c .before .before .before in
-    let b = begun (there .before .before .before) in (
+    let b = run-begun (there .before) in (
       runs (there .before),
       omega (arith, runs-moving (there .before) .below, stored b .u-is),
       there .start .ensures .0,
@@ -142,12 +170,12 @@ land-requires : tie.Need-land-requires
 land-requires c κs =
     let there = c .before .before .before .before .before in
     let p = c .before .pass .ensures in
-    (runs (there .before), p .0 .at, p .0 .passed, omega (arith, p .1, begun (there .before .before .before) .pre .2))
+    (runs (there .before), p .0 .at, p .0 .passed, omega (arith, p .1, run-begun (there .before) .pre .2))
 
-returns-5 : tie.Need-returns-5
-returns-5 c =
+returns-6 : tie.Need-returns-6
+returns-6 c =
     let there = c .before .before .before .before .before .before in
-    let b = begun (there .before .before .before) in
+    let b = run-begun (there .before) in
     let a = b .args in
     let o = runs (there .before) in
     let m = runs-moving (there .before) in
@@ -168,9 +196,11 @@ find-spec =
     returns-2
     find-in-map-requires
     returns-3
-    start-requires
     (λ c κs. tt)
     returns-4
+    start-requires
+    (λ c κs. tt)
+    returns-5
     pass-requires
     land-requires
-    returns-5)
+    returns-6)

@@ -6,6 +6,7 @@ use native.Mathlib.Omega.{arith}
 use borrow.Author.Needs.{needs}
 use lib.ListN.{length, length-drop}
 use Rattle.openlists.specs.Places.{slotOf}
+use Rattle.walklaws.specs.Cursors.{unused}
 use Rattle.querylaws.specs.Ranks.{rankBy}
 use Rattle.triallaws.specs.Asked.{pagesIn, leadIn, offsetsIn, CountedOn}
 use Rattle.triallaws.proofs.RankLaws.{slot-within, asked-rank, rank-ready}
@@ -23,26 +24,29 @@ leads c =
     omega (arith, slot-within _ _ _ _ _ _ a 0 (a .pages .lists .some), c .if1 .taken)
 
 rank-in-requires : tie.Need-rank-in-requires
+unfolding unused
 rank-in-requires c κs =
-    let b = start (c .before) in
+    let t = c .before .before .before in
+    let b = start t in
     let a = b .pre .0 .0 .asked in
     let h = a .pages .lists .some in
     let r = asked-rank _ _ _ _ _ _ a 0 h _ _ (b .pre .0 .1) in
-    (b .pre .0 .1 .eight, rw (leads (c .before)) at (r .on-element))
+    rw (leads t) at (r .on-element)
 
 -- the rank that was read
 ranked : (c : tie.After-rank-in)
-    → let a = start (c .before .before) .args in
+    → let a = start (c .before .before .before .before) .args in
     c .rank-in .result
     ≡ rankBy (a .card .now) (pagesIn (a .lists .now)) (a .turn .q) (slotOf (leadIn (a .lists .now)) 0)
+unfolding unused
 ranked c =
-    let a = start (c .before .before) .args in
-    c .rank-in .ensures
-    ∙ ap (rankBy (a .card .now) (pagesIn (a .lists .now)) (a .turn .q)) (sym (leads (c .before .before)))
+    let t = c .before .before .before .before in
+    let a = start t .args in
+    c .rank-in .ensures ∙ ap (rankBy (a .card .now) (pagesIn (a .lists .now)) (a .turn .q)) (sym (leads t))
 
 ranks-at-requires : tie.Need-ranks-at-requires
 ranks-at-requires c κs =
-    let pre = start (c .before .before .before .before) .pre in
+    let pre = start (c .before .before .before .before .before .before) .pre in
     let p = pre .0 in
     let a = p .0 .asked in
     let h = a .pages .lists .some in
@@ -51,13 +55,13 @@ ranks-at-requires c κs =
 
 -- what the page's ranks count
 counted : (c : tie.After-ranks-at)
-    → let b = start (c .before .before .before .before .before) in
+    → let b = start (c .before .before .before .before .before .before .before) in
     let x = c .ranks-at .result in
     (x .from ≤ x .to)
     × CountedOn (b .args .card .now) (b .args .terms .now) (b .args .lists .now) (b .args .turn .mark - 1)
     (x .to - x .from) (c .ranks-at .last .1 .1 .1 .1 .1 .0)
 counted c =
-    let t = c .before .before .before .before .before in
+    let t = c .before .before .before .before .before .before .before in
     let b = start t in
     let p = b .pre .0 in
     let ds : List ℕ = offsetsIn (b .args .lists .now) in
@@ -72,6 +76,7 @@ pub page-starts-spec : {M : Type 1} → statement M
 page-starts-spec =
     tie.close
     (tie.spec
+    (λ c. search needs)
     (λ c. search needs)
     (λ c. search needs)
     (λ c. search needs)

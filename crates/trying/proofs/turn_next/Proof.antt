@@ -6,6 +6,7 @@ use lib.Dec.{lit≤}
 use lib.ListN.{length}
 use mir.Syntax.{w64}
 use mir.Val.{Fits}
+use Rattle.walklaws.specs.Cursors.{unused}
 use Rattle.querylaws.specs.Ranks.{rankBy}
 use Rattle.openlists.specs.Places.{slotOf}
 use Rattle.triallaws.specs.Asked.{pagesIn, leadIn}
@@ -27,7 +28,7 @@ start c = c .before .before .before .before .before .before .before .before
 
 -- where the source was found, and where the rank was read
 abbrev source : tie.After-ranks-at → tie.After-source-of
-source c = c .before .before .before .before .before
+source c = c .before .before .before .before .before .before .before
 
 abbrev rank : tie.After-ranks-at → tie.After-rank-in
 rank c = c .before .before .before
@@ -46,28 +47,37 @@ next c =
       omega (arith, y .order, c .before .before .if1 .left),
     )
 
+-- its slot is one of the query's
+few : (c : tie.After-source-of) → start c .args .at .standing < 8
+few c = omega (arith, start c .pre .2 .some, start c .pre .0 .asked .pages .lists .few)
+
 rank-in-requires : tie.Need-rank-in-requires
+unfolding unused
 rank-in-requires c κs =
-    let b = start (c .before) in
-    let n = next (c .before) in
+    let b = start (c .before .before .before) in
+    let n = next (c .before .before .before) in
     let r = asked-rank _ _ _ _ _ _ (b .pre .0 .asked) _ (n .0) _ _ (b .pre .1) in
-    (b .pre .1 .eight, rw (n .1) at (r .on-element))
+    rw (n .1) at (r .on-element)
 
 -- the rank that was read
 ranked : (c : tie.After-rank-in)
-    → let a = start (c .before .before) .args in
+    → let f = c .before .before .before .before in
+    let a = start f .args in
     c .rank-in .result
     ≡ rankBy (a .card .now) (pagesIn (a .lists .now)) (a .turn .q)
-    (slotOf (leadIn (a .lists .now)) (c .before .before .source-of .result))
+    (slotOf (leadIn (a .lists .now)) (f .source-of .result))
+unfolding unused
 ranked c =
-    let a = start (c .before .before) .args in
+    let f = c .before .before .before .before in
+    let a = start f .args in
     c .rank-in .ensures
-    ∙ ap (rankBy (a .card .now) (pagesIn (a .lists .now)) (a .turn .q)) (sym (next (c .before .before) .1))
+    ∙ ap (rankBy (a .card .now) (pagesIn (a .lists .now)) (a .turn .q)) (sym (next f .1))
 
 ranks-at-requires : tie.Need-ranks-at-requires
 ranks-at-requires c κs =
-    let b = start (c .before .before .before .before) in
-    let n = next (c .before .before .before .before) in
+    let f = c .before .before .before .before .before .before in
+    let b = start f in
+    let n = next f in
     let y = b .pre .2 in
     let r =
     rank-ready _ _ _ _ _ _ (b .pre .0 .asked) _ _ (b .pre .1) _ (n .0) _ (y .room)
@@ -112,13 +122,15 @@ turn-next-spec =
     (λ c. in-row (c .before .before .before .before .before .before .before .pre .0 .row) (lit≤ tt))
     (λ c. omega (arith, lead-few _ _ _ _ _ _ (c .before .before .before .before .before .before .before .pre .0 .asked)))
     (λ c κs. tt)
-    (λ c. lit≤ tt)
-    (λ c. lit≤ tt)
-    (λ c. in-row (start c .pre .0 .row) (lit≤ tt))
-    rank-in-requires
+    (λ c. omega (arith, few (c .before)))
+    (λ c. few (c .before))
     (λ c. lit≤ tt)
     (λ c. lit≤ tt)
     (λ c. in-row (start (c .before .before) .pre .0 .row) (lit≤ tt))
+    rank-in-requires
+    (λ c. lit≤ tt)
+    (λ c. lit≤ tt)
+    (λ c. in-row (start (c .before .before .before .before) .pre .0 .row) (lit≤ tt))
     ranks-at-requires
     (λ c. lit≤ tt)
     (λ c. lit≤ tt)
