@@ -103,16 +103,22 @@ pub fn blocks_from(s: &[u8], from: usize, k: usize) -> &[u8] {
 }
 """
 # the words that are read for a rank and not counted: from the number stored before a page up to the page's own word
+ONES = """
+pub fn ones_of(s: &[u8], at: usize, from: usize, to: usize) -> usize {
+    let mut i = 0;
+    let mut k = from;
+    while k < to {
+        i += u64::count_ones(run_word(s, at, k)) as usize;
+        k += 1;
+    }
+    i
+}
+"""
 RANKED = """
 fn ones_between(s: &[u8], at: usize, from: usize, to: usize) -> usize {
     let last = to / 64;
-    let mut i = 0;
-    let mut k = from;
-    while k < last {
-        i += u64::count_ones(runs::run_word(s, at, k)) as usize;
-        k += 1;
-    }
-    i + fields::ones_below(runs::run_word(s, at, last), to % 64) as usize
+    let before = runs::ones_of(s, at, from, last);
+    before + fields::ones_below(runs::run_word(s, at, last), to % 64) as usize
 }
 pub fn rank_at(s: &[u8], g: Shape, page: usize) -> usize {
     let i = page / 256;
@@ -123,7 +129,7 @@ pub fn rank_at(s: &[u8], g: Shape, page: usize) -> usize {
 }
 """
 TEXTS = {"looks": LOOK, "rows": SUMS, "query": PAGES, "bycommon": TOLD, "panel": SHOWN, "parts": WALK,
-         "maprank": RANKED}
+         "runs": ONES, "maprank": RANKED}
 WRITTEN = {f.path: f for crate, text in TEXTS.items() for f in read(crate, text).functions.values()}
 
 

@@ -1,30 +1,15 @@
 // The check of a bitmap, a word at a time: its numbers count its ones, they are n in all, and its spare bits are 0.
 
 ghost use mathlib.Core.Path.{_≡_};
-ghost use Prim.Native.Nat.{_+_, _*_, _^_, _≤_};
+ghost use Prim.Native.Nat.{_≤_};
 ghost use lib.ListN.{length};
 ghost use Rattle.rules.specs.Limits.{limit};
-ghost use Rattle.rules.specs.Counts.{onesBelow};
 ghost use Rattle.shape.specs.Shape.{mapShape};
 ghost use Rattle.maplaws.specs.Maps.{MapSound};
 ghost use Rattle.checklaws.specs.Check.{Tells};
 use rules::POINTER_SIZE;
 use rules::POINTER_ZERO_AT;
 use shape::Shape;
-
-// How many ones the words of a run from number `from` up to number `to` have.
-fn ones_of(s: &[u8], at: usize, from: usize, to: usize) -> usize
-    requires { ⌜ (from ≤ to) × (to ≤ 2 ^ 32) × (at + 8 * to ≤ length (now s)) ⌝ }
-    ensures { λ r. ⌜ onesBelow (now (s .entry)) at (64 * from) + r ≡ onesBelow (now (s .entry)) at (64 * to) ⌝ }
-{
-    let mut i = 0;
-    let mut k = from;
-    while k < to {
-        i += u64::count_ones(runs::run_word(s, at, k)) as usize;
-        k += 1;
-    }
-    i
-}
 
 // Whether a bitmap's numbers and bits are those of a valid list.
 pub fn map_ok(s: &[u8], g: Shape) -> bool
@@ -38,11 +23,11 @@ pub fn map_ok(s: &[u8], g: Shape) -> bool
     let mut i = 0;
     let mut q = 0;
     while q < full {
-        i += ones_of(s, g.upper, 4 * q, 4 * q + 4);
+        i += runs::ones_of(s, g.upper, 4 * q, 4 * q + 4);
         q += 1;
         if numbers::read_u32(s, POINTER_ZERO_AT + POINTER_SIZE * q) as usize != i {
             return false;
         }
     }
-    i + ones_of(s, g.upper, 4 * full, (g.bits + 63) / 64) == g.n
+    i + runs::ones_of(s, g.upper, 4 * full, (g.bits + 63) / 64) == g.n
 }

@@ -15,13 +15,8 @@ fn ones_between(s: &[u8], at: usize, from: usize, to: usize) -> usize
     ensures { λ r. ⌜ onesBelow (now (s .entry)) at (64 * from) + r ≡ onesBelow (now (s .entry)) at to ⌝ }
 {
     let last = to / 64;
-    let mut i = 0;
-    let mut k = from;
-    while k < last {
-        i += u64::count_ones(runs::run_word(s, at, k)) as usize;
-        k += 1;
-    }
-    i + fields::ones_below(runs::run_word(s, at, last), to % 64) as usize
+    let before = runs::ones_of(s, at, from, last);
+    before + fields::ones_below(runs::run_word(s, at, last), to % 64) as usize
 }
 
 // How many pages of the bitmap are below `page`: those below 256 * i are stored, and the words from there on are few.

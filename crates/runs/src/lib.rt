@@ -1,9 +1,10 @@
-// Runs of bits in bytes: their words, and fields that may lie over two.
+// Runs of bits in bytes: their words, the ones of several, and fields that may lie over two.
 
 ghost use mathlib.Core.Path.{_≡_};
-ghost use Prim.Native.Nat.{_+_, _*_, _/_, _%_, _<_, _≤_};
+ghost use Prim.Native.Nat.{_+_, _*_, _/_, _%_, _^_, _<_, _≤_};
 ghost use lib.ListN.{length};
 ghost use Rattle.rules.specs.Runs.{runWord, field, wordsFor};
+ghost use Rattle.rules.specs.Counts.{onesBelow};
 
 // Word k of the run that starts at byte `at`.
 pub fn run_word(s: &[u8], at: usize, k: usize) -> u64
@@ -11,6 +12,20 @@ pub fn run_word(s: &[u8], at: usize, k: usize) -> u64
     ensures { λ r. ⌜ r ≡ runWord (now (s .entry)) at k ⌝ }
 {
     numbers::read_u64(s, at + 8 * k)
+}
+
+// How many ones the words of a run from number `from` up to number `to` have.
+pub fn ones_of(s: &[u8], at: usize, from: usize, to: usize) -> usize
+    requires { ⌜ (from ≤ to) × (to ≤ 2 ^ 32) × (at + 8 * to ≤ length (now s)) ⌝ }
+    ensures { λ r. ⌜ onesBelow (now (s .entry)) at (64 * from) + r ≡ onesBelow (now (s .entry)) at (64 * to) ⌝ }
+{
+    let mut i = 0;
+    let mut k = from;
+    while k < to {
+        i += u64::count_ones(run_word(s, at, k)) as usize;
+        k += 1;
+    }
+    i
 }
 
 // The w bits of a run from its bit o on.

@@ -5,8 +5,8 @@ use native.Mathlib.Omega.{arith}
 use lib.Count.{ones}
 use Rattle.rules.specs.Counts.{onesBelow}
 use Rattle.laws.proofs.CountLaws.{next-word, ones-below-le}
-use Rattle.checkmap.proofs.ones_of.Statement.{statement}
-use Rattle.checkmap.proofs.ones_of.Tie as tie
+use Rattle.runs.proofs.ones_of.Statement.{statement}
+use Rattle.runs.proofs.ones_of.Tie as tie
 
 abbrev Inv-loop : tie.InvT-loop
 Inv-loop s at from to i₀ k₀ i k = (k ≤ to) × (onesBelow s at (64 * from) + i ≡ onesBelow s at (64 * k))
