@@ -68,7 +68,9 @@ pub fn begin_term(
         return sessions::ended(refusal, 0);
     }
     let first = shape::pages_shape(version, n as usize, pages as usize);
-    let g = sessions::layout(first, positions as usize, u as usize);
+    let counts = shape::shape_of(positions as usize, pages as usize);
+    let last = shape::shape_of(u as usize, positions as usize);
+    let g = sessions::layout(first, counts, last);
     if room.len() < g.size {
         return sessions::ended(Refusal::Room, 0);
     }

@@ -70,7 +70,7 @@ pub fn land(s: &[u8], g: Shape, b: usize, from: Ones, looks: &mut u32) -> Landin
         if b <= page {
             return Landing {
                 mark: (page + 1) as u32,
-                bit: bit as u32,
+                bit,
             };
         }
         let next = Ones {

@@ -1,14 +1,15 @@
 -- Laws of the width of a list's low parts:
 -- the powers of 2 about U / n, that only one width has them, and the lower run's bits.
-use mathlib.Core.Path.{_≡_}
-use Prim.Native.Nat.{ℕ, zero, suc, _*_, _/_, _^_, _≤_, _<_}
+use mathlib.Core.Path.{_≡_, sym, ap, _∙_}
+use Prim.Native.Nat.{ℕ, zero, suc, _-_, _*_, _/_, _^_, _≤_, _<_}
 use native.Mathlib.Nat.{pow-suc, le-trans, lt-of-not-le, lt-irrefl, lt-of-lt-of-le, le-of-suc-le-suc}
-use native.Mathlib.Nat.{le-antisymm, div-le-self, le-div-iff-mul-le, mul-le-mul-left, mul-div-le}
+use native.Mathlib.Nat.{le-antisymm, div-le-self, le-div-iff-mul-le, div-lt-iff-lt-mul, mul-comm, mul-le-mul-left}
+use native.Mathlib.Nat.{le-of-lt, mul-right-comm, mul-div-le}
 use native.Mathlib.Decide.{decLe}
 use native.Mathlib.Omega.{arith}
 use borrow.Author.Tests.{le-leb, lt-leb}
 use lib.Dec.{lit<}
-use lib.Pow.{pow-mono}
+use lib.Pow.{pow-mono, pow-add}
 use Rattle.rules.specs.List.{greatest, width}
 
 -- ---- the greatest power
@@ -55,3 +56,33 @@ module _ (U n : ℕ) (some : 0 < n) (below : n ≤ U) (fits : U < 2 ^ 32) where
   pub low-bits : n * width U n ≤ U
   low-bits =
       le-trans (mul-le-mul-left n (le-trans (omega (arith, under-pow (width U n))) (width-is .0))) (mul-div-le U n)
+
+  -- by the binary digits of U and of n it is their difference, or one less
+  module _ (a b : ℕ) (top : 2 ^ a ≤ 2 * U) (short : U < 2 ^ a) (own : 2 ^ b ≤ 2 * n) (few : n < 2 ^ b) where
+    pub digits-le : b ≤ a
+    digits-le = power-le (2 * U) b a (omega arith) (rw pow-suc (omega arith))
+
+    both : 2 ^ (a - b) * 2 ^ b ≡ 2 ^ a
+    both = sym (pow-add 2 (a - b) b) ∙ ap (λ (k : ℕ). 2 ^ k) (omega (arith, digits-le))
+
+    -- n with so many zeros behind it is not much above U
+    pub digits-near : n * 2 ^ (a - b) ≤ 2 * U
+    digits-near = omega (arith, mul-le-mul-left (2 ^ (a - b)) (le-of-lt few), both, mul-comm n (2 ^ (a - b)))
+
+    pub digits-more : n * 2 ^ (a - b) ≤ U → a - b ≡ width U n
+    digits-more h =
+        let t : 2 ^ a ≤ 2 ^ (a - b) * (2 * n) = rw (← both) (mul-le-mul-left (2 ^ (a - b)) own) in
+        width-unique (a - b) (le-div-iff-mul-le some .1 (omega (arith, mul-comm n (2 ^ (a - b)))))
+        (div-lt-iff-lt-mul some .1 (rw pow-suc (omega (arith, t, mul-comm n (2 ^ (a - b))))))
+
+    pub digits-less : U < n * 2 ^ (a - b) → (0 < a - b) × (a - b - 1 ≡ width U n)
+    digits-less h = go (a - b) both h
+      where
+        go : (k : ℕ) → 2 ^ k * 2 ^ b ≡ 2 ^ a → U < n * 2 ^ k → (0 < k) × (k - 1 ≡ width U n)
+        go zero e g = absurd (omega (arith, below))
+        go (suc k) e g =
+            let p = ap (λ (x : ℕ). x * 2 ^ b) (pow-suc 2 k) ∙ mul-right-comm (2 ^ k) 2 (2 ^ b) in
+            let t = mul-le-mul-left (2 ^ k) (le-of-lt few) in
+            let w = width-unique k (le-div-iff-mul-le some .1 (omega (arith, p, e, t)))
+            (div-lt-iff-lt-mul some .1 (omega (arith, g, mul-comm n (2 ^ suc k)))) in
+            (omega arith, omega (arith, w))

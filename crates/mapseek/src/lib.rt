@@ -16,7 +16,7 @@ fn on_page(page: usize) -> Landing
 {
     Landing {
         mark: (page + 1) as u32,
-        bit: page as u32,
+        bit: page,
     }
 }
 

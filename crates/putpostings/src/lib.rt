@@ -103,7 +103,9 @@ pub fn put_postings(
         return sessions::ended(Refusal::Lists, 0);
     }
     let first = shape::pages_shape(s.version, s.n as usize, s.pages as usize);
-    let g = sessions::layout(first, s.positions as usize, s.u as usize);
+    let summed = shape::shape_of(s.positions as usize, s.pages as usize);
+    let last = shape::shape_of(s.u as usize, s.positions as usize);
+    let g = sessions::layout(first, summed, last);
     let size = g.size;
     if room.len() < size {
         return Streamed {

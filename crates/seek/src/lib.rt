@@ -31,7 +31,7 @@ fn find(
     if b < c.mark as usize {
         return Landing {
             mark: c.mark,
-            bit: c.bit,
+            bit: c.bit as usize,
         };
     }
     if g.w == BITMAP {
@@ -65,7 +65,7 @@ pub fn seek(table: &Table, s: &[u8], g: Shape, c: Cursor, b: usize, likely: bool
     let to = find(table, s, g, c, b, likely, &mut looks);
     Cursor {
         mark: to.mark,
-        bit: to.bit,
+        bit: to.bit as u32,
         seeks: c.seeks + 1,
         looks,
     }

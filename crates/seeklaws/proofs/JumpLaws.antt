@@ -9,13 +9,14 @@ use native.Mathlib.Nat.{zero-add}
 use native.Mathlib.Decide.{decLt}
 use native.Mathlib.Omega.{arith}
 use lib.ListN.{length, getD}
-use lib.Pow.{shr-mono}
+use lib.Pow.{shr-mono, shr-le}
 use Rattle.rules.specs.List.{rising, zeros, upper, afterZero, pointer, Form, twoRuns, bitmap}
 use Rattle.rules.specs.Seek.{Cursor, fresh, on, spent, widthOf, placeOf, runBits, bitsOf, cursorBit, jumpTo, startOf}
 use Rattle.rules.specs.Seek.{walk}
 use Rattle.laws.proofs.BitLaws.{bit-cases}
 use Rattle.listlaws.specs.Sound.{onesTo}
 use Rattle.listlaws.proofs.AfterLaws.{zero-none, ones-none, ones-steps, after-le, afterZero-is}
+use Rattle.listlaws.proofs.RisingLaws.{rising-length}
 use Rattle.listlaws.proofs.UpperLaws.{upper-at, upper-ones}
 use Rattle.seeklaws.specs.Cursors.{firstAt, floor, Placed, Ahead}
 use Rattle.seeklaws.proofs.FirstLaws.{rising-lt, rising-below, walk-first}
@@ -96,6 +97,18 @@ pub place-lt : (f : Form) (U : ℕ) (xs : List ℕ) → rising 0 U xs ≡ true �
 unfolding placeOf zeros
 place-lt twoRuns U xs r j h = omega (arith, bits-are twoRuns U xs (omega arith), high-le U xs r j h)
 place-lt bitmap U xs r j h = omega (arith, bits-are bitmap U xs (omega arith), rising-below 0 U xs r j h)
+
+pub place-few : (f : Form) (U : ℕ) (xs : List ℕ) → rising 0 U xs ≡ true → (j : ℕ) → j < length xs
+    → placeOf f U xs j < 2 * U
+unfolding placeOf
+place-few twoRuns U xs r j h =
+    omega (
+      arith,
+      rising-below 0 U xs r j h,
+      shr-le (getD xs j 0) (widthOf U xs),
+      rising-length 0 U xs r (omega arith),
+    )
+place-few bitmap U xs r j h = omega (arith, rising-below 0 U xs r j h)
 
 pub place-mono : (f : Form) (U : ℕ) (xs : List ℕ) → rising 0 U xs ≡ true → (i j : ℕ) → i < j → j < length xs
     → placeOf f U xs i < placeOf f U xs j

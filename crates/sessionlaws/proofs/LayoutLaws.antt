@@ -119,12 +119,9 @@ module _ (v N P Q U : ℕ) (a : Announced N P Q U) where
     pub positions-fit : (r : List ℕ) → g .positions .end ≤ length r → Fitting (g .positions) r
     positions-fit r l = fitting-of twoRuns U Q (g .positions) positions-are r (a .positions) (a .reach) l
 
--- made of the three shapes, of which that of the pages tells how many counts there are
-module _ (v N P Q U : ℕ) (p c q : Shape) (e : p ≡ formShape (formOf v N P) N P) (f : c ≡ shapeOf Q (p .n))
+-- made of the three shapes
+module _ (v N P Q U : ℕ) (p c q : Shape) (e : p ≡ formShape (formOf v N P) N P) (f : c ≡ shapeOf Q P)
     (h : q ≡ shapeOf U Q) where
-  as-many : c ≡ shapeOf Q P
-  as-many = f ∙ ap (shapeOf Q) (n-of (formOf v N P) N P p e)
-
   pub layout-made : record {
     pages = p;
     counts = c;
@@ -134,7 +131,7 @@ module _ (v N P Q U : ℕ) (p c q : Shape) (e : p ≡ formShape (formOf v N P) N
     size = 5 + p .end + c .end + q .end;
   } ≡ layoutOf v N P Q U
   unfolding layoutOf streamSize positionsAt countsAt
-  layout-made = rw (e, as-many, h, formShape-end (formOf v N P) N P, shape-end Q P, shape-end U Q)
+  layout-made = rw (e, f, h, formShape-end (formOf v N P) N P, shape-end Q P, shape-end U Q)
 
   ends-small : Announced N P Q U → 5 + p .end + c .end + q .end < 2 ^ 32
   unfolding streamSize positionsAt countsAt
@@ -142,24 +139,15 @@ module _ (v N P Q U : ℕ) (p c q : Shape) (e : p ≡ formShape (formOf v N P) N
     arith,
     stream-small v N P Q U a,
     end-of (formOf v N P) N P p e,
-    end-of twoRuns Q P c as-many,
+    end-of twoRuns Q P c f,
     end-of twoRuns U Q q h,
   )
 
--- an accepted announcement, by the shape of its pages
-module _ {p : Shape} {Q U : ℕ} (a : Announcing p Q U) where
-  announcing-parts : Announced (a .n) (a .pages) Q U
-  announcing-parts = announced-parts (a .version) (a .n) (a .pages) Q U (a .accepts)
-
-  pub announcing-bounds : (p .n ≤ Q) × (Q ≤ U) × (U ≤ limit)
-  announcing-bounds =
-      let t = announcing-parts in
-      let n = n-of (formOf (a .version) (a .n) (a .pages)) (a .n) (a .pages) p (a .shape) in
-      (omega (arith, n, t .counts), t .positions, t .reach)
-
-  pub announcing-small : (c q : Shape) → c ≡ shapeOf Q (p .n) → q ≡ shapeOf U Q
-      → 5 + p .end + c .end + q .end < 2 ^ 32
-  announcing-small c q f h = ends-small (a .version) (a .n) (a .pages) Q U p c q (a .shape) f h announcing-parts
+-- of an accepted announcement
+pub announcing-small : {p c q : Shape} → Announcing p c q → 5 + p .end + c .end + q .end < 2 ^ 32
+announcing-small {p} {c} {q} a =
+    ends-small (a .version) (a .n) (a .pages) (a .positions) (a .u) p c q (a .paged) (a .counted) (a .placed)
+    (announced-parts (a .version) (a .n) (a .pages) (a .positions) (a .u) (a .accepts))
 
 -- ---- a layout in a room that holds its block
 

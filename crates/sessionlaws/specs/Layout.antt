@@ -2,8 +2,8 @@
 --
 --   layoutOf v N P Q U  the shapes of its lists and their places, for the announcement of N, P pages, Q positions and U
 --                     in an index of version v
---   Announcing p Q U  p is the shape of the pages of an accepted announcement of Q positions whose elements end at U
---   LaidOut p Q U g   g is the layout of such an announcement, whatever its version
+--   Announcing p c q  p, c and q are the shapes of the pages, the counts and the positions of an accepted announcement
+--   LaidOut p c q g   g is the layout of such an announcement, whatever it is
 --   Housed v g room   g is the layout that an accepted announcement gives, and the room holds its block
 --   Roomed g room     it is for some version
 --   FramesPut g d e   e is d with the block of which no element is laid, whatever the version
@@ -31,15 +31,20 @@ layoutOf v N P Q U = record {
   size = streamSize v N P Q U;
 }
 
-pub record Announcing (p : Shape) (Q U : ℕ) : Type 0 where
+pub record Announcing (p c q : Shape) : Type 0 where
   pub version : ℕ
   pub n : ℕ
   pub pages : ℕ
-  pub shape : p ≡ formShape (formOf version n pages) n pages
-  pub accepts : announceRefusal version n pages Q U ≡ Accepted
+  pub positions : ℕ
+  pub u : ℕ
+  pub paged : p ≡ formShape (formOf version n pages) n pages
+  pub counted : c ≡ shapeOf positions pages
+  pub placed : q ≡ shapeOf u positions
+  pub accepts : announceRefusal version n pages positions u ≡ Accepted
 
-abbrev pub LaidOut : Shape → ℕ → ℕ → Layout → Type 0
-LaidOut p Q U g = (v N P : ℕ) → p ≡ formShape (formOf v N P) N P → g ≡ layoutOf v N P Q U
+abbrev pub LaidOut : Shape → Shape → Shape → Layout → Type 0
+LaidOut p c q g =
+    (v N P Q U : ℕ) → p ≡ formShape (formOf v N P) N P → c ≡ shapeOf Q P → q ≡ shapeOf U Q → g ≡ layoutOf v N P Q U
 
 pub record Housed (v : ℕ) (g : Layout) (room : List ℕ) : Type 0 where
   pub shape : g ≡ layoutOf v (g .pages .u) (g .pages .n) (g .positions .n) (g .positions .u)

@@ -67,14 +67,12 @@ pub fn is_live(s: Stream) -> bool
     ))
 }
 
-// The block that an announcement gives, whose pages have that shape: with the shape worked out apart both parts are
+// The block that an announcement gives, whose lists have these shapes: with the shapes worked out apart each part is
 // small enough to be compiled into a call that keeps the layout in registers.
-pub fn layout(first: Shape, positions: usize, u: usize) -> Layout
-    requires { ⌜ Announcing first positions u ⌝ }
-    ensures { λ r. ⌜ LaidOut first positions u r ⌝ }
+pub fn layout(first: Shape, counts: Shape, last: Shape) -> Layout
+    requires { ⌜ Announcing first counts last ⌝ }
+    ensures { λ r. ⌜ LaidOut first counts last r ⌝ }
 {
-    let counts = shape::shape_of(positions, first.n);
-    let last = shape::shape_of(u, positions);
     let second = LISTS_AT + first.end;
     let third = second + counts.end;
     Layout {
@@ -93,7 +91,9 @@ pub fn layout_of(s: Stream) -> Layout
     ensures { λ r. ⌜ r ≡ layoutOf (s .version) (s .n) (s .pages) (s .positions) (s .u) ⌝ }
 {
     let first = shape::pages_shape(s.version, s.n as usize, s.pages as usize);
-    layout(first, s.positions as usize, s.u as usize)
+    let counts = shape::shape_of(s.positions as usize, s.pages as usize);
+    let last = shape::shape_of(s.u as usize, s.positions as usize);
+    layout(first, counts, last)
 }
 
 // A refusal that ends the session, or its success.

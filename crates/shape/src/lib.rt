@@ -1,7 +1,7 @@
 // The geometry of a list block: what U and n give, worked out once and handed on by value.
 
 ghost use mathlib.Core.Path.{_≡_};
-ghost use Prim.Native.Nat.{_^_, _<_, _≤_};
+ghost use Prim.Native.Nat.{_*_, _^_, _<_, _≤_};
 ghost use Rattle.rules.specs.Limits.{limit};
 ghost use Rattle.rules.specs.List.{width, dense, formOf};
 ghost use Rattle.shape.specs.Shape.{shapeOf, mapShape, formShape};
@@ -24,12 +24,22 @@ pub struct Shape {
     pub end: usize,
 }
 
-// The width of the low parts of n elements below u.
+// How many binary digits x has. What is counted is never 0, for which the compiler would have to provide.
+fn digits(x: usize) -> usize
+    requires { ⌜ (0 < x) × (x < 2 ^ 32) ⌝ }
+    ensures { λ r. ⌜ (2 ^ r ≤ 2 * x) × (x < 2 ^ r) × (r ≤ 32) ⌝ }
+{
+    (63 - u64::leading_zeros(2 * x as u64 + 1)) as usize
+}
+
+// The width of the low parts of n elements below u: u has so many digits more than n, or one less. Dividing would take
+// longer, and whoever opens a list waits for it.
 fn width(u: usize, n: usize) -> usize
     requires { ⌜ (0 < n) × (n ≤ u) × (u < 2 ^ 32) ⌝ }
     ensures { λ r. ⌜ (r ≡ width u n) × (r ≤ 31) ⌝ }
 {
-    (31 - u32::leading_zeros(u as u32 / n as u32)) as usize
+    let more = digits(u) - digits(n);
+    more - (u < n << more) as usize
 }
 
 // The shape of a block of n elements below u.

@@ -2,19 +2,20 @@
 use mathlib.Core.Bool.{true}
 use mathlib.Core.Path.{_≡_, refl}
 use mathlib.Core.List.{List}
-use Prim.Native.Nat.{ℕ, _+_, _-_, _≤_, _<_, max}
+use Prim.Native.Nat.{ℕ, _+_, _-_, _^_, _≤_, _<_, max}
 use native.Mathlib.Decide.{ℕ-discrete}
 use native.Mathlib.Omega.{arith}
 use borrow.Author.Tests.{ne-eqb}
 use lib.ListN.{length, getD}
 use Rattle.rules.specs.Limits.{limit}
 use Rattle.rules.specs.List.{rising, Form}
-use Rattle.rules.specs.Seek.{Cursor as Placing, fresh, on, cursorBit, seek}
+use Rattle.rules.specs.Seek.{Cursor as Placing, fresh, on, spent, cursorBit, seek}
 use Rattle.seeklaws.specs.Cursors.{firstAt, foundAt, cursorAt, floor, Placed}
 use Rattle.seeklaws.proofs.FirstLaws.{rising-below, firstAt-le, first-found, foundAt-none, foundAt-page}
+use Rattle.seeklaws.proofs.JumpLaws.{place-few}
 use Rattle.seeklaws.proofs.SeekLaws.{cursorAt-spent, cursorAt-on, seek-answered, seek-placed}
 use Rattle.walklaws.specs.declared.Cursor.{Cursor}
-use Rattle.walklaws.specs.Cursors.{spentMark, unused, markOf, held, ruleCursor, Held, movedTo, foundBy}
+use Rattle.walklaws.specs.Cursors.{spentMark, unused, markOf, held, ruleCursor, Held, landing, movedTo, foundBy}
 use Rattle.walklaws.proofs.CursorLaws.{rank-at, held-rule}
 
 held-made : (f : Form) (U : ℕ) (xs : List ℕ) (a : Placing) (seeks looks : ℕ) → Placed xs a
@@ -50,6 +51,13 @@ module _ (f : Form) (U : ℕ) (xs : List ℕ) (rises : rising 0 U xs ≡ true) (
             )
       ]
 
+  -- a cursor's bit is one of the run's, which are few
+  cursor-few : (a : Placing) → Placed xs a → cursorBit f U xs a < 2 ^ 32
+  unfolding cursorBit
+  cursor-few fresh p = omega arith
+  cursor-few spent p = omega arith
+  cursor-few (on i) p = omega (arith, place-few f U xs rises i p)
+
   module _ (c : Cursor) (h : Held f U xs c) (b : ℕ) where
     placed : Placed xs (ruleCursor f U xs c)
     placed = rw (held-rule f U xs rises within c h) (h .placed)
@@ -60,6 +68,11 @@ module _ (f : Form) (U : ℕ) (xs : List ℕ) (rises : rising 0 U xs ≡ true) (
     moved-held = held-made f U xs (seek f U xs (ruleCursor f U xs c) b .cursor) (c .seeks + 1)
         (c .looks + seek f U xs (ruleCursor f U xs c) b .looks)
         (seek-placed f U xs rises (ruleCursor f U xs c) b placed)
+
+    pub landing-few : landing f U xs c b .bit < 2 ^ 32
+    unfolding landing
+    landing-few =
+        cursor-few (seek f U xs (ruleCursor f U xs c) b .cursor) (seek-placed f U xs rises (ruleCursor f U xs c) b placed)
 
     pub moved-rule : ruleCursor f U xs (movedTo f U xs c b) ≡ seek f U xs (ruleCursor f U xs c) b .cursor
     unfolding moved-held held-made

@@ -43,8 +43,9 @@ pub struct Ones {
     pub rank: usize,
 }
 
-// Where a search ends: the cursor's mark and bit.
+// Where a search ends: the cursor's mark and bit. Two numbers of one size would be put into one register and taken apart
+// again, for which the next seek would wait.
 pub struct Landing {
     pub mark: u32,
-    pub bit: u32,
+    pub bit: usize,
 }

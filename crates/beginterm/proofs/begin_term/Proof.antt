@@ -12,6 +12,7 @@ use Rattle.rules.specs.Refusal.{accepted}
 use Rattle.rules.specs.Write.{laid}
 use Rattle.rules.specs.Stream.{announceRefusal, over, goes}
 use Rattle.laws.proofs.RefusalLaws.{told-passed}
+use Rattle.sessionlaws.specs.Session.{Announced}
 use Rattle.sessionlaws.specs.Layout.{layoutOf, Housed}
 use Rattle.sessionlaws.proofs.AnnounceLaws.{announced-parts}
 use Rattle.sessionlaws.proofs.AnswerLaws.{streamed-is, begin-refused, begin-short, begin-opened}
@@ -35,45 +36,67 @@ returns c =
     (c .ended .ensures .0 ∙ e, c .ended .ensures .1, c .ended .ensures .2) refl
     ∙ sym (begin-refused (a .version) (a .n) (a .pages) (a .positions) (a .u) (a .room .now) no)
 
--- the announcement is accepted, seen from behind its test
-told : (c : tie.Else1) → refusal (c .before .before .before .before) ≡ Accepted
+-- the start, seen from behind the announcement's test, and that test, seen from where the layout is known
+abbrev begun : tie.Else1 → tie.Start
+begun c = c .before .before .before .before
+
+abbrev tested : tie.After-layout → tie.Else1
+tested c = c .before .before .before .before
+
+-- the announcement is accepted, and so bounded
+told : (c : tie.Else1) → refusal (begun c) ≡ Accepted
 told c =
     let p = c .before in
     told-passed (p .passed .result) (p .before .announce .result) (refusal (p .before .before .before))
     (p .passed .ensures) (p .before .announce .ensures) (c .if1 .left)
 
-pages-shape-requires : tie.Need-pages-shape-requires
-pages-shape-requires c κs =
-    let a = c .before .before .before .before .args in
-    let r = announced-parts (a .version) (a .n) (a .pages) (a .positions) (a .u) (told c) in
-    (r .pages, r .within)
+bounds : (c : tie.Else1) → let a = begun c .args in Announced (a .n) (a .pages) (a .positions) (a .u)
+bounds c =
+    let a = begun c .args in
+    announced-parts (a .version) (a .n) (a .pages) (a .positions) (a .u) (told c)
+
+shape-of-requires : tie.Need-shape-of-requires
+shape-of-requires c κs =
+    let r = bounds (c .before) in
+    (r .counts, omega (arith, r .positions, r .reach))
+
+shape-of-requires-2 : tie.Need-shape-of-requires-2
+shape-of-requires-2 c κs =
+    let r = bounds (c .before .before) in
+    (r .positions, r .reach)
 
 layout-requires : tie.Need-layout-requires
 layout-requires c κs =
-    let a = c .before .before .before .before .before .args in
+    let p = c .before .before in
+    let a = begun (p .before) .args in
     record {
       version = a .version;
       n = a .n;
       pages = a .pages;
-      shape = c .pages-shape .ensures;
-      accepts = told (c .before);
+      positions = a .positions;
+      u = a .u;
+      paged = p .pages-shape .ensures;
+      counted = c .before .shape-of .ensures;
+      placed = c .shape-of2 .ensures;
+      accepts = told (p .before);
     }
 
 -- the layout is that of the announcement
 layout-is : (c : tie.After-layout)
-    → let a = c .before .before .before .before .before .before .args in
+    → let a = begun (tested c) .args in
     c .layout .result ≡ layoutOf (a .version) (a .n) (a .pages) (a .positions) (a .u)
 layout-is c =
-    let a = c .before .before .before .before .before .before .args in
-    c .layout .ensures (a .version) (a .n) (a .pages) (c .before .pages-shape .ensures)
+    let a = begun (tested c) .args in
+    let p = c .before .before .before in
+    c .layout .ensures (a .version) (a .n) (a .pages) (a .positions) (a .u) (p .pages-shape .ensures)
+    (c .before .before .shape-of .ensures) (c .before .shape-of2 .ensures)
 
 returns-2 : tie.Need-returns-2
 returns-2 c =
     let l = c .before .before .before in
-    let s = l .before .before .before .before .before .before in
-    let a = s .args in
-    let t = told (l .before .before) in
-    let r = announced-parts (a .version) (a .n) (a .pages) (a .positions) (a .u) t in
+    let a = begun (tested l) .args in
+    let t = told (tested l) in
+    let r = bounds (tested l) in
     streamed-is (c .ended2 .result) (a .room .now) Room 0 over (a .room .now) (c .ended2 .ensures) refl
     ∙ sym (begin-short (a .version) (a .n) (a .pages) (a .positions) (a .u) (a .room .now) t
     (omega (
@@ -85,27 +108,26 @@ returns-2 c =
 -- and the room holds its block
 house : (c : tie.Else2)
     → let l = c .before .before in
-    let a = l .before .before .before .before .before .before .args in
+    let a = begun (tested l) .args in
     Housed (a .version) (l .layout .result) (a .room .now)
 house c =
     let l = c .before .before in
-    let a = l .before .before .before .before .before .before .args in
-    housed (a .version) (a .n) (a .pages) (a .positions) (a .u) (told (l .before .before)) (l .layout .result)
+    let a = begun (tested l) .args in
+    housed (a .version) (a .n) (a .pages) (a .positions) (a .u) (told (tested l)) (l .layout .result)
     (layout-is l) (a .room .now) (c .if2 .left)
 
 put-frames-requires : tie.Need-put-frames-requires
 put-frames-requires c κs =
-    let s = c .before .before .before .before .before .before .before .before .before in
+    let s = begun (tested (c .before .before .before)) in
     record { version = s .args .version; house = house (c .before) }
 
 returns-3 : tie.Need-returns-3
 returns-3 c =
     let f = c .before .before .before in
     let l = f .before .before .before .before in
-    let s = l .before .before .before .before .before .before in
-    let a = s .args in
-    let t = told (l .before .before) in
-    let r = announced-parts (a .version) (a .n) (a .pages) (a .positions) (a .u) t in
+    let a = begun (tested l) .args in
+    let t = told (tested l) in
+    let r = bounds (tested l) in
     let e = announced-told (a .version) (a .n) (a .pages) (a .positions) (a .u) r (l .layout .result)
     (layout-is l) in
     ap₂ (goes Accepted) (c .opened .ensures)
@@ -125,7 +147,9 @@ begin-term-spec =
     (λ c κs. search needs)
     (λ c κs. search needs)
     returns
-    pages-shape-requires
+    (λ c κs. (bounds c .pages, bounds c .within))
+    shape-of-requires
+    shape-of-requires-2
     layout-requires
     (λ c κs. search needs)
     returns-2

@@ -108,9 +108,6 @@ add-t18 c = record { fits = omega (arith, turn (c .before .before .before .befor
 cast-t19 : tie.Need-cast-t19 Inv-loop μ-loop
 cast-t19 c = record { fits = omega (arith, turn (c .before .before .before .before) .low, c .before .page-at .ensures) }
 
-cast-t20 : tie.Need-cast-t20 Inv-loop μ-loop
-cast-t20 c = record { fits = omega (arith, turn (c .before .before .before .before) .inside) }
-
 returns : tie.Need-returns Inv-loop μ-loop
 returns c =
     let one = c .before .before .before .before in
@@ -124,8 +121,8 @@ returns c =
     (omega (arith, v, c .if3 .taken)) (ap (λ (x : ℕ). x + 1) v) refl in
     (l .0, omega (arith, l .1, at .inv .2, t .1))
 
-sub-t21 : tie.Need-sub-t21 Inv-loop μ-loop
-sub-t21 c = omega (arith, c .before .before .before .before .before .to-one .ensures .0 .some)
+sub-t20 : tie.Need-sub-t20 Inv-loop μ-loop
+sub-t20 c = omega (arith, c .before .before .before .before .before .to-one .ensures .0 .some)
 
 add-t14 : tie.Need-add-t14 Inv-loop μ-loop
 add-t14 c =
@@ -184,9 +181,8 @@ land-spec =
     page-at-requires
     add-t18
     cast-t19
-    cast-t20
     returns
-    sub-t21
+    sub-t20
     add-t14
     loop-less
     loop-again

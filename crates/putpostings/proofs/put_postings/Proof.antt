@@ -9,6 +9,7 @@ use Rattle.rules.specs.declared.Refusal.the-variants.{Accepted, Lists}
 use Rattle.rules.specs.Write.{laid}
 use Rattle.rules.specs.Term.{Word, lentWord}
 use Rattle.rules.specs.Stream.{over, live, follows, addedWord, advanced, sizeOf}
+use Rattle.sessionlaws.specs.Session.{Announced}
 use Rattle.sessionlaws.specs.Layout.{layoutOf}
 use Rattle.sessionlaws.specs.Follow.{Laying}
 use Rattle.sessionlaws.proofs.LiveLaws.{live-parts}
@@ -39,43 +40,72 @@ returns c =
 goes-on : (c : tie.Else1) → live (from-test (c .before) .args .s) ≡ true
 goes-on c = sym (c .before .is-live .ensures) ∙ not-false (c .before .is-live .result) (c .if1 .left)
 
--- behind that test, seen from where the layout is known
+-- behind that test, seen from where the shape of the pages is known, from where the others are, and from the layout
+abbrev from-pages : tie.After-pages-shape → tie.Else1
+from-pages c = c .before .before .before
+
+abbrev from-counts : tie.After-shape-of → tie.After-pages-shape
+from-counts c = c .before .before .before
+
+abbrev from-places : tie.After-shape-of2 → tie.After-shape-of
+from-places c = c .before .before .before
+
 abbrev from-layout : tie.After-layout → tie.Else1
-from-layout c = c .before .before .before .before .before .before
+from-layout c = from-pages (from-counts (from-places (c .before)))
 
 -- the layout is the session's
 layout-is : (c : tie.After-layout)
     → let s = from-test (from-layout c .before) .args .s in
     c .layout .result ≡ layoutOf (s .version) (s .n) (s .pages) (s .positions) (s .u)
 layout-is c =
-    let k = c .before .before .before in
+    let l = from-places (c .before) in
     let s = from-test (from-layout c .before) .args .s in
-    c .layout .ensures (s .version) (s .n) (s .pages) (k .pages-shape .ensures)
+    c .layout .ensures (s .version) (s .n) (s .pages) (s .positions) (s .u) (from-counts l .pages-shape .ensures)
+    (l .shape-of .ensures) (c .before .shape-of2 .ensures)
+
+-- what it announced is bounded
+bounds : (c : tie.Else1)
+    → let s = from-test (c .before) .args .s in Announced (s .n) (s .pages) (s .positions) (s .u)
+bounds c = live-parts (from-test (c .before) .args .s) (goes-on c) .announced
 
 -- the block's length
 long : (c : tie.After-layout) → c .layout .result .size ≡ sizeOf (from-test (from-layout c .before) .args .s)
 unfolding sizeOf
 long c =
     let s = from-test (from-layout c .before) .args .s in
-    let a = live-parts s (goes-on (from-layout c)) .announced in
+    let a = bounds (from-layout c) in
     size-is (s .version) (s .n) (s .pages) (s .positions) (s .u) a (c .layout .result) (layout-is c)
 
 pages-shape-requires : tie.Need-pages-shape-requires
 pages-shape-requires c κs =
-    let e = c .before .before in
-    let a = live-parts (from-test (e .before) .args .s) (goes-on e) .announced in
+    let a = bounds (c .before .before) in
     (a .pages, a .within)
+
+shape-of-requires : tie.Need-shape-of-requires
+shape-of-requires c κs =
+    let a = bounds (from-pages (c .before .before)) in
+    (a .counts, omega (arith, a .positions, a .reach))
+
+shape-of-requires-2 : tie.Need-shape-of-requires-2
+shape-of-requires-2 c κs =
+    let a = bounds (from-pages (from-counts (c .before .before))) in
+    (a .positions, a .reach)
 
 layout-requires : tie.Need-layout-requires
 layout-requires c κs =
-    let k = c .before .before in
-    let e = k .before .before .before in
+    let l = from-places c in
+    let k = from-counts l in
+    let e = from-pages k in
     let s = from-test (e .before) .args .s in
     record {
       version = s .version;
       n = s .n;
       pages = s .pages;
-      shape = k .pages-shape .ensures;
+      positions = s .positions;
+      u = s .u;
+      paged = k .pages-shape .ensures;
+      counted = l .shape-of .ensures;
+      placed = c .shape-of2 .ensures;
       accepts = live-parts s (goes-on e) .accepts;
     }
 
@@ -165,6 +195,10 @@ put-postings-spec =
     pages-shape-requires
     (λ c. search needs)
     (λ c. search needs)
+    shape-of-requires
+    (λ c. search needs)
+    (λ c. search needs)
+    shape-of-requires-2
     layout-requires
     returns-2
     (λ c κs. goes-on (from-layout (c .before)))

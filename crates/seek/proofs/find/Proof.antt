@@ -22,16 +22,16 @@ stored b = form-stored (formAt (b .args .s .now)) (b .args .s .now) (b .args .g)
 
 returns : tie.Need-returns
 returns c =
-    let b = c .before .before .before in
+    let b = c .before .before .before .before in
     ends-stays (formAt (b .args .s .now)) (b .args .s .now) (b .args .g) (stored b) (b .args .c) (b .pre .1)
-    (b .args .b) (c .if1 .taken) _ _ refl refl
+    (b .args .b) (c .before .if1 .taken) _ _ refl refl
 
 -- the function's own start, seen from behind the first tests
-abbrev begun : tie.After-struct-known2 → tie.Start
+abbrev begun : tie.After-struct-known3 → tie.Start
 begun c = c .before .before .before .before
 
 -- past these, and in a list with an element and a bound below U, the cursor moves
-moving : (c : tie.After-struct-known2) → 0 < begun c .args .g .n → begun c .args .b < begun c .args .g .u
+moving : (c : tie.After-struct-known3) → 0 < begun c .args .g .n → begun c .args .b < begun c .args .g .u
     → Moving (formAt (begun c .args .s .now)) (begun c .args .s .now) (begun c .args .c) (begun c .args .b)
 moving c some below =
     let b = begun c in
@@ -52,7 +52,7 @@ returns-2 c =
     (b .args .b) _ _ (at .before .if1 .left) (inr (c .before .if3 .taken)) (c .none .ensures)
 
 -- what the tests found first, seen from behind the bitmap's own
-abbrev tested : tie.Else3 → tie.After-struct-known2
+abbrev tested : tie.Else3 → tie.After-struct-known3
 tested c = c .before .before .before
 
 map : (c : tie.Else3) → MapOpen (begun (tested c) .args .s .now) (begun (tested c) .args .g)
@@ -190,6 +190,7 @@ pub find-spec : {M : Type 1} → statement M
 find-spec =
     tie.close
     (tie.spec
+    (λ c. search needs)
     (λ c. search needs)
     returns
     (λ c κs. tt)

@@ -1,4 +1,5 @@
 -- `layout_of` gives what the session's announcement gives, which is accepted while the session goes on.
+use native.Mathlib.Omega.{arith}
 use borrow.Author.Needs.{needs}
 use Rattle.sessionlaws.specs.Session.{Live}
 use Rattle.sessionlaws.proofs.LiveLaws.{live-parts}
@@ -8,28 +9,55 @@ use Rattle.sessions.proofs.layout_of.Tie as tie
 lives : (s : tie.Start) → Live (s .args .s)
 lives s = live-parts (s .args .s) (s .pre)
 
+-- the start, seen from where the shape of the pages is known and from where the other two are
+abbrev from-pages : tie.After-pages-shape → tie.Start
+from-pages c = c .before .before .before
+
+abbrev from-counts : tie.After-shape-of → tie.After-pages-shape
+from-counts c = c .before .before .before
+
+abbrev from-places : tie.After-shape-of2 → tie.After-shape-of
+from-places c = c .before .before .before
+
 pages-shape-requires : tie.Need-pages-shape-requires
 pages-shape-requires c κs =
     let a = lives (c .before .before) .announced in
     (a .pages, a .within)
 
+shape-of-requires : tie.Need-shape-of-requires
+shape-of-requires c κs =
+    let a = lives (from-pages (c .before .before)) .announced in
+    (a .counts, omega (arith, a .positions, a .reach))
+
+shape-of-requires-2 : tie.Need-shape-of-requires-2
+shape-of-requires-2 c κs =
+    let a = lives (from-pages (from-counts (c .before .before))) .announced in
+    (a .positions, a .reach)
+
 layout-requires : tie.Need-layout-requires
 layout-requires c κs =
-    let k = c .before .before in
-    let s = k .before .before .before in
+    let k = from-counts (from-places c) in
+    let s = from-pages k in
+    let x = s .args .s in
     record {
-      version = s .args .s .version;
-      n = s .args .s .n;
-      pages = s .args .s .pages;
-      shape = k .pages-shape .ensures;
+      version = x .version;
+      n = x .n;
+      pages = x .pages;
+      positions = x .positions;
+      u = x .u;
+      paged = k .pages-shape .ensures;
+      counted = from-places c .shape-of .ensures;
+      placed = c .shape-of2 .ensures;
       accepts = lives s .accepts;
     }
 
 returns : tie.Need-returns
 returns c =
-    let k = c .before .before .before in
-    let s = k .before .before .before .args .s in
-    c .layout .ensures (s .version) (s .n) (s .pages) (k .pages-shape .ensures)
+    let l = from-places (c .before) in
+    let k = from-counts l in
+    let s = from-pages k .args .s in
+    c .layout .ensures (s .version) (s .n) (s .pages) (s .positions) (s .u) (k .pages-shape .ensures)
+    (l .shape-of .ensures) (c .before .shape-of2 .ensures)
 
 pub layout-of-spec : {M : Type 1} → statement M
 layout-of-spec =
@@ -40,5 +68,9 @@ layout-of-spec =
     pages-shape-requires
     (λ c. search needs)
     (λ c. search needs)
+    shape-of-requires
+    (λ c. search needs)
+    (λ c. search needs)
+    shape-of-requires-2
     layout-requires
     returns)
