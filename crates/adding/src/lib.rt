@@ -6,10 +6,9 @@ ghost use mathlib.Core.Path.{_≡_};
 ghost use Prim.Native.Nat.{_+_, _/_, _%_, _≤_};
 ghost use lib.ListN.{length, getD};
 ghost use Rattle.rules.specs.List.{rising};
-ghost use Rattle.rules.specs.Term.{raised};
 ghost use Rattle.rules.specs.InPlace.{added};
 ghost use Rattle.filllaws.specs.Filling.{Fitting};
-ghost use Rattle.addlaws.specs.Adding.{HasSlot, OneAdded, HasMap, MapAdded, HasPlace, PageAdded, Paged, PagesAdded};
+ghost use Rattle.addlaws.specs.Adding.{HasSlot, OneAdded, HasSlots, AllAdded, HasMap, MapAdded, HasPlace, PageAdded, Paged, PagesAdded};
 use addlaws::Highs;
 use filllaws::Lows;
 use shape::BITMAP;
@@ -26,24 +25,37 @@ fn nothing_laid(place: usize) -> Lows
     }
 }
 
-// Lays the elements that the list gives above the base into a block in which those below number `from` are laid.
-pub fn add_all(block: &mut [u8], g: Shape, from: usize, base: usize, list: &[u32])
-    requires { ⌜ Fitting g (now block) × (from + length (now list) ≤ g .n)
-        × (rising 0 (g .u) (raised base (now list)) ≡ true) ⌝ }
-    ensures { λ _. ⌜ now (block .exit)
-        ≡ added (g .u) (g .n) from (raised base (now (list .entry))) (now (block .entry)) ⌝ }
+// Lays the elements that the list gives above the base into a block in which those below number `from` are laid, where
+// the runs start at these bytes and low parts have w bits: a shape would be put down in memory for each call.
+pub fn add_above(
+    block: &mut [u8],
+    lower: usize,
+    upper: usize,
+    w: usize,
+    from: usize,
+    base: usize,
+    list: &[u32],
+)
+    requires { ⌜ HasSlots lower upper w from base (now list) (now block) ⌝ }
+    ensures { λ _. ⌜ AllAdded lower upper w from base (now (list .entry)) (now (block .entry)) (now (block .exit)) ⌝ }
 {
-    let lower = g.lower;
-    let upper = g.upper;
-    let mut lows = nothing_laid(from * g.w);
+    let mut lows = nothing_laid(from * w);
     let mut highs = Highs { acc: 0, word: 0 };
     for i in 0..list.len() {
         let x = base + list[i] as usize;
-        highs = setting::add_high(&mut block[upper..], highs, (x >> g.w) + (from + i));
-        lows = setting::add_low(&mut block[lower..], g.w, lows, x);
+        highs = setting::add_high(&mut block[upper..], highs, (x >> w) + (from + i));
+        lows = setting::add_low(&mut block[lower..], w, lows, x);
     }
     setting::flush(&mut block[upper..], highs.word, highs.acc);
     setting::flush(&mut block[lower..], lows.words, lows.acc);
+}
+
+// Lays the elements of the list from number `from` on into a block of that shape.
+pub fn add_all(block: &mut [u8], g: Shape, from: usize, list: &[u32])
+    requires { ⌜ Fitting g (now block) × (from + length (now list) ≤ g .n) × (rising 0 (g .u) (now list) ≡ true) ⌝ }
+    ensures { λ _. ⌜ now (block .exit) ≡ added (g .u) (g .n) from (now (list .entry)) (now (block .entry)) ⌝ }
+{
+    add_above(block, g.lower, g.upper, g.w, from, 0, list);
 }
 
 // Lays x as element number i, where the runs start at these bytes and low parts have w bits.
@@ -91,6 +103,6 @@ pub fn add_pages(block: &mut [u8], g: Shape, from: usize, list: &[u32])
     if g.w == BITMAP {
         add_map(block, g.upper, list);
     } else {
-        add_all(block, g, from, 0, list);
+        add_all(block, g, from, list);
     }
 }

@@ -333,15 +333,15 @@ raised-zero (x ∷ xs) = ap₂ (λ (y : ℕ) (l : List ℕ). y ∷ l) (zero-add 
 
 -- the k elements ys from number d on
 module _ (U d k : ℕ) (es ys : List ℕ) (r : rising 0 U es ≡ true) (is : ys ≡ take k (drop d es)) where
-  pub stretch-rises : rising 0 U (raised 0 ys) ≡ true
-  stretch-rises = rw (raised-zero ys, is) (rising-front U (drop d es) (rising-back U es r d) k)
+  pub stretch-rises : rising 0 U ys ≡ true
+  stretch-rises = rw is (rising-front U (drop d es) (rising-back U es r d) k)
 
   pub stretch-added : (n i : ℕ) (s t : List ℕ) → d ≤ length es → size U n ≤ length s
-      → t ≡ added U n i (take d es) s → added U n (i + d) (raised 0 ys) t ≡ added U n i (take (d + k) es) s
+      → t ≡ added U n i (take d es) s → added U n (i + d) ys t ≡ added U n i (take (d + k) es) s
   stretch-added n i s t h l e =
       let f : i + d ≡ i + length (take d es) = omega (arith, length-take-le d es h) in
       let c : take d es ++ take k (drop d es) ≡ take (d + k) es = sym (take-add d k es) in
-      ap₂ (λ (xs b : List ℕ). added U n (i + d) xs b) (raised-zero ys ∙ is) e
+      ap₂ (λ (xs b : List ℕ). added U n (i + d) xs b) is e
       ∙ ap (λ (j : ℕ). added U n j (take k (drop d es)) (added U n i (take d es) s)) f
       ∙ added-twice U n i (take d es) (take k (drop d es)) s (rw c (rising-front U es r (d + k))) l
       ∙ ap (λ (xs : List ℕ). added U n i xs s) c

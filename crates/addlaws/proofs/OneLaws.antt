@@ -14,7 +14,7 @@ use Rattle.rules.specs.Term.{raised}
 use Rattle.shape.specs.declared.Shape.{Shape}
 use Rattle.filllaws.specs.declared.Lows.{Lows}
 use Rattle.addlaws.specs.declared.Highs.{Highs}
-use Rattle.addlaws.specs.Adding.{LowOne, HighOne, Asked, BothLaid, Slot}
+use Rattle.addlaws.specs.Adding.{LowOne, HighOne, Asked, Slots, BothLaid, Slot}
 use Rattle.addlaws.proofs.BothLaws.{both-none, both-high, both-low}
 
 pub raised-one : (x : ℕ) → raised x (0 ∷ []) ≡ x ∷ []
@@ -28,6 +28,10 @@ rising-one x U h = rw (le-leb 0 x (omega arith), lt-ltb x U h)
 -- a slot's shape, in the numbers that are at hand
 abbrev pub shapeAt : ℕ → ℕ → ℕ → Shape → Shape
 shapeAt lo up w g = record { u = g .u; n = g .n; w = w; bits = g .bits; lower = lo; upper = up; end = g .end }
+
+pub slots-asked : {lo up w i b : ℕ} {xs d : List ℕ} {g : Shape} → Slots lo up w i b xs d g
+    → Asked (shapeAt lo up w g) i b xs d
+slots-asked o = rw (← o .lower-is, ← o .upper-is, ← o .width-is) (o .asked)
 
 module _ {lo up w i x : ℕ} {d : List ℕ} {g : Shape} (o : Slot lo up w i x d g) where
   pub one-asked : Asked (shapeAt lo up w g) i x (0 ∷ []) d

@@ -10,6 +10,9 @@
 --   reach w i b xs j       the place behind that of element j - 1 of those that xs gives above b, the first number i;
 --                          0 for none
 --   Asked g i b xs d       those elements may be laid from number i on into a block of shape g at the front of d
+--   Slots lower upper w i b xs d g  the same, with its runs at these bytes and low parts of w bits
+--   HasSlots lower upper w i b xs d  a block of some shape is asked so
+--   AllAdded lower upper w i b xs d e  e is d with those elements laid, whatever the shape
 --   BothLaid g i b xs j k a h d e  e is d with the low parts of the first j of those elements and the ones of the
 --                          first k laid in the two runs of that block, but for what is in hand
 --   behind xs j            the number behind element j - 1 of xs; 0 for none
@@ -81,6 +84,20 @@ pub record Asked (g : Shape) (i b : ℕ) (xs d : List ℕ) : Type 0 where
   pub fitting : Fitting g d
   pub few : i + length xs ≤ g .n
   pub rises : rising 0 (g .u) (raised b xs) ≡ true
+
+pub record Slots (lower upper w i b : ℕ) (xs d : List ℕ) (g : Shape) : Type 0 where
+  pub asked : Asked g i b xs d
+  pub lower-is : g .lower ≡ lower
+  pub upper-is : g .upper ≡ upper
+  pub width-is : g .w ≡ w
+
+pub record HasSlots (lower upper w i b : ℕ) (xs d : List ℕ) : Type 0 where
+  pub shape : Shape
+  pub slots : Slots lower upper w i b xs d shape
+
+abbrev pub AllAdded : ℕ → ℕ → ℕ → ℕ → ℕ → List ℕ → List ℕ → List ℕ → Type 0
+AllAdded lower upper w i b xs d e =
+    (g : Shape) → Slots lower upper w i b xs d g → e ≡ added (g .u) (g .n) i (raised b xs) d
 
 pub record BothLaid (g : Shape) (i b : ℕ) (xs : List ℕ) (j k : ℕ) (a : Lows) (h : Highs) (d e : List ℕ) : Type 0 where
   pub low : List ℕ

@@ -25,7 +25,7 @@ pub fn add_sums(block: &mut [u8], g: Shape, from: usize, before: usize, counts: 
         let mut part = [0u32; 256];
         let next = stretches::next_sums(&mut part, counts, at);
         let k = next.done - at.done;
-        adding::add_all(block, g, from + at.done, 0, &part[0..k]);
+        adding::add_all(block, g, from + at.done, &part[0..k]);
         at = next;
     }
 }
@@ -53,7 +53,7 @@ pub fn add_places(
         let mut part = [0u32; 256];
         let next = stretches::next_places(&mut part, counts, positions, at);
         let k = next.done - at.done;
-        adding::add_all(block, g, from + at.done, 0, &part[0..k]);
+        adding::add_all(block, g, from + at.done, &part[0..k]);
         at = next;
     }
 }

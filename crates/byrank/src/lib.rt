@@ -40,18 +40,22 @@ fn led_to(zeros: usize, v: usize, i: usize) -> usize
     v
 }
 
-// The place in the block's run of the one number `rank`, from the last number stored before it. It takes the three
-// numbers of the shape that it needs, and not the shape, so that a call has all in registers.
+// The place in the block's run of the one number `rank`, from the last number stored before it, or from the run's start
+// where none is stored. It takes the three numbers of the shape that it needs, and not the shape, so that a call has all
+// in registers.
 fn place_of(table: &Table, block: &[u8], last: usize, n: usize, upper: usize, rank: usize) -> usize
     requires { ⌜ Sought (now block) last n (zerosPer (formAt (now block))) rank
         × JumpsIn (now block) upper n last (zerosPer (formAt (now block))) × PlacesOfOnes (now table) ⌝ }
     ensures { λ r. ⌜ OneAt (now (block .entry)) upper rank r ⌝ }
 {
+    let end = block.len();
+    if last == 0 {
+        return one_past(table, &block[upper..end], 0, 0, rank);
+    }
     let zeros = pointers::zeros_per(block);
     let i = pointers::number_before(block, last, n, zeros, rank);
     let v = reading::number_in(block, i);
     let start = led_to(zeros, v, i);
-    let end = block.len();
     one_past(table, &block[upper..end], start, v - zeros * i, rank)
 }
 

@@ -100,9 +100,6 @@ pub fn number_before(block: &[u8], last: usize, n: usize, zeros: usize, rank: us
     requires { ⌜ Sought (now block) last n zeros rank ⌝ }
     ensures { λ r. ⌜ LastBefore (now (block .entry)) last zeros rank r ⌝ }
 {
-    if last == 0 {
-        return 0;
-    }
     let near = narrowed(block, last, n, zeros, rank);
     let mut low = near.low;
     let mut high = near.high;

@@ -45,7 +45,15 @@ fn add_page(room: &mut [u8], g: Layout, s: Stream, pages: &[u32], counts: &[u32]
         laid,
         sum,
     );
-    adding::add_all(&mut room[third..], last, filled, s.base as usize, positions);
+    adding::add_above(
+        &mut room[third..],
+        last.lower,
+        last.upper,
+        last.w,
+        filled,
+        s.base as usize,
+        positions,
+    );
 }
 
 // Lays the postings of any number of pages. The layout is worked out again, as the caller's stays in registers only

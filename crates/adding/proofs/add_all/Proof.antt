@@ -1,164 +1,41 @@
--- `add_all` lays elements one by one: the low parts and the ones of the first i are laid or in hand.
-use mathlib.Core.Path.{_≡_, refl, subst}
+-- `add_all` hands the shape's numbers on: an element above the base 0 is itself.
+use mathlib.Core.Path.{refl, ap, _∙_}
 use mathlib.Core.List.{List}
-use Prim.Native.Nat.{ℕ, _+_, _-_, _/_, _^_, _≤_, _<_}
-use native.Mathlib.Omega.{arith}
+use Prim.Native.Nat.{ℕ}
 use borrow.Author.Needs.{needs}
-use borrow.Rule.Slice.PartMut.{putMid}
-use lib.ListN.{length, getD}
-use lib.Pow.{shr-le}
-use Rattle.addlaws.specs.Adding.{Asked, BothLaid}
-use Rattle.addlaws.proofs.AddLaws.{lows-lt}
-use Rattle.addlaws.proofs.ElementLaws.{given-below, given-small}
-use Rattle.addlaws.proofs.AddedLaws.{runs-in}
-use Rattle.addlaws.proofs.BothLaws.{both-none, both-long, high-room, both-high, low-room, both-low}
-use Rattle.addlaws.proofs.BothLaws.{last-room, both-added}
+use Rattle.rules.specs.InPlace.{added}
+use Rattle.addlaws.specs.Adding.{Slots}
+use Rattle.addlaws.proofs.MoreLaws.{raised-zero}
 use Rattle.adding.proofs.add_all.Statement.{statement}
 use Rattle.adding.proofs.add_all.Tie as tie
 
-abbrev Inv-loop : tie.InvT-loop
-Inv-loop block₀ g from base list lower upper lows₀ highs₀ i₀ i-end block lows highs i =
-    (i ≤ length list) × (i-end ≡ length list) × BothLaid g from base list i i lows highs block₀ block
+-- the shape is asked in its own numbers
+slots : (s : tie.Start)
+    → let a = s .args in
+    Slots (a .g .lower) (a .g .upper) (a .g .w) (a .from) 0 (a .list .now) (a .block .now) (a .g)
+slots s = record {
+  asked = record {
+    fitting = s .pre .0;
+    few = s .pre .1;
+    rises = rw (raised-zero (s .args .list .now)) (s .pre .2);
+  };
+  lower-is = refl;
+  upper-is = refl;
+  width-is = refl;
+}
 
-abbrev μ-loop : tie.MeasureT-loop
-μ-loop block₀ g from base list lower upper lows₀ highs₀ i₀ i-end block lows highs i = length list - i
+add-above-requires : tie.Need-add-above-requires
+add-above-requires c κs =
+    let s = c .before .before .before in
+    record { shape = s .args .g; slots = slots s }
 
--- the start, seen from the loop
-abbrev entry : tie.At-loop Inv-loop μ-loop → tie.Start Inv-loop μ-loop
-entry l = l .before .before .before .before .before
-
-ask : (s : tie.Start Inv-loop μ-loop)
-    → let a = s .args in Asked (a .g) (a .from) (a .base) (a .list .now) (a .block .now)
-ask s = record { fitting = s .pre .0; few = s .pre .1; rises = s .pre .2 }
-
-loop-holds : tie.Need-loop-holds Inv-loop μ-loop
-loop-holds c =
-    let k = c .before .before .before in
-    (omega arith, refl, both-none (ask (k .before)) (λ i. k .slice-known .given i .fits) (c .nothing-laid .ensures))
-
--- in the loop element i is one of the list's
-going : (c : tie.In-loop Inv-loop μ-loop) → c .before .loop .i < length (entry (c .before) .args .list .now)
-going c = omega arith
-
--- it is below U, and the sums that are made of it are small
-small : (l : tie.At-loop Inv-loop μ-loop) → l .loop .i < length (entry l .args .list .now)
-    → let a = entry l .args in
-    let x : ℕ = a .base + getD (a .list .now) (l .loop .i) 0 in
-    (a .g .w ≤ 24) × (x ≤ 2 ^ 24) × (a .from + l .loop .i ≤ 2 ^ 24) × (x / 2 ^ a .g .w ≤ 2 ^ 24)
-small l h =
-    let a = entry l .args in
-    let t = given-small (ask (entry l)) in
-    let b = given-below (ask (entry l)) (l .loop .i) h in
-    let r = shr-le (a .base + getD (a .list .now) (l .loop .i) 0) (a .g .w) in
-    (t .0, omega (arith, t, b), omega (arith, t, h), omega (arith, t, b, r))
-
--- the runs lie in the block, which keeps its length
-runs : (l : tie.At-loop Inv-loop μ-loop)
-    → let a = entry l .args in (a .g .lower ≤ a .g .upper) × (a .g .upper ≤ length (l .loop .block))
-    × (length (l .loop .block) ≡ length (a .block .now))
-runs l =
-    let r = runs-in (entry l .args .g) (entry l .args .block .now) (entry l .pre .0) in
-    let n = both-long (ask (entry l)) (l .loop .inv .2) in
-    (r .0, omega (arith, r, n), n)
-
--- the loop, and the block, behind the one of element i
-abbrev turn : tie.After-slice-known2 Inv-loop μ-loop → tie.In-loop Inv-loop μ-loop
-turn c = c .before .before .before .before .before .before
-
-abbrev risen : tie.After-slice-known2 Inv-loop μ-loop → List ℕ
-risen c =
-    let l = turn c .before in
-    let upper = entry l .args .g .upper in
-    putMid upper (length (l .loop .block) - upper) (l .loop .block) (c .before .before .add-high .last .0)
-
-one-set : (c : tie.After-slice-known2 Inv-loop μ-loop)
-    → let l = turn c .before in
-    let a = entry l .args in
-    BothLaid (a .g) (a .from) (a .base) (a .list .now) (l .loop .i) (l .loop .i + 1) (l .loop .lows)
-    (c .before .before .add-high .result) (a .block .now) (risen c)
-one-set c =
-    let l = turn c .before in
-    both-high (ask (entry l)) (l .loop .inv .2) (going (turn c)) (c .before .before .add-high .ensures)
-
-add-low-requires : tie.Need-add-low-requires Inv-loop μ-loop
-add-low-requires c κs =
-    let t = turn (c .before) in
-    let l = t .before in
-    let d = l .loop .inv .2 .lows in (
-      d .short,
-      omega (arith, small l (going t)),
-      lows-lt _ _ _ (l .loop .lows) _ _ d,
-      low-room (ask (entry l)) (one-set (c .before)) (going t),
-    )
-
-loop-again : tie.Need-loop-again Inv-loop μ-loop
-loop-again c =
-    let k = c .before .before .before .before in
-    let t = turn k in (
-      omega (arith, going t),
-      refl,
-      both-low (ask (entry (t .before))) (one-set k) (going t) (c .before .before .add-low .ensures),
-    )
-
--- where the loop ends, all elements are laid or in hand
-all : (l : tie.At-loop Inv-loop μ-loop) → length (entry l .args .list .now) ≤ l .loop .i
-    → let a = entry l .args in
-    let n : ℕ = length (a .list .now) in
-    BothLaid (a .g) (a .from) (a .base) (a .list .now) n n (l .loop .lows) (l .loop .highs) (a .block .now)
-    (l .loop .block)
-all l end =
-    let a = entry l .args in
-    let n : l .loop .i ≡ length (a .list .now) = omega arith in
-    subst (λ (k : ℕ). BothLaid (a .g) (a .from) (a .base) (a .list .now) k k (l .loop .lows) (l .loop .highs)
-    (a .block .now) (l .loop .block)) n (l .loop .inv .2)
-
-flush-requires-2 : tie.Need-flush-requires-2 Inv-loop μ-loop
-flush-requires-2 c κs =
-    let k = c .before .before .before in
-    let t = k .before .before in
-    last-room (ask (entry (t .before))) (all (t .before) (t .loop-test .left)) (k .flush .ensures)
-
-returns : tie.Need-returns Inv-loop μ-loop
+returns : tie.Need-returns
 returns c =
-    let k = c .before .before .before .before .before .before in
-    let t = k .before .before in
-    both-added (ask (entry (t .before))) (all (t .before) (t .loop-test .left)) (k .flush .ensures)
-    (c .before .before .flush2 .ensures)
+    let k = c .before .before in
+    let s = k .before .before .before .before in
+    let a = s .args in
+    k .add-above .ensures (a .g) (slots s)
+    ∙ ap (λ (xs : List ℕ). added (a .g .u) (a .g .n) (a .from) xs (a .block .now)) (raised-zero (a .list .now))
 
 pub add-all-spec : {M : Type 1} → statement M
-add-all-spec =
-    tie.close
-    (tie.spec
-    Inv-loop
-    μ-loop
-    (λ c. omega (arith, given-small (ask (c .before .before .before))))
-    (λ c κs. search needs)
-    loop-holds
-    (λ c. search needs)
-    (λ c. search needs)
-    (λ c. omega (arith, c .shared-slice-known2 .given (c .before .before .loop .i)))
-    (λ c. omega (arith, small (c .before .before) (omega arith)))
-    (λ c. runs (c .before .before) .1)
-    (λ c. omega (arith, runs (c .before .before)))
-    (λ c. search needs)
-    (λ c. omega (arith, small (c .before .before .before .before) (omega arith)))
-    (λ c. omega (arith, small (c .before .before .before .before) (omega arith)))
-    (λ c. omega (arith, small (c .before .before .before .before) (omega arith)))
-    (λ c κs. let l = c .before .before .before .before in high-room (ask (entry l)) (l .loop .inv .2))
-    (λ c. omega (arith, runs (turn c .before)))
-    (λ c. omega (arith, runs (turn c .before)))
-    (λ c. search needs)
-    add-low-requires
-    (λ c. search needs)
-    (λ c. search needs)
-    loop-again
-    (λ c. runs (c .before) .1)
-    (λ c. omega (arith, runs (c .before)))
-    (λ c. search needs)
-    (λ c κs. let l = c .before .before in high-room (ask (entry l)) (l .loop .inv .2))
-    (λ c. omega (arith, runs (c .before .before .before .before .before)))
-    (λ c. omega (arith, runs (c .before .before .before .before .before)))
-    (λ c. search needs)
-    flush-requires-2
-    (λ c. omega (arith, runs (c .before .before .before .before .before .before .before .before .before)))
-    returns)
+add-all-spec = tie.close (tie.spec add-above-requires (λ c. search needs) returns)

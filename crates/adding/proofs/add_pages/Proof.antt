@@ -1,10 +1,5 @@
 -- `add_pages` lays the pages into a bitmap or into two runs, by what the width tells.
-use mathlib.Core.Path.{ap, _∙_}
-use mathlib.Core.List.{List}
-use Prim.Native.Nat.{ℕ}
 use borrow.Author.Needs.{needs}
-use Rattle.rules.specs.InPlace.{added}
-use Rattle.addlaws.proofs.MoreLaws.{raised-zero}
 use Rattle.addlaws.proofs.PageLaws.{fits-runs, map-asked, laid-map, laid-runs}
 use Rattle.adding.proofs.add_pages.Statement.{statement}
 use Rattle.adding.proofs.add_pages.Tie as tie
@@ -22,7 +17,7 @@ add-all-requires : tie.Need-add-all-requires
 add-all-requires c κs =
     let s = c .before .before .before .before .before in
     let p = s .pre in
-    (fits-runs (p .fitting) (c .before .if1 .left), p .few, rw (raised-zero (s .args .list .now)) (p .rises))
+    (fits-runs (p .fitting) (c .before .if1 .left), p .few, p .rises)
 
 returns : tie.Need-returns
 returns c o shape =
@@ -40,8 +35,7 @@ returns-2 c o shape =
     let b = k .before .before in
     let a = b .before .before .before .before .args in
     laid-runs o (a .g) shape (a .from) (a .list .now) (a .block .now) (k .add-all .last .0) (b .if1 .left)
-    (k .add-all .ensures
-    ∙ ap (λ (xs : List ℕ). added (a .g .u) (a .g .n) (a .from) xs (a .block .now)) (raised-zero (a .list .now)))
+    (k .add-all .ensures)
 
 pub add-pages-spec : {M : Type 1} → statement M
 add-pages-spec =

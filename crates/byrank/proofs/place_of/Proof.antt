@@ -1,27 +1,45 @@
--- `place_of` goes on from where the last number leads that has at most `rank` ones before it.
+-- `place_of` goes on from where the last number leads that has at most `rank` ones before it, or from the run's start.
 use mathlib.Core.Path.{refl}
 use Prim.Native.Nat.{ℕ, _-_, _*_}
 use native.Mathlib.Omega.{arith}
 use borrow.Author.Needs.{needs}
+use Rattle.rules.specs.Counts.{onesBelow}
 use Rattle.readlaws.specs.Open.{numberAt, jumpFrom, Sought, JumpsIn}
 use Rattle.readlaws.proofs.NearLaws.{zeros-small, compares-lower}
 use Rattle.readlaws.proofs.PartLaws.{run-ahead, run-one}
 use Rattle.byrank.proofs.place_of.Statement.{statement}
 use Rattle.byrank.proofs.place_of.Tie as tie
 
+one-past-requires : tie.Need-one-past-requires
+unfolding onesBelow
+one-past-requires c κs =
+    let start = c .before .before .before in
+    let a = start .args in (
+      run-ahead (a .block .now) (a .upper) (a .n) (start .pre .1 .run) _ refl 0 0 (a .rank) refl (omega arith)
+          (start .pre .0 .below),
+      start .pre .2,
+    )
+
+returns : tie.Need-returns
+returns c =
+    let start = c .before .before .before .before in
+    let a = start .args in
+    run-one (a .block .now) (a .upper) (a .n) (start .pre .1 .run) _ refl (a .rank) (c .one-past .result)
+    (c .one-past .ensures .0) (c .one-past .ensures .1)
+
 -- what is required, with the zeros that were read
 known : (c : tie.After-zeros-per)
-    → let a = c .before .before .args in
+    → let a = c .before .before .before .args in
     Sought (a .block .now) (a .last) (a .n) (c .zeros-per .result) (a .rank)
     × JumpsIn (a .block .now) (a .upper) (a .n) (a .last) (c .zeros-per .result)
 known c =
-    let p = c .before .before .pre in
+    let p = c .before .before .before .pre in
     rw (c .zeros-per .ensures) (p .0, p .1)
 
 mul-one-past : tie.Need-mul-one-past
 mul-one-past c =
     let found = c .before .before .before in
-    let a = found .before .before .before .args in
+    let a = found .before .before .before .before .args in
     let s = a .block .now in
     let i : ℕ = found .number-before .result in
     let zeros : ℕ = found .before .zeros-per .result in
@@ -29,17 +47,17 @@ mul-one-past c =
     (found .number-before .ensures .ends .within) in
     record { fits = omega (arith, zeros-small s i zeros (a .rank) p) }
 
-sub-one-past-2 : tie.Need-sub-one-past-2
-sub-one-past-2 c =
+sub-one-past-3 : tie.Need-sub-one-past-3
+sub-one-past-3 c =
     let found = c .before .before .before in
     let last = found .number-before in
     rw (c .before .before .number-in .ensures)
     (known (found .before) .1 .zeros-before (last .result) (last .ensures .ends .within))
 
-one-past-requires : tie.Need-one-past-requires
-one-past-requires c κs =
+one-past-requires-2 : tie.Need-one-past-requires-2
+one-past-requires-2 c κs =
     let found = c .before .before .before in
-    let start = found .before .before .before in
+    let start = found .before .before .before .before in
     let a = start .args in
     let s = a .block .now in
     let i : ℕ = found .number-before .result in
@@ -53,17 +71,22 @@ one-past-requires c κs =
       start .pre .2,
     )
 
-returns : tie.Need-returns
-returns c =
-    let start = c .before .before .before .before .before .before .before in
+returns-2 : tie.Need-returns-2
+returns-2 c =
+    let start = c .before .before .before .before .before .before .before .before in
     let a = start .args in
-    run-one (a .block .now) (a .upper) (a .n) (start .pre .1 .run) _ refl (a .rank) (c .one-past .result)
-    (c .one-past .ensures .0) (c .one-past .ensures .1)
+    run-one (a .block .now) (a .upper) (a .n) (start .pre .1 .run) _ refl (a .rank) (c .one-past2 .result)
+    (c .one-past2 .ensures .0) (c .one-past2 .ensures .1)
 
 pub place-of-spec : {M : Type 1} → statement M
 place-of-spec =
     tie.close
     (tie.spec
+    (λ c. search needs)
+    (λ c. search needs)
+    (λ c. search needs)
+    one-past-requires
+    returns
     (λ c κs. search needs)
     (λ c κs. known c .0)
     (λ c κs. search needs)
@@ -72,6 +95,6 @@ place-of-spec =
     (λ c. search needs)
     (λ c. search needs)
     mul-one-past
-    sub-one-past-2
-    one-past-requires
-    returns)
+    sub-one-past-3
+    one-past-requires-2
+    returns-2)

@@ -1,15 +1,16 @@
 -- `add_page` lends each list its part of the room, which comes back with the page, its sum and its positions laid.
-use mathlib.Core.Path.{ap, _∙_}
+use mathlib.Core.Path.{refl, ap, _∙_}
 use mathlib.Core.List.{List, [], _∷_}
 use Prim.Native.Nat.{ℕ, _+_, _-_}
 use native.Mathlib.Omega.{arith}
-use borrow.Rule.Slice.PartMut.{putMid}
+use borrow.Rule.Slice.PartMut.{midOf, putMid}
 use borrow.Author.Needs.{needs}
 use lib.ListN.{length, getD}
 use Rattle.rules.specs.Term.{raised}
 use Rattle.rules.specs.List.{formOf}
 use Rattle.rules.specs.InPlace.{from, added, formAdded}
 use Rattle.wordlaws.proofs.PieceLaws.{part-long}
+use Rattle.addlaws.specs.Adding.{Slots}
 use Rattle.addlaws.proofs.FromLaws.{part-from}
 use Rattle.sessionlaws.proofs.LayoutLaws.{house-places, house-positions}
 use Rattle.sessionlaws.proofs.PutLaws.{laying-house, one-count, page-slot, sum-slot, ask-raised, one-told}
@@ -69,20 +70,36 @@ add-one-requires c κs =
       slot = sum-slot (s .pre .0) (s .pre .1) _ (omega (arith, part-long (s .args .g .second) (paged b)));
     }
 
-sub-add-all : tie.Need-sub-add-all
-sub-add-all c =
+sub-add-above : tie.Need-sub-add-above
+sub-add-above c =
     let p = from-counts c .pre .0 in
     omega (arith, house-places (laying-house p), p .fits)
 
-add-all-requires : tie.Need-add-all-requires
-add-all-requires c κs =
-    let b = c .before .before in
-    let s = from-counts b in
-    let a = ask-raised (s .pre .0) (s .pre .1) in (
-      house-positions (laying-house (s .pre .0)) _ (omega (arith, part-long (s .args .g .third) (counted b))),
-      a .0,
-      a .1,
-    )
+-- the positions have their places behind the room's own, seen from behind the sum
+slots : (c : tie.After-slice-known3)
+    → let s = from-counts c in
+    let g = s .args .g in
+    let p = g .positions in
+    let r : List ℕ = counted c in
+    Slots (p .lower) (p .upper) (p .w) (s .args .s .filled) (s .args .s .base) (s .args .positions .now)
+    (midOf (g .third) (length r - g .third) r) p
+slots c =
+    let s = from-counts c in
+    let a = ask-raised (s .pre .0) (s .pre .1) in
+    record {
+      asked = record {
+        fitting =
+            house-positions (laying-house (s .pre .0)) _ (omega (arith, part-long (s .args .g .third) (counted c)));
+        few = a .0;
+        rises = a .1;
+      };
+      lower-is = refl;
+      upper-is = refl;
+      width-is = refl;
+    }
+
+add-above-requires : tie.Need-add-above-requires
+add-above-requires c κs = record { shape = from-counts (c .before .before) .args .g .positions; slots = slots (c .before .before) }
 
 same-length : tie.Need-same-length
 same-length c =
@@ -106,7 +123,8 @@ returns c =
     let C : List ℕ → List ℕ = added (g .counts .u) (g .counts .n) (x .laid) (sum ∷ []) in
     let Q : List ℕ → List ℕ = added (g .positions .u) (g .positions .n) (x .filled)
     (raised (x .base) (s .args .positions .now)) in
-    part-from (g .third) Q (counted b) (c .before .before .add-all .last .0) (c .before .before .add-all .ensures)
+    part-from (g .third) Q (counted b) (c .before .before .add-above .last .0)
+    (c .before .before .add-above .ensures (g .positions) (slots b))
     ∙ ap (from (g .third) Q)
     (part-from (g .second) C (paged d) (b .before .before .add-one .last .0)
     (b .before .before .add-one .ensures (g .counts) (sum-slot p one _ (omega (arith, m))))
@@ -133,10 +151,10 @@ add-page-spec =
     sub-add-one
     (λ c. search needs)
     add-one-requires
-    sub-add-all
-    sub-add-all
+    sub-add-above
+    sub-add-above
     (λ c. search needs)
     (λ c. search needs)
-    add-all-requires
+    add-above-requires
     same-length
     returns)
