@@ -5,7 +5,7 @@ from sentences.names import FRESH, LOOK, LOW_PART, OF_SEEK, POINTER, RUN_WORD, S
 
 NUMBERS = {
     "walklaws::Cursor": {"mark": "u32", "bit": "u32", "seeks": "u32", "looks": "u32"},
-    "walklaws::Landing": {"mark": "u32", "bit": "u32"},
+    "walklaws::Landing": {"mark": "u32", "bit": "usize"},
     "shape::Shape": dict.fromkeys(["u", "n", "w", "bits", "lower", "upper", "end"], "usize"),
 }
 # what other crates call of the seek's
