@@ -25,31 +25,28 @@ fn add_page(room: &mut [u8], g: Layout, s: Stream, pages: &[u32], counts: &[u32]
     let filled = s.filled as usize;
     let second = g.second;
     let third = g.third;
-    let first = g.pages;
-    let sums = g.counts;
-    let last = g.positions;
     let sum = filled + counts[0] as usize - 1;
     adding::add_page(
         &mut room[LISTS_AT..],
-        first.lower,
-        first.upper,
-        first.w,
+        g.pages.lower,
+        g.pages.upper,
+        g.pages.w,
         laid,
         pages,
     );
     adding::add_one(
         &mut room[second..],
-        sums.lower,
-        sums.upper,
-        sums.w,
+        g.counts.lower,
+        g.counts.upper,
+        g.counts.w,
         laid,
         sum,
     );
     adding::add_above(
         &mut room[third..],
-        last.lower,
-        last.upper,
-        last.w,
+        g.positions.lower,
+        g.positions.upper,
+        g.positions.w,
         filled,
         s.base as usize,
         positions,

@@ -19,7 +19,7 @@ use Rattle.putpostings.proofs.add_page.Tie as tie
 
 -- the start, seen from before the first list and from behind each of the others
 abbrev from-start : tie.After-shared-slice-known4 → tie.Start
-from-start c = c .before .before .before .before .before .before .before .before .before .before
+from-start c = c .before .before .before .before .before .before .before
 
 abbrev from-pages : tie.After-slice-known2 → tie.Start
 from-pages c = from-start (c .before .before .before .before)
