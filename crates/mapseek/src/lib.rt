@@ -23,7 +23,7 @@ fn on_page(page: usize) -> Landing
 // Where the word of bit b has no page from b on: looks at the next, and while it has none at the one after, up to the
 // last; the first one is the page.
 fn find_behind(s: &[u8], g: Shape, b: usize, looks: &mut u32) -> Landing
-    requires { ⌜ MapOpen (now s) g × (0 < g .n) × (b < g .u) × (now looks ≤ 2 ^ 31 + b / 64)
+    requires { ⌜ MapOpen (now s) g × (b < g .u) × (now looks ≤ 2 ^ 31 + b / 64)
         × (runWord (now s) (g .upper) (b / 64) / 2 ^ (b % 64) ≡ 0) ⌝ }
     ensures { λ r. ⌜ Landed bitmap (now (s .entry)) b r
         × Paid (b / 64) (now (looks .entry)) (landingWord bitmap (now (s .entry)) b) (now (looks .exit)) ⌝ }
@@ -45,7 +45,7 @@ fn find_behind(s: &[u8], g: Shape, b: usize, looks: &mut u32) -> Landing
 // Looks at the word of bit b, and while no one is left at the next, up to the last; the first one that is left is the
 // page. Where b itself is likely to be one its bit is tested first, so that what comes next need not wait for the word.
 pub fn find_in_map(s: &[u8], g: Shape, b: usize, likely: bool, looks: &mut u32) -> Landing
-    requires { ⌜ MapOpen (now s) g × (0 < g .n) × (b < g .u) × (now looks < 2 ^ 31) ⌝ }
+    requires { ⌜ MapOpen (now s) g × (b < g .u) × (now looks < 2 ^ 31) ⌝ }
     ensures { λ r. ⌜ Landed bitmap (now (s .entry)) b r
         × Paid (b / 64) (now (looks .entry) + 1) (landingWord bitmap (now (s .entry)) b) (now (looks .exit)) ⌝ }
 {

@@ -144,6 +144,20 @@ module _ (v N P Q U : ℕ) (p c q : Shape) (e : p ≡ formShape (formOf v N P) N
   )
 
 -- of an accepted announcement
+pub announcing : (v N P Q U : ℕ) → announceRefusal v N P Q U ≡ Accepted → {p c q : Shape}
+    → p ≡ formShape (formOf v N P) N P → c ≡ shapeOf Q P → q ≡ shapeOf U Q → Announcing p c q
+announcing v N P Q U a e f h = record {
+  version = v;
+  n = N;
+  pages = P;
+  positions = Q;
+  u = U;
+  paged = e;
+  counted = f;
+  placed = h;
+  accepts = a;
+}
+
 pub announcing-small : {p c q : Shape} → Announcing p c q → 5 + p .end + c .end + q .end < 2 ^ 32
 announcing-small {p} {c} {q} a =
     ends-small (a .version) (a .n) (a .pages) (a .positions) (a .u) p c q (a .paged) (a .counted) (a .placed)

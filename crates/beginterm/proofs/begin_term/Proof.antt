@@ -16,7 +16,7 @@ use Rattle.sessionlaws.specs.Session.{Announced}
 use Rattle.sessionlaws.specs.Layout.{layoutOf, Housed}
 use Rattle.sessionlaws.proofs.AnnounceLaws.{announced-parts}
 use Rattle.sessionlaws.proofs.AnswerLaws.{streamed-is, begin-refused, begin-short, begin-opened}
-use Rattle.sessionlaws.proofs.LayoutLaws.{housed, size-is}
+use Rattle.sessionlaws.proofs.LayoutLaws.{announcing, housed, size-is}
 use Rattle.sessionlaws.proofs.FrameLaws.{announced-told}
 use Rattle.beginterm.proofs.begin_term.Statement.{statement}
 use Rattle.beginterm.proofs.begin_term.Tie as tie
@@ -69,17 +69,8 @@ layout-requires : tie.Need-layout-requires
 layout-requires c κs =
     let p = c .before .before in
     let a = begun (p .before) .args in
-    record {
-      version = a .version;
-      n = a .n;
-      pages = a .pages;
-      positions = a .positions;
-      u = a .u;
-      paged = p .pages-shape .ensures;
-      counted = c .before .shape-of .ensures;
-      placed = c .shape-of2 .ensures;
-      accepts = told (p .before);
-    }
+    announcing (a .version) (a .n) (a .pages) (a .positions) (a .u) (told (p .before)) (p .pages-shape .ensures)
+    (c .before .shape-of .ensures) (c .shape-of2 .ensures)
 
 -- the layout is that of the announcement
 layout-is : (c : tie.After-layout)

@@ -31,7 +31,7 @@ loop-holds : tie.Need-loop-holds Inv-loop μ-loop
 loop-holds c =
     let start = c .before .before in
     let a = start .args in
-    (map-none-there (a .s .now) (a .g) (stored start) (a .b) (inside start) (start .pre .4), refl)
+    (map-none-there (a .s .now) (a .g) (stored start) (a .b) (inside start) (start .pre .3), refl)
 
 -- the function's own start, seen from the loop
 abbrev begun : tie.At-loop Inv-loop μ-loop → tie.Start Inv-loop μ-loop
@@ -45,7 +45,7 @@ returns c =
     let end : at .loop .k + 1 ≡ wordsFor (a .g .bits) = unfold wordsFor
     in omega (arith, inside start, c .before .if1 .taken) in
     let l = map-lands-none (a .s .now) (a .g) (stored start) (a .b) (inside start) (at .loop .left) (at .loop .k)
-    (at .loop .inv .0) (start .pre .1) (c .before .before .loop-test .taken) end _ (c .none .ensures .0)
+    (at .loop .inv .0) (omega (arith, start .pre .0 .valid .some refl, stored start .n-is)) (c .before .before .loop-test .taken) end _ (c .none .ensures .0)
     (c .none .ensures .1) in
     (l .0, omega (arith, l .1, at .loop .inv .1))
 
@@ -60,7 +60,7 @@ more c =
 next-word-requires : tie.Need-next-word-requires Inv-loop μ-loop
 next-word-requires c κs =
     let at = c .before .before .before in
-    (stored (begun at) .run, more (c .before), omega (arith, at .loop .inv .1, begun at .pre .3))
+    (stored (begun at) .run, more (c .before), omega (arith, at .loop .inv .1, begun at .pre .2))
 
 loop-less : tie.Need-loop-less Inv-loop μ-loop
 loop-less c = omega (arith, more (c .before .before), c .next-word .ensures .1)

@@ -94,8 +94,7 @@ find-behind-requires c κs =
     let start = begun at in (
       start .pre .0,
       start .pre .1,
-      start .pre .2,
-      omega (arith, at .look .ensures .1, start .pre .3),
+      omega (arith, at .look .ensures .1, start .pre .2),
       omega (arith, rest-is at, c .before .if3 .left),
     )
 

@@ -13,7 +13,7 @@ use Rattle.sessionlaws.specs.Session.{Announced}
 use Rattle.sessionlaws.specs.Layout.{layoutOf}
 use Rattle.sessionlaws.specs.Follow.{Laying}
 use Rattle.sessionlaws.proofs.LiveLaws.{live-parts}
-use Rattle.sessionlaws.proofs.LayoutLaws.{size-is}
+use Rattle.sessionlaws.proofs.LayoutLaws.{announcing, size-is}
 use Rattle.sessionlaws.proofs.AnswerLaws.{streamed-is}
 use Rattle.sessionlaws.proofs.PutLaws.{run-follows, ask-advance, advanced-told}
 use Rattle.sessionlaws.proofs.PutLaws.{put-dead, put-short, put-spoilt, put-laid}
@@ -97,17 +97,8 @@ layout-requires c κs =
     let k = from-counts l in
     let e = from-pages k in
     let s = from-test (e .before) .args .s in
-    record {
-      version = s .version;
-      n = s .n;
-      pages = s .pages;
-      positions = s .positions;
-      u = s .u;
-      paged = k .pages-shape .ensures;
-      counted = l .shape-of .ensures;
-      placed = c .shape-of2 .ensures;
-      accepts = live-parts s (goes-on e) .accepts;
-    }
+    announcing (s .version) (s .n) (s .pages) (s .positions) (s .u) (live-parts s (goes-on e) .accepts)
+    (k .pages-shape .ensures) (l .shape-of .ensures) (c .shape-of2 .ensures)
 
 returns-2 : tie.Need-returns-2
 returns-2 c =

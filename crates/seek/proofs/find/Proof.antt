@@ -78,7 +78,6 @@ find-in-map-requires c κs =
     let b = begun (tested at) in
     let m = map-moving at in (
       map at,
-      omega (arith, m .some, stored b .n-is),
       omega (arith, m .below, stored b .u-is),
       b .pre .2,
     )

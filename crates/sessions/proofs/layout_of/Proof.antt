@@ -3,6 +3,7 @@ use native.Mathlib.Omega.{arith}
 use borrow.Author.Needs.{needs}
 use Rattle.sessionlaws.specs.Session.{Live}
 use Rattle.sessionlaws.proofs.LiveLaws.{live-parts}
+use Rattle.sessionlaws.proofs.LayoutLaws.{announcing}
 use Rattle.sessions.proofs.layout_of.Statement.{statement}
 use Rattle.sessions.proofs.layout_of.Tie as tie
 
@@ -39,17 +40,8 @@ layout-requires c κs =
     let k = from-counts (from-places c) in
     let s = from-pages k in
     let x = s .args .s in
-    record {
-      version = x .version;
-      n = x .n;
-      pages = x .pages;
-      positions = x .positions;
-      u = x .u;
-      paged = k .pages-shape .ensures;
-      counted = from-places c .shape-of .ensures;
-      placed = c .shape-of2 .ensures;
-      accepts = lives s .accepts;
-    }
+    announcing (x .version) (x .n) (x .pages) (x .positions) (x .u) (lives s .accepts) (k .pages-shape .ensures)
+    (from-places c .shape-of .ensures) (c .shape-of2 .ensures)
 
 returns : tie.Need-returns
 returns c =
