@@ -1,7 +1,7 @@
 // Where the setting of ones in an upper run stands, and the laws of ones set in the runs of a block in place.
 
 // The upper run in hand: the ones that word number `word` gets.
-#[derive(Drop)]
+#[derive(Clone, Copy)]
 pub struct Highs {
     pub acc: u64,
     pub word: usize,

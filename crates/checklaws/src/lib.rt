@@ -2,7 +2,7 @@
 
 // Where the lower run is read: the part read last, what is left of the word read last and how many bits that is, and
 // the byte at which the next word starts.
-#[derive(Drop)]
+#[derive(Clone, Copy)]
 pub struct Low {
     pub part: u64,
     pub left: u64,
@@ -12,7 +12,7 @@ pub struct Low {
 
 // What is known of the words passed: whether nothing is wrong in them, how many elements they hold, the number of the
 // next pointer, and the last element as a pair of its high and its low part, 0 if there is none.
-#[derive(Drop)]
+#[derive(Clone, Copy)]
 pub struct Mid {
     pub ok: bool,
     pub i: usize,

@@ -1,7 +1,7 @@
 -- Common pages: the step rule's pages are those of plain reading whichever list leads, its seeks are
 -- at most k * m + 1, and its looks at most its seeks and the words of the lists' upper runs.
 use mathlib.Core.Bool.{Bool, true, false, ◌&&◌, false≢true, and-false, or-true}
-use mathlib.Core.Path.{◌≡◌, refl, sym, ap, ap₂, ◌∙◌}
+use mathlib.Core.Path.{◌≡◌, refl, sym, ap, ap₂, ◌∙◌, subst}
 use mathlib.Core.List.{List, [], ◌∷◌}
 use Prim.Native.Nat.{ℕ, suc, ◌+◌, ◌*◌, ◌≤◌, ◌<◌}
 use native.Mathlib.Nat.{mul-le-mul_left, le_trans}
@@ -89,7 +89,9 @@ module _ (ls : List (List ℕ)) where
     where
       go : member x (shared_by ls xs) ≡ member x xs && in_all x ls → (b : Bool) → in_all y ls ≡ b → Dec (x ≡ y)
           → member x (shared_by ls (y ∷ xs)) ≡ member x (y ∷ xs) && in_all x ls
-      go ih true e (yes d) = rw (shared_yes ls y xs e, d, member_here y (shared_by ls xs), member_here y xs) (sym e)
+      go ih true e (yes d) =
+          subst (λ (n : ℕ). member n (shared_by ls (y ∷ xs)) ≡ member n (y ∷ xs) && in_all n ls) (sym d)
+          (rw (shared_yes ls y xs e, member_here y (shared_by ls xs), member_here y xs) (sym e))
       go ih true e (no d) = rw (shared_yes ls y xs e, member_past x y (shared_by ls xs) d, member_past x y xs d) ih
       go ih false e (yes d) =
           let z : in_all x ls ≡ false = ap (λ (n : ℕ). in_all n ls) d ∙ e in

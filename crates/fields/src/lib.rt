@@ -17,7 +17,7 @@ pub fn field_of(lo: u64, hi: u64, b: usize, w: usize) -> u64
 }
 
 // A word that is full, and what goes on into the next.
-#[derive(Drop)]
+#[derive(Clone, Copy)]
 pub struct Pair {
     pub lo: u64,
     pub hi: u64,

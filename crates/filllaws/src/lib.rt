@@ -1,7 +1,7 @@
 // Where the writing of a list block stands, and the laws of laying one element after the other.
 
 // The lower run so far: its words that stand in the room, and the `have` bits above them.
-#[derive(Drop)]
+#[derive(Clone, Copy)]
 pub struct Lows {
     pub acc: u64,
     pub have: usize,
@@ -10,7 +10,7 @@ pub struct Lows {
 
 // The upper run so far: its words that stand in the room, the bits above them, and the next pointer's number.
 // A one below `stop` falls into the word in hand, and no pointer is due before it.
-#[derive(Drop)]
+#[derive(Clone, Copy)]
 pub struct Ups {
     pub acc: u64,
     pub words: usize,
@@ -19,7 +19,7 @@ pub struct Ups {
 }
 
 // A block of which `count` elements are laid.
-#[derive(Drop)]
+#[derive(Clone, Copy)]
 pub struct Filling {
     pub count: usize,
     pub lows: Lows,

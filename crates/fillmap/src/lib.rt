@@ -11,7 +11,7 @@ use rules::{LIST_HEADER, POINTER_SIZE};
 use shape::{BITMAP, Shape};
 
 // A word of a bitmap, and the number of the first element behind it.
-#[derive(Drop)]
+#[derive(Clone, Copy)]
 pub struct Gathered {
     pub word: u64,
     pub next: usize,

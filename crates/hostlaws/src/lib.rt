@@ -4,7 +4,7 @@ use rules::Stream;
 
 // What a writer, or closing an index, answers.
 #[repr(C)]
-#[derive(Drop)]
+#[derive(Clone, Copy)]
 pub struct HostWritten {
     pub refusal: u32,
     pub length: usize,
@@ -12,7 +12,7 @@ pub struct HostWritten {
 
 // What a call of a session answers: the length of the finished block, else 0, and the session to go on with.
 #[repr(C)]
-#[derive(Drop)]
+#[derive(Clone, Copy)]
 pub struct HostStreamed {
     pub refusal: u32,
     pub length: usize,
@@ -21,7 +21,7 @@ pub struct HostStreamed {
 
 // What a run of questions answers.
 #[repr(C)]
-#[derive(Drop)]
+#[derive(Clone, Copy)]
 pub struct HostAsked {
     pub refusal: u32,
     pub answered: usize,
@@ -30,7 +30,7 @@ pub struct HostAsked {
 
 // What a screen answers: how many pages it found, 1 where it is full, and then the bound of the next one.
 #[repr(C)]
-#[derive(Drop)]
+#[derive(Clone, Copy)]
 pub struct HostScreened {
     pub refusal: u32,
     pub found: usize,

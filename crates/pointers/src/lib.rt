@@ -70,7 +70,7 @@ fn high_near(block: &[u8], last: usize, guess: usize, zeros: usize, rank: usize)
 }
 
 // Numbers from `low` to `high`.
-#[derive(Drop)]
+#[derive(Clone, Copy)]
 struct Range {
     low: usize,
     high: usize,

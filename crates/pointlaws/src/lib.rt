@@ -2,7 +2,7 @@
 // crate has no function.
 
 // Words of a run that are passed, and the zeros in them.
-#[derive(Drop)]
+#[derive(Clone, Copy)]
 pub struct Passed {
     pub words: usize,
     pub zeros: usize,

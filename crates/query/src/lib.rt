@@ -13,7 +13,7 @@ use querylaws::{FROM, Listed, Query, TO, Turn};
 use walklaws::{Cursor, SPENT};
 
 // The query, and the cursor of it that is in hand.
-#[derive(Drop)]
+#[derive(Clone, Copy)]
 struct InHand {
     q: Query,
     hand: Cursor,

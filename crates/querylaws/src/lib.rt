@@ -23,7 +23,7 @@ pub const UPPER: usize = 6;
 pub const LENGTH: usize = 7;
 
 // The cursors of a question's lists, the lead's first.
-#[derive(Drop)]
+#[derive(Clone, Copy)]
 pub struct Query {
     pub cursors: [Cursor; 8],
 }
@@ -42,7 +42,7 @@ impl Query {
 
 // A query behind pages that were found, the mark of the last, page + 1, or SPENT where none is left, the bit at which the
 // last list has that page, or 0, and how many pages they are.
-#[derive(Drop)]
+#[derive(Clone, Copy)]
 pub struct Turn {
     pub q: Query,
     pub mark: u32,
@@ -51,7 +51,7 @@ pub struct Turn {
 }
 
 // How many pages were found, and the seeks and looks that they took.
-#[derive(Drop)]
+#[derive(Clone, Copy)]
 pub struct Listed {
     pub found: usize,
     pub seeks: u32,

@@ -7,7 +7,7 @@ ghost use Rattle.replies.specs.Running.{Started, Further, Stopped, Ended};
 use rules::{Outcome, Refusal};
 
 // How far a run of questions is: the place behind those answered, how many they are, and how much of the room is used.
-#[derive(Drop)]
+#[derive(Clone, Copy)]
 pub struct Run {
     pub at: usize,
     pub answered: usize,

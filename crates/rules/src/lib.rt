@@ -65,7 +65,7 @@ pub const INDEX_N_AT: usize = 5;
 pub const INDEX_T_AT: usize = 9;
 
 // Why bytes, lists or questions are refused; `number` of specs/Refusal.antt gives document 01's number.
-#[derive(Drop)]
+#[derive(Clone, Copy)]
 pub enum Refusal {
     Accepted,
     Short,
@@ -81,14 +81,14 @@ pub enum Refusal {
 }
 
 // What a writer, or closing an index, answers: the length of what stands in the room, 0 where it refused.
-#[derive(Drop)]
+#[derive(Clone, Copy)]
 pub struct Written {
     pub refusal: Refusal,
     pub size: usize,
 }
 
 // What a run of questions answers: how many it answered, and how many numbers of the room that took.
-#[derive(Drop)]
+#[derive(Clone, Copy)]
 pub struct Outcome {
     pub refusal: Refusal,
     pub answered: usize,
@@ -96,7 +96,7 @@ pub struct Outcome {
 }
 
 // What a screen answers: how many pages it found, 1 where it is full, and then the bound of the next one [02 e].
-#[derive(Drop)]
+#[derive(Clone, Copy)]
 pub struct Screened {
     pub refusal: Refusal,
     pub found: usize,
@@ -107,7 +107,7 @@ pub struct Screened {
 // Where the writing of a word in runs stands: what was announced, `version` being that of the index, and how far it is
 // laid. `mark` is 1 while postings may follow; `page` is the least page that may, and `base` the next page's [02 c].
 #[repr(C)]
-#[derive(Drop)]
+#[derive(Clone, Copy)]
 pub struct Stream {
     pub mark: u32,
     pub version: u32,
@@ -122,7 +122,7 @@ pub struct Stream {
 }
 
 // What a call of such a session answers: the length of the finished block, else 0, and the session after it.
-#[derive(Drop)]
+#[derive(Clone, Copy)]
 pub struct Streamed {
     pub refusal: Refusal,
     pub size: usize,

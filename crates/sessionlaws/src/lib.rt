@@ -3,7 +3,7 @@
 use shape::Shape;
 
 // The shapes of its three lists, the bytes at which the counts and the positions start, and its length.
-#[derive(Drop)]
+#[derive(Clone, Copy)]
 pub struct Layout {
     pub pages: Shape,
     pub counts: Shape,

@@ -12,7 +12,7 @@ pub const BITMAP: usize = 64;
 
 // U, n and w; the bits of the upper run; and the bytes at which the runs start and the block ends. A bitmap is an upper
 // run alone.
-#[derive(Drop)]
+#[derive(Clone, Copy)]
 pub struct Shape {
     pub u: usize,
     pub n: usize,

@@ -9,7 +9,7 @@ use bytetable::Table;
 use shape::Shape;
 
 // Where reading stands: how many elements are passed, one past the last of them, and the place behind its one.
-#[derive(Drop)]
+#[derive(Clone, Copy)]
 pub struct Walk {
     pub next: usize,
     pub past: usize,

@@ -5,7 +5,7 @@ ghost use Rattle.trial.specs.Tries.{tried_at, PairedBehind};
 
 // Where counting the starts on a page stands: how many words are turned to it, the start that is tried, how many words
 // stand there, and how many starts lie before it.
-#[derive(Drop)]
+#[derive(Clone, Copy)]
 pub struct Trial {
     pub turned: usize,
     pub start: usize,

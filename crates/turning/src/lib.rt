@@ -55,7 +55,7 @@ pub fn part_at<'a>(card: &'a [u8], shapes: &[u32], i: usize) -> &'a [u8]
 // ---- a word's page
 
 // The numbers of a page's positions among a word's: from `from` on and below `to`.
-#[derive(Drop)]
+#[derive(Clone, Copy)]
 pub struct Ranks {
     pub from: usize,
     pub to: usize,

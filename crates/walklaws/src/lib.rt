@@ -5,7 +5,7 @@ ghost use Rattle.walklaws.specs.Cursors.{unused};
 
 // A cursor on a list in either form: its mark is 0 where fresh, page + 1 on an element, or SPENT; the element's bit;
 // and its counts.
-#[derive(Drop)]
+#[derive(Clone, Copy)]
 pub struct Cursor {
     pub mark: u32,
     pub bit: u32,
@@ -31,7 +31,7 @@ impl Cursor {
 }
 
 // A place of an upper run, the zeros before it, and whether the cursor's own element is there: 1, else 0.
-#[derive(Drop)]
+#[derive(Clone, Copy)]
 pub struct StartPlace {
     pub bit: usize,
     pub zeros: usize,
@@ -39,7 +39,7 @@ pub struct StartPlace {
 }
 
 // What a walk has before it: what is left of word k, and the ones of the run before that.
-#[derive(Drop)]
+#[derive(Clone, Copy)]
 pub struct Ones {
     pub left: u64,
     pub k: usize,
@@ -48,7 +48,7 @@ pub struct Ones {
 
 // Where a search ends: the cursor's mark and bit. Two numbers of one size would be put into one register and taken apart
 // again, for which the next seek would wait.
-#[derive(Drop)]
+#[derive(Clone, Copy)]
 pub struct Landing {
     pub mark: u32,
     pub bit: usize,

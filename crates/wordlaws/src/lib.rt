@@ -3,28 +3,28 @@
 use shape::Shape;
 
 // Whether positions are in order, and if so the first number past their last.
-#[derive(Drop)]
+#[derive(Clone, Copy)]
 pub struct Reach {
     pub ok: bool,
     pub next: usize,
 }
 
 // The page that a stretch of positions starts on: its number, and how many of the stretch come before its end.
-#[derive(Drop)]
+#[derive(Clone, Copy)]
 pub struct Turn {
     pub page: usize,
     pub end: usize,
 }
 
 // How many counts are passed, and the sum up to there.
-#[derive(Drop)]
+#[derive(Clone, Copy)]
 pub struct Tally {
     pub done: usize,
     pub sum: usize,
 }
 
 // How many positions are passed, the page that the next one is on, and its base.
-#[derive(Drop)]
+#[derive(Clone, Copy)]
 pub struct Spot {
     pub done: usize,
     pub turn: Turn,
@@ -32,7 +32,7 @@ pub struct Spot {
 }
 
 // The shapes of a word's three lists.
-#[derive(Drop)]
+#[derive(Clone, Copy)]
 pub struct Shapes {
     pub pages: Shape,
     pub counts: Shape,

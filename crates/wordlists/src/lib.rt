@@ -11,7 +11,7 @@ ghost use Rattle.wordlists.specs.Opened.{OpenedPages};
 
 // The byte of a card at which a part starts, and that at which it has ended: what is kept of several parts, of which
 // there is no array.
-#[derive(Drop)]
+#[derive(Clone, Copy)]
 pub struct ByteRange {
     pub from: usize,
     pub to: usize,

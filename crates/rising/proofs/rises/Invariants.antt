@@ -1,0 +1,17 @@
+-- `rises` compares each element with the one before it: what is left to test gives what all of it gives, unless one falls.
+use mathlib.Core.Path.{◌≡◌, refl, sym, ◌∙◌, subst}
+use mathlib.Core.Logic.{inl, inr}
+use Prim.Native.Nat.{◌+◌, ◌-◌, ◌≤◌, ◌<◌}
+use native.Mathlib.Numerals.{add-one}
+use native.Mathlib.Omega.{arith}
+use lib.ListN.{length, get_or}
+use Rattle.filllaws.proofs.RiseLaws.{rising_none, climbs_end, Compared}
+use Rattle.filllaws.proofs.RiseLaws.{compared_none, compared_fell, compared_falls, compared_on}
+use Rattle.rising.proofs.rises.Given as goal
+
+abbrev pub invariant-loop-i : goal.invariant-loop-i
+invariant-loop-i l =
+    (1 ≤ l.i) × (l.i ≤ length l.list) × (l.i-end ≡ length l.list) × Compared l.u l.list l.falls l.i
+
+abbrev pub decreases-loop-i : goal.decreases-loop-i
+decreases-loop-i l = length l.list - l.i
