@@ -77,13 +77,13 @@ front_stored d a b c e used ver N T h p q r s =
 
 module _ (buffer : List ℕ) (used ver N T : ℕ) (r : Refusal) (is : r ≡ close_refusal buffer used ver N T) where
   -- what a test b of the refusal tells
-  pub close_refused : (b : Bool) → b ≡ accepted r → not b ≡ true → refused r buffer ≡ close_index buffer used ver N T
+  pub close_refused : (b : Bool) → b ≡ accepted r → b ≡ false → refused r buffer ≡ close_index buffer used ver N T
   unfolding close_index
   close_refused b told h =
-      let f : accepted (close_refusal buffer used ver N T) ≡ false = ap accepted (sym is) ∙ sym told ∙ not-true b h in
+      let f : accepted (close_refusal buffer used ver N T) ≡ false = ap accepted (sym is) ∙ sym told ∙ h in
       rw (f, is)
 
-  pub close_passed : (b : Bool) → b ≡ accepted r → not b ≡ false → Closable buffer used ver N T
+  pub close_passed : (b : Bool) → b ≡ accepted r → b ≡ true → Closable buffer used ver N T
   close_passed b told h = accepted_closable buffer used ver N T (told_passed b r (close_refusal buffer used ver N T) told is h)
 
 -- ---- what the answer tells

@@ -58,11 +58,11 @@ and_then_stop r q e = rw e
 
 -- what a test b of the refusal r tells, where r is q: the answer of q and then x, or that q has passed
 module _ (b : Bool) (r q : Refusal) (told : b ≡ accepted r) (is : r ≡ q) where
-  pub told_stop : (x : Refusal) → not b ≡ true → r ≡ and_then q x
-  told_stop x h = is ∙ sym (and_then_stop q x (ap accepted (sym is) ∙ sym told ∙ not-true b h))
+  pub told_stop : (x : Refusal) → b ≡ false → r ≡ and_then q x
+  told_stop x h = is ∙ sym (and_then_stop q x (ap accepted (sym is) ∙ sym told ∙ h))
 
-  pub told_passed : not b ≡ false → q ≡ Accepted
-  told_passed h = sym is ∙ accepted_true r (sym told ∙ not-false b h)
+  pub told_passed : b ≡ true → q ≡ Accepted
+  told_passed h = sym is ∙ accepted_true r (sym told ∙ h)
 
 pub and_then_assoc : (a b q : Refusal) → and_then (and_then a b) q ≡ and_then a (and_then b q)
 unfolding and_then

@@ -94,19 +94,19 @@ module _ (h : ℕ) (f : List ℕ → Refusal) (at : ℕ) (s : List ℕ) where
 -- what a test b of the answer r of `check_front` tells
 module _ (h at : ℕ) (s : List ℕ) (b : Bool) (r : Refusal) (told : b ≡ accepted r)
     (is : r ≡ front_refusal h (drop at s)) where
-  passed_front : not b ≡ false → front_refusal h (drop at s) ≡ Accepted
+  passed_front : b ≡ true → front_refusal h (drop at s) ≡ Accepted
   passed_front = told_passed b r (front_refusal h (drop at s)) told is
 
-  pub front_held : 4 ≤ h → at ≤ length s → not b ≡ false → Held at s
+  pub front_held : 4 ≤ h → at ≤ length s → b ≡ true → Held at s
   front_held k l e = inside_held h (λ _. Accepted) at s k l (passed_front e)
 
   module _ (f : List ℕ → Refusal) where
-    pub front_refused : not b ≡ true → r ≡ inside h f (drop at s)
+    pub front_refused : b ≡ false → r ≡ inside h f (drop at s)
     front_refused e = told_stop b r (front_refusal h (drop at s)) told is (f (take (be_at 4 s at) (drop at s))) e
         ∙ sym (front_then h f at s)
 
     -- x is the refusal of the part p
-    pub front_answers : (p : List ℕ) (x : Refusal) → not b ≡ false → p ≡ take (be_at 4 s at) (drop at s) → x ≡ f p
+    pub front_answers : (p : List ℕ) (x : Refusal) → b ≡ true → p ≡ take (be_at 4 s at) (drop at s) → x ≡ f p
         → x ≡ inside h f (drop at s)
     front_answers p x e part_is answer =
         answer ∙ ap f part_is

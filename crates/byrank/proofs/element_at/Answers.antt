@@ -11,7 +11,7 @@ last_number-requires c =
 
 pub place_of-found-requires : goal.place_of-found-requires
 place_of-found-requires c =
-    let start = c.before.before.before in
+    let start = c in
     let a = start.args in
     let s = a.block.now in
     let l = c.last_number in
@@ -20,8 +20,8 @@ place_of-found-requires c =
 
 pub returns-then-g-eq-BITMAP : goal.returns-then-g-eq-BITMAP
 returns-then-g-eq-BITMAP c =
-    let found = c.before.before.before in
-    let start = found.before.before.before in
+    let found = c in
+    let start = found in
     let a = start.args in
     let s = a.block.now in
     let o = wide_open (form_at s) s a.g start.requires.0 c.if-g-eq-BITMAP.true in
@@ -29,7 +29,7 @@ returns-then-g-eq-BITMAP c =
 
 pub value_at-requires : goal.value_at-requires
 value_at-requires c =
-    let found = c.before.before.before in
-    let start = found.before.before.before in
+    let found = c in
+    let start = found in
     let s = start.args.block.now in
     (narrow_open (form_at s) s start.args.g start.requires.0 c.if-g-eq-BITMAP.false, found.place_of-found.ensures)

@@ -9,7 +9,6 @@ use Rattle.rules.specs.Counts.{ones_below}
 use Rattle.selectlaws.specs.ByteCounts.{running_ones}
 use Rattle.selectlaws.proofs.ByteLaws.{running_total}
 use Rattle.readlaws.proofs.OneLaws.{Onward, onward_word, onward_start, onward_next, start_word}
-use Rattle.byrank.proofs.one_past.Invariants.{left}
 use Rattle.byrank.proofs.one_past.Lts
 use Rattle.byrank.proofs.one_past.Reads
 use Rattle.byrank.proofs.one_past.Tie
@@ -31,8 +30,8 @@ run_word-requires c =
 
 pub loop-left-init : goal.loop-left-init
 loop-left-init c =
-    let word = c.before.before.before in
-    let start = word.before.before in
+    let word = c in
+    let start = word in
     let a = start.args in
     let e : a.rank - (a.rank - a.before) ≡ a.before = omega (arith, start.requires.0.ahead) in (
       omega arith,
@@ -40,6 +39,23 @@ loop-left-init c =
           c.from_bit-x.result word.run_word.ensures (omega arith) c.from_bit-x.ensures
           (omega arith)),
       c.running_counts-counts.ensures,
+    )
+
+-- the ones of the word that is left, and that the next word is one of the run's
+left : (c : After-total-left)
+    → let at = c.loop-left in
+    let a = c.args in
+    (c.total-left.result ≡ ones at.x) × (c.total-left.result ≤ at.left) × (at.k + 1 < length a.run.now / 8)
+left c =
+    let at = c.loop-left in
+    let start = c in
+    let a = start.args in
+    let t = running_total at.x at.counts at.invariant.2 at.invariant.1.fits in
+    let o : ones at.x ≤ at.left = omega (arith, t) in (
+      omega (arith, t),
+      omega (arith, t),
+      onward_next a.run.now at.k at.x (a.rank - at.left) a.rank at.invariant.1
+          (omega (arith, at.invariant.0)) start.requires.0.some,
     )
 
 pub overflow_sub-left-in-loop-left : goal.overflow_sub-left-in-loop-left
@@ -69,14 +85,14 @@ loop-left-preserved c =
     )
 
 -- the one wanted is in the word
-here : (c : After-loop-left) → c.loop-left.false < ones c.loop-left.x
+here : (c : After-loop-left) → c.loop-left.left < ones c.loop-left.x
 here c =
     let at = c.loop-left in
     omega (arith, running_total at.x at.counts at.invariant.2 at.invariant.1.fits)
 
 pub overflow_mul-result : goal.overflow_mul-result
 overflow_mul-result c =
-    let start = c.before.before.before.before.before.before.before.before in
+    let start = c in
     record { fits = omega (arith, c.loop-left.invariant.1.inside, start.requires.0.short) }
 
 pub overflow_cast-left : goal.overflow_cast-left
@@ -90,7 +106,7 @@ select_by-requires c =
 
 pub overflow_add-result : goal.overflow_add-result
 overflow_add-result c =
-    let start = c.before.before.before.before.before.before.before.before.before in
+    let start = c in
     let within = c.loop-left.invariant.1.inside in
     record { fits = omega (arith, within, start.requires.0.short, c.select_by.ensures.1) }
 

@@ -33,7 +33,7 @@ last_number-requires c = (reads c.before.before.before).headed
 
 pub place_of-requires : goal.place_of-requires
 place_of-requires c =
-    let start = c.before.before.before.before in
+    let start = c in
     let a = start.args in
     let s = a.block.now in
     let l = c.last_number in
@@ -49,19 +49,19 @@ rest c = rw (reads c.before.before.before).ends at c.upper_of.ensures
 
 pub one_past-requires : goal.one_past-requires
 one_past-requires c =
-    let start = c.before.before.before.before in
+    let start = c in
     let a = start.args in
     let s = a.block.now in
     let p = start.requires in (
-      run_ahead s a.g.upper a.g.n (form_run s a.g (reads start)) c.upper_of.result.now (rest c.before)
+      run_ahead s a.g.upper a.g.n (form_run s a.g (reads start.before.before.before.before)) c.upper_of.result.now (rest c.before)
           a.start a.before a.rank p.2 p.3 p.1,
       p.4,
     )
 
 pub returns : goal.returns
 returns c =
-    let start = c.before.before.before.before.before in
+    let start = c in
     let a = start.args in
     let s = a.block.now in
-    run_one s a.g.upper a.g.n (form_run s a.g (reads start)) c.upper_of.result.now
+    run_one s a.g.upper a.g.n (form_run s a.g (reads start.before.before.before.before.before)) c.upper_of.result.now
     (rest c.before.before) a.rank c.one_past.result c.one_past.ensures.0 c.one_past.ensures.1

@@ -12,19 +12,20 @@ use Rattle.checkmap.proofs.MapLaws.{MapLaid, map_laid, Counted, counted_start, c
 use Rattle.checkmap.proofs.MapLaws.{counted_next, counted_tells}
 use Rattle.checkmap.proofs.map_ok.Lts
 use Rattle.checkmap.proofs.map_ok.Reads
+use Rattle.checkmap.proofs.map_ok.Tie
 use Rattle.checkmap.proofs.map_ok.Goals as goal
 
 abbrev Start : Type 0
-Start = Lts.Start Reads.Pre Reads.Post
+Start = Lts.Start Tie.the-claims Reads.Pre Reads.Post goal.the-invariant-loop-q goal.the-decreases-loop-q
 
 abbrev At-loop-q : Type 0
-At-loop-q = Lts.At-loop Reads.Pre Reads.Post
+At-loop-q = Lts.At-loop Tie.the-claims Reads.Pre Reads.Post goal.the-invariant-loop-q goal.the-decreases-loop-q
 
 abbrev In-loop-q : Type 0
-In-loop-q = Lts.In-loop Reads.Pre Reads.Post
+In-loop-q = Lts.In-loop Tie.the-claims Reads.Pre Reads.Post goal.the-invariant-loop-q goal.the-decreases-loop-q
 
 abbrev After-ones_of-i : Type 0
-After-ones_of-i = Lts.After-ones_of Reads.Pre Reads.Post
+After-ones_of-i = Lts.After-ones_of Tie.the-claims Reads.Pre Reads.Post goal.the-invariant-loop-q goal.the-decreases-loop-q
 
 laid_at : (c : Start) → MapLaid c.args.s.now c.args.g
 laid_at c = map_laid c.args.s.now c.args.g c.requires.0 c.requires.1 c.requires.2
@@ -38,13 +39,13 @@ laid_in c = laid_at (by_loop c)
 
 pub spare_clear-requires : goal.spare_clear-requires
 spare_clear-requires c =
-    let l = laid_at c.before in
+    let l = laid_at c.before.before in
     omega (arith, l.length_is, ap words_for l.bits_are)
 
 pub returns-then-not-spare_clear : goal.returns-then-not-spare_clear
 returns-then-not-spare_clear c =
     let r = c.spare_clear in
-    let l = laid_at c.before.before.before in (
+    let l = laid_at c.before.before.before.before in (
       λ e. absurd (false≢true e),
       λ _ h. r.ensures.1 (c.if-not-spare_clear.true) (rw (l.upper_is, l.bits_are) h.spare),
     )
@@ -81,10 +82,10 @@ overflow_add-i c =
     let a = l.args in
     omega (
       arith,
-      next_at c,
+      next_at c.before,
       ones_below_le a.s.now a.g.upper (256 * (l.loop-q.q + 1)),
-      inside c.before,
-      (laid_in l.before.before).within,
+      inside c.before.before,
+      (laid_in l.before.before.before).within,
     )
 
 pub returns-then-read_u32-i : goal.returns-then-read_u32-i
@@ -93,10 +94,10 @@ returns-then-read_u32-i c =
     let o = r in
     let l = o in
     let a = l.args in
-    let at_is = ap (λ (p : ℕ). ones_below a.s.now p (256 * (l.loop-q.q + 1))) (laid_in l.before.before.before.before).upper_is in (
+    let at_is = ap (λ (p : ℕ). ones_below a.s.now p (256 * (l.loop-q.q + 1))) (laid_in l.before.before.before.before.before).upper_is in (
       λ e. absurd (false≢true e),
-      λ _ h. c.if-read_u32-i.true (r.read_u32.ensures.0 ∙ h.numbers_are (l.loop-q.q + 1) (omega arith) (inside o.before.before.before)
-          ∙ sym at_is ∙ sym (next_at o.before.before)),
+      λ _ h. c.if-read_u32-i.true (r.read_u32.ensures.0 ∙ h.numbers_are (l.loop-q.q + 1) (omega arith) (inside o.before.before.before.before)
+          ∙ sym at_is ∙ sym (next_at o.before.before.before)),
     )
 
 pub loop-q-preserved : goal.loop-q-preserved
@@ -105,7 +106,7 @@ loop-q-preserved c =
     let o = r in
     let l = o in
     let a = l.args in (
-      inside o.before.before.before,
+      inside o.before.before.before.before,
       counted_next a.s.now a.g.upper l.loop-q.q l.loop-q.i o.ones_of-i.result l.loop-q.invariant.1
           o.ones_of-i.ensures (sym r.read_u32.ensures.0 ∙ c.if-read_u32-i.false),
     )
@@ -113,7 +114,7 @@ loop-q-preserved c =
 pub ones_of-requires : goal.ones_of-requires
 unfolding words_for
 ones_of-requires c =
-    let l = laid_in c.before.before in
+    let l = laid_in c.before.before.before in
     let b = l.bits_are in
     (omega (arith, b), omega (arith, b, l.within), omega (arith, b, l.length_is))
 
@@ -122,7 +123,7 @@ unfolding words_for
 overflow_add-result c =
     let l = c in
     let a = l.args in
-    let w = laid_in l.before.before.before in
+    let w = laid_in l.before.before.before.before in
     omega (
       arith,
       counted_few a.s.now a.g.upper l.loop-q.q l.loop-q.i l.loop-q.invariant.1,
@@ -142,39 +143,39 @@ returns c =
     let a = l.args in
     let clear = l.spare_clear in
     let q : l.loop-q.q ≡ a.g.u / 256 = omega (arith, l.loop-q.invariant.0, e.loop-q-test.false) in
-    counted_tells a.s.now a.g (laid_in l.before.before.before.before)
+    counted_tells a.s.now a.g (laid_in l.before.before.before.before.before)
     (clear.ensures.0 (l.if-not-spare_clear.false)) l.loop-q.i o.ones_of.result
     (rw q at l.loop-q.invariant.1) o.ones_of.ensures
 
 pub overflow_mul-q : goal.overflow_mul-q
-overflow_mul-q c = omega (arith, inside c, (laid_in c.before).within)
+overflow_mul-q c = omega (arith, inside c.before, (laid_in c.before.before).within)
 
 pub overflow_mul-q-in-loop-q : goal.overflow_mul-q-in-loop-q
-overflow_mul-q-in-loop-q c = omega (arith, inside c, (laid_in c.before).within)
+overflow_mul-q-in-loop-q c = omega (arith, inside c.before, (laid_in c.before.before).within)
 
 pub overflow_add-q : goal.overflow_add-q
-overflow_add-q c = omega (arith, inside c, (laid_in c.before).within)
+overflow_add-q c = omega (arith, inside c.before, (laid_in c.before.before).within)
 
 pub ones_of-i-requires : goal.ones_of-i-requires
-ones_of-i-requires c = (omega arith, omega (arith, inside c, (laid_in c.before).within), words_in c)
+ones_of-i-requires c = (omega arith, omega (arith, inside c.before, (laid_in c.before.before).within), words_in c.before)
 
 pub overflow_add-q-in-loop-q : goal.overflow_add-q-in-loop-q
-overflow_add-q-in-loop-q c = omega (arith, inside c.before, (laid_in c.before.before).within)
+overflow_add-q-in-loop-q c = omega (arith, inside c.before.before, (laid_in c.before.before.before).within)
 
 pub overflow_mul-q-in-loop-q-2 : goal.overflow_mul-q-in-loop-q-2
-overflow_mul-q-in-loop-q-2 c = omega (arith, inside c.before, (laid_in c.before.before).within)
+overflow_mul-q-in-loop-q-2 c = omega (arith, inside c.before.before, (laid_in c.before.before.before).within)
 
 pub overflow_add-q-in-loop-q-2 : goal.overflow_add-q-in-loop-q-2
-overflow_add-q-in-loop-q-2 c = omega (arith, inside c.before, (laid_in c.before.before).within)
+overflow_add-q-in-loop-q-2 c = omega (arith, inside c.before.before, (laid_in c.before.before.before).within)
 
 pub read_u32-requires : goal.read_u32-requires
-read_u32-requires c = let l = laid_in c.before.before in omega (arith, inside c.before, l.length_is, l.upper_at_lem)
+read_u32-requires c = let l = laid_in c.before.before.before in omega (arith, inside c.before.before, l.length_is, l.upper_at_lem)
 
 pub loop-q-smaller : goal.loop-q-smaller
-loop-q-smaller c = omega (arith, inside c.before.before.before)
+loop-q-smaller c = omega (arith, inside c.before.before.before.before)
 
 pub overflow_mul-full : goal.overflow_mul-full
-overflow_mul-full c = omega (arith, (laid_in c.before).within)
+overflow_mul-full c = omega (arith, (laid_in c.before.before).within)
 
 pub overflow_add-g : goal.overflow_add-g
-overflow_add-g c = let l = laid_in c.before.before in omega (arith, l.within, l.bits_are)
+overflow_add-g c = let l = laid_in c.before.before.before in omega (arith, l.within, l.bits_are)

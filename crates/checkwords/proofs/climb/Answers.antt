@@ -17,6 +17,7 @@ use Rattle.checkwords.proofs.climb.Lts
 use Rattle.checkwords.proofs.climb.Reads
 use Rattle.checkwords.proofs.climb.Tie
 use Rattle.checkwords.proofs.climb.Goals as goal
+use Rattle.checkwords.proofs.climb.Goals.{then-last-pair, else-last-pair}
 
 abbrev Start : Type 0
 Start = Lts.Start Tie.the-claims Reads.Pre Reads.Post goal.the-invariant-loop-rest goal.the-decreases-loop-rest Tie.handed_clauses
@@ -81,10 +82,11 @@ next_low-low-requires c =
     let l = c.loop-rest.low in
     let t = turn_at c.before in
     let h = t.peeled.held in
-    let i = t.peeled.i in (
-      (held_lt a.s.now a.g i l h, left_lt a.s.now a.g i l h, omega (arith, t.word.laid.narrow)),
-      held_room a.s.now a.g i l h t.word.laid (turn_more t),
-    )
+    let i = t.peeled.i in
+    record {
+      held_fits = (held_lt a.s.now a.g i l h, left_lt a.s.now a.g i l h, omega (arith, t.word.laid.narrow));
+      has_word = held_room a.s.now a.g i l h t.word.laid (turn_more t);
+    }
 
 pub loop-rest-smaller : goal.loop-rest-smaller
 loop-rest-smaller c =
@@ -99,8 +101,8 @@ loop-rest-preserved c =
     let t = turn_at n.before.before.before.before in
     turn_next t p.paired-pair.result (p.paired-pair.ensures ∙ turn_pair t n.next_low-low.result.part (part_at n.before.before.before))
     n.next_low-low.result n.next_low-low.ensures c.if-last-pair.rises (elim c.if-last-pair.branch [
-      | inl e ↦ inl (e.0.taken, e.1)
-      | inr e ↦ inr (e.0.left, e.1)
+      | then-last-pair e ↦ inl (e.if-last-pair.true, e.rises-is)
+      | else-last-pair e ↦ inr (e.if-last-pair.false, e.rises-is)
     ])
 
 pub overflow_add-result : goal.overflow_add-result

@@ -42,13 +42,13 @@ one_word-m-requires c = (c.requires.laid, c.loop-k.invariant.1, c.loop-k-test.tr
 pub returns-then-not-m : goal.returns-then-not-m
 returns-then-not-m c =
     let r = c.one_word-m in
-    (λ e. absurd (false≢true e), λ _. r.ensures.1 (c.if-not-m.true))
+    (λ e. absurd (false≢true e), λ _. r.ensures.1 (not-true r.result.ok c.if-not-m.true))
 
 pub loop-k-preserved : goal.loop-k-preserved
 loop-k-preserved c =
     let r = c in (
       omega (arith, r.loop-k-test.true),
-      r.one_word-m.ensures.0 (c.if-not-m.false),
+      r.one_word-m.ensures.0 (not-false r.one_word-m.result.ok c.if-not-m.false),
     )
 
 -- all words are passed

@@ -26,14 +26,14 @@ ready_at c =
     c.run_word-x.ensures
 
 pub returns-then-next-eq0 : goal.returns-then-next-eq0
-returns-then-next-eq0 c = (λ e. absurd (false≢true e), λ _. c.next_pointer-next.ensures.1 c.if-next-eq0.true)
+returns-then-next-eq0 c = (λ e. absurd (false≢true e), λ _. c.next_pointer-next.ensures.refuses c.if-next-eq0.true)
 
 pub climb-r-requires : goal.climb-r-requires
 climb-r-requires c =
     let p = c in (
       ready_at p.before.before.before,
       p.requires.1,
-      (p.next_pointer-next.ensures.0 (omega (arith, c.if-next-eq0.false))).0,
+      (p.next_pointer-next.ensures.goes_on (omega (arith, c.if-next-eq0.false))).0,
     )
 
 pub returns : goal.returns
@@ -41,7 +41,7 @@ returns c =
     let p = c in (
       λ t.
           let r = c.climb-r.ensures.0 t in
-          let q = p.next_pointer-next.ensures.0 (omega (arith, c.if-next-eq0.false)) in
+          let q = p.next_pointer-next.ensures.goes_on (omega (arith, c.if-next-eq0.false)) in
           record {
             few = omega (arith, r.all, q.0);
             bound = r.bound;

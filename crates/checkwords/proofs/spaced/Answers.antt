@@ -74,7 +74,7 @@ ready_at c =
     l.loop-k.invariant.1 c.run_word-x.result (inside c.before) c.run_word-x.ensures (omega arith)
 
 pub returns-then-next-eq0 : goal.returns-then-next-eq0
-returns-then-next-eq0 c = (λ e. absurd (false≢true e), λ _. c.next_pointer-next.ensures.1 c.if-next-eq0.true)
+returns-then-next-eq0 c = (λ e. absurd (false≢true e), λ _. c.next_pointer-next.ensures.refuses c.if-next-eq0.true)
 
 pub returns-then-x-carry-ne0 : goal.returns-then-x-carry-ne0
 returns-then-x-carry-ne0 c =
@@ -102,7 +102,7 @@ loop-k-preserved c =
     let w = p in
     let l = w in
     let b = l in
-    let r = p.next_pointer-next.ensures.0 (omega (arith, c.if-next-eq0.false)) in (
+    let r = p.next_pointer-next.ensures.goes_on (omega (arith, c.if-next-eq0.false)) in (
       omega (arith, w.loop-k-test.true),
       along_next b.args.s.now b.args.g b.requires.0.laid l.loop-k.k l.loop-k.i l.loop-k.next
           l.loop-k.carry l.loop-k.invariant.1 w.run_word-x.result (inside w.before.before.before.before.before) w.run_word-x.ensures (omega arith)

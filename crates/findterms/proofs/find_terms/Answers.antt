@@ -6,40 +6,53 @@ use lib.ListN.{length}
 use Rattle.laws.specs.Blocks.{block_at}
 use Rattle.cardlaws.proofs.PassedLaws.{accepted_passed}
 use Rattle.findlaws.proofs.StartLaws.{Finding, finding_first, finding_walks, start_next, finding_more}
-use Rattle.findterms.proofs.find_terms.Invariants.{starts}
 use Rattle.findterms.proofs.find_terms.Lts
 use Rattle.findterms.proofs.find_terms.Reads
+use Rattle.findterms.proofs.find_terms.Tie
 use Rattle.findterms.proofs.find_terms.Goals as goal
 
 abbrev After-slice_known-1 : Type 0
-After-slice_known-1 = Lts.After-slice_known Reads.Pre Reads.Post
+After-slice_known-1 = Lts.After-slice_known Tie.the-claims Reads.Pre Reads.Post goal.the-invariant-loop-next goal.the-decreases-loop-next
 
 abbrev After-blocks_from-left : Type 0
-After-blocks_from-left = Lts.After-blocks_from Reads.Pre Reads.Post
+After-blocks_from-left = Lts.After-blocks_from Tie.the-claims Reads.Pre Reads.Post goal.the-invariant-loop-next goal.the-decreases-loop-next
 
 -- the card has its header
-slice_bounds-rest-count : (c : After-slice_known-1) → 11 ≤ length c.args.card.now
-slice_bounds-rest-count c = let b = c.before.before.before in (accepted_passed b.args.card.now b.requires.0).head.header
+headed_here : (c : After-slice_known-1) → 11 ≤ length c.args.card.now
+headed_here c = let b = c in (accepted_passed b.args.card.now b.requires.0).head.header
 
 pub loop-next-init : goal.loop-next-init
 loop-next-init c =
-    let b = c.before.before.before.before.before in
+    let b = c in
     finding_first b.args.card.now b.args.terms.now b.requires.0 b.requires.1 b.args.starts.now
     c.least_from-next.result c.least_from-next.ensures
 
 pub blocks_from-left-requires : goal.blocks_from-left-requires
 blocks_from-left-requires c =
     let l = c.loop-next in
-    let b = c.before.before.before.before.before.before.before in
+    let b = c in
     finding_walks b.args.card.now b.args.terms.now b.requires.0 b.requires.1 l.starts
     (length b.args.starts.now) l.t l.rest.now l.next l.invariant c.loop-next-test.true
+
+-- the term lies in the card where what is left of it starts
+starts : (c : After-blocks_from-left)
+    → block_at 11 c.loop-next.next
+    c.args.card.now
+    + length c.blocks_from-left.result.now
+    ≡ length c.args.card.now
+starts c =
+    let l = c.loop-next in
+    let b = c in
+    start_next b.args.card.now b.args.terms.now b.requires.0 b.requires.1 l.starts
+    (length b.args.starts.now) l.t l.rest.now l.next l.invariant c.loop-next-test.true
+    c.blocks_from-left.result.now c.blocks_from-left.ensures
 
 pub loop-next-preserved : goal.loop-next-preserved
 loop-next-preserved c =
     let p = c.put_start in
-    let w = c.before.before.before.before.before in
+    let w = c in
     let l = w.loop-next in
-    let b = w.before.before.before.before.before.before.before.before in
+    let b = w in
     finding_more b.args.card.now b.args.terms.now b.requires.0 b.requires.1 l.starts
     (length b.args.starts.now) l.t l.rest.now l.next l.invariant w.loop-next-test.true
     w.blocks_from-left.result.now w.blocks_from-left.ensures p.new.1.1.1.0 c.least_from-next-in-loop-next.result p.ensures
@@ -51,7 +64,7 @@ returns c i h =
     (omega (arith, c.shared_slice_known-2-1.given i, c.loop-next-test.false))
 
 pub slice_bounds-rest-start : goal.slice_bounds-rest-start
-slice_bounds-rest-start c = omega (arith, slice_bounds-rest-count c)
+slice_bounds-rest-start c = omega (arith, headed_here c.before)
 
 pub least_from-next-requires : goal.least_from-next-requires
 least_from-next-requires c = omega arith
@@ -60,7 +73,7 @@ pub overflow_sub-next : goal.overflow_sub-next
 overflow_sub-next c = c.loop-next.invariant.onward
 
 pub overflow_sub-card : goal.overflow_sub-card
-overflow_sub-card c = omega (arith, starts c)
+overflow_sub-card c = omega (arith, starts c.before)
 
 pub put_start-requires : goal.put_start-requires
 put_start-requires c = omega (arith, c.loop-next.invariant.room)
@@ -76,3 +89,6 @@ loop-next-smaller c = omega (arith, c.least_from-next-in-loop-next.ensures.onwar
 
 pub shape_of-starts : goal.shape_of-starts
 shape_of-starts c = c.loop-next.invariant.room
+
+pub slice_bounds-rest-count : goal.slice_bounds-rest-count
+slice_bounds-rest-count c = headed_here c.before

@@ -25,6 +25,7 @@ use Rattle.landing.proofs.land.Lts
 use Rattle.landing.proofs.land.Reads
 use Rattle.landing.proofs.land.Tie
 use Rattle.landing.proofs.land.Goals as goal
+use Rattle.landing.proofs.land.Lts.{then-at-ne0, else-at-ne0+then-at-g}
 
 abbrev Start : Type 0
 Start = Lts.Start Tie.the-claims Reads.Pre Reads.Post goal.the-invariant-loop-at goal.the-decreases-loop-at
@@ -49,9 +50,9 @@ ahead c =
     let at = c.loop-at in
     let start = c in
     elim c.if-at-ne0.branch [
-      | inl t ↦ one_ahead start.args.s.now start.args.g (run start.before.before.before.before) at.at at.invariant.0
-          (omega (arith, t.taken))
-      | inr e ↦ ltb-true at.at.rank start.args.g.n e.3.taken
+      | then-at-ne0 t ↦ one_ahead start.args.s.now start.args.g (run start.before.before.before.before) at.at at.invariant.0
+          (omega (arith, t.if-at-ne0.true))
+      | else-at-ne0+then-at-g e ↦ e.if-at-g.true
     ]
 
 pub to_one-one-requires : goal.to_one-one-requires
@@ -169,7 +170,7 @@ returns c =
     let stored = open_stored start.args.s.now start.args.g o in
     let l = landed_none two_runs start.args.s.now start.args.g stored start.args.b at.at
     at.invariant.0 at.invariant.1 _ (open_some start.args.s.now start.args.g o bits)
-    (ltb-false at.at.rank start.args.g.n c.if-at-g.false) n.0 n.1 in
+    c.if-at-g.false n.0 n.1 in
     (l.0, omega (arith, l.1, at.invariant.2, c.to_end.ensures))
 
 pub none-requires : goal.none-requires

@@ -90,14 +90,14 @@ start c = c.before.before.before.before
 
 laid_more : (c : After-struct_known-4-1) (xs before : List ℕ)
     → let w = c in
-    let low = low-put (pointers-put w.before.before.before.before.before) in
-    let a = (start low).args in
+    let low = w in
+    let a = low.args in
     let place : ℕ = a.x / 2 ^ a.g.w + a.f.count in
     Partly a.g xs a.f before a.room.now → Next a.g xs a.x
     → Partly a.g (xs ++ (a.x ∷ []))
     (record {
       count = a.f.count + 1;
-      lows = low.put_low.result;
+      lows = low.put_low-lows.result;
       ups = record {
         acc = w.put_words-word.result + 2 ^ (place % 64);
         words = place / 64;
@@ -105,19 +105,19 @@ laid_more : (c : After-struct_known-4-1) (xs before : List ℕ)
         stop = c.lesser-stop.result;
       };
     })
-    before w.put_words-word.last.0
+    before w.put_words-word.new.room
 laid_more c xs before p m =
     let w = c in
     let q = w in
     let l = q in
     let a = l.args in
     partly_more a.g xs a.f before a.room.now p a.x m
-    l.put_low-lows.result l.put_low-lows.last.0 q.put_pointers-next.last.0 w.put_words-word.last.0 w.put_words-word.result
+    l.put_low-lows.result l.put_low-lows.new.room q.put_pointers-next.new.room w.put_words-word.new.room w.put_words-word.result
     c.lesser-stop.result
     (omega (arith, c.lesser-stop.ensures)) (omega (arith, c.lesser-stop.ensures, q.put_pointers-next.ensures.0))
     l.put_low-lows.ensures
-    (subst (λ n. Stored 4 9 (λ k. 256 * k + a.f.count) a.f.ups.next n l.put_low-lows.last.0
-    q.put_pointers-next.last.0) q.put_pointers-next.ensures.0 q.put_pointers-next.ensures.1)
+    (subst (λ n. Stored 4 9 (λ k. 256 * k + a.f.count) a.f.ups.next n l.put_low-lows.new.room
+    q.put_pointers-next.new.room) q.put_pointers-next.ensures.0 q.put_pointers-next.ensures.1)
     w.put_words-word.ensures
 
 pub put_low-lows-requires : goal.put_low-lows-requires
@@ -137,7 +137,7 @@ put_pointers-next-requires c =
     (s.next_some, s.next_le, t.pointers, t.place)
 
 pub overflow_add-place : goal.overflow_add-place
-overflow_add-place c = (sums _ _ (ready_step (start (low-put c.before.before.before.before)).requires).small).place
+overflow_add-place c = (sums _ _ (ready_step c.requires).small).place
 
 pub put_words-word-requires : goal.put_words-word-requires
 put_words-word-requires c =
@@ -147,30 +147,30 @@ put_words-word-requires c =
     (s.words_le, (within s (q.put_pointers-next.ensures.1.long ∙ l.put_low-lows.ensures.flushed.stored.long)).words)
 
 pub overflow_mul-place : goal.overflow_mul-place
-overflow_mul-place c = (sums _ _ (ready_step (start (low-put (pointers-put c.before.before.before))).requires).small).word
+overflow_mul-place c = (sums _ _ (ready_step c.requires).small).word
 
 pub overflow_add-place-2 : goal.overflow_add-place-2
-overflow_add-place-2 c = (sums _ _ (ready_step (start (low-put (pointers-put c.before.before.before))).requires).small).word_end
+overflow_add-place-2 c = (sums _ _ (ready_step c.requires).small).word_end
 
 pub overflow_mul-next : goal.overflow_mul-next
 overflow_mul-next c =
     let q = c in
-    (sums _ _ (ready_step (start (low-put q.before.before.before.before.before.before.before.before)).requires).small).zeros _ _ (lit≤ tt) q.put_pointers-next.ensures.0
+    (sums _ _ (ready_step q.requires).small).zeros _ _ (lit≤ tt) q.put_pointers-next.ensures.0
 
 pub overflow_add-next : goal.overflow_add-next
 overflow_add-next c =
     let q = c in
-    (sums _ _ (ready_step (start (low-put q.before.before.before.before.before.before.before.before.before)).requires).small).pointer _ _ (lit≤ tt) q.put_pointers-next.ensures.0
+    (sums _ _ (ready_step q.requires).small).pointer _ _ (lit≤ tt) q.put_pointers-next.ensures.0
 
 pub overflow_add-result-2 : goal.overflow_add-result-2
 overflow_add-result-2 c =
     let w = c in
-    let s = start (low-put (pointers-put w.before.before.before.before.before.before)) in
+    let s = w in
     let a = s.args in
-    let r = s.pre in
+    let r = s.requires in
     let place : ℕ = a.x / 2 ^ a.g.w + a.f.count in
     let p = laid_more c.before r.xs r.before r.partly r.next in
-    let h = raised_lt w.put_words-word.last.0 a.g.upper (high a.g.w (r.xs ++ (a.x ∷ [])))
+    let h = raised_lt w.put_words-word.new.room a.g.upper (high a.g.w (r.xs ++ (a.x ∷ [])))
     (length (r.xs ++ (a.x ∷ []))) (upper a.g.w 0 (r.xs ++ (a.x ∷ [])))
     (record {
       acc = w.put_words-word.result + 2 ^ (place % 64);
@@ -204,13 +204,13 @@ returns c xs before p m =
         next = n;
         stop = c.lesser-stop.result;
       };
-    }) before w.put_words-word.last.0) (sym q.put_pointers-next.ensures.0) (laid_more c.before xs before p m))
+    }) before w.put_words-word.new.room) (sym q.put_pointers-next.ensures.0) (laid_more c.before xs before p m))
 
 pub lesser-stop-requires : goal.lesser-stop-requires
 lesser-stop-requires c = tt
 
 pub overflow_add-result : goal.overflow_add-result
-overflow_add-result c = (sums _ _ (ready_step (start (low-put (pointers-put (words-put c.before)))).requires).small).count
+overflow_add-result c = (sums _ _ (ready_step c.requires).small).count
 
 pub overflow_shl-result : goal.overflow_shl-result
 overflow_shl-result c = mod-lt _ (lit< tt)

@@ -13,10 +13,11 @@ use Rattle.readlaws.specs.Open.{MapOpen, pointers_in, number_at}
 use Rattle.readlaws.proofs.FormLaws.{map_reads, form_reads, number_counts}
 use Rattle.maprank.proofs.rank_at.Lts
 use Rattle.maprank.proofs.rank_at.Reads
+use Rattle.maprank.proofs.rank_at.Tie
 use Rattle.maprank.proofs.rank_at.Goals as goal
 
 abbrev After-ones_between-2 : Type 0
-After-ones_between-2 = Lts.After-ones_between2 Reads.Pre Reads.Post
+After-ones_between-2 = Lts.After-ones_between2 Tie.the-claims Reads.Pre Reads.Post
 
 module _ (s : List ℕ) (g : Shape) (o : MapOpen s g) (page : ℕ) (h : page < g.u) where
   -- the number before the page is stored
@@ -42,27 +43,27 @@ module _ (s : List ℕ) (g : Shape) (o : MapOpen s g) (page : ℕ) (h : page < g
 
 pub ones_between-requires : goal.ones_between-requires
 ones_between-requires c =
-    let start = c.before.before in
+    let start = c in
     let a = start.args in
     let w = word_in a.s.now a.g start.requires.0 a.page start.requires.1 in
     (omega arith, w.0, w.1)
 
 pub returns-then-i-eq0 : goal.returns-then-i-eq0
 returns-then-i-eq0 c =
-    let start = c.before.before.before in
+    let start = c in
     let a = start.args in
     rw (← (map_reads a.s.now a.g start.requires.0).starts)
     (omega (arith, ones_below_le a.s.now a.g.upper 0, c.ones_between.ensures))
 
 pub number_in-requires : goal.number_in-requires
 number_in-requires c =
-    let start = c.before.before in
+    let start = c in
     let n = number_in start.args.s.now start.args.g start.requires.0 start.args.page start.requires.1 in
     (n.0, n.2)
 
 pub overflow_mul-i : goal.overflow_mul-i
 overflow_mul-i c =
-    let start = c.before.before.before in
+    let start = c in
     omega (
       arith,
       (number_in start.args.s.now start.args.g start.requires.0 start.args.page start.requires.1).2,
@@ -70,18 +71,18 @@ overflow_mul-i c =
 
 pub ones_between-requires-2 : goal.ones_between-requires-2
 ones_between-requires-2 c =
-    let start = c.before.before.before in
+    let start = c in
     let a = start.args in
     let w = word_in a.s.now a.g start.requires.0 a.page start.requires.1 in
     (omega arith, w.0, w.1)
 
 -- the number and what is behind it
 all : (c : After-ones_between-2) →
-    let n = c.before in
+    let n = c in
     let a = n.args in
     n.number_in.result + c.ones_between-2.result ≡ ones_below a.s.now a.g.upper a.page
 all c =
-    let start = c.before.before.before.before in
+    let start = c in
     let a = start.args in
     omega (
       arith,
@@ -92,16 +93,16 @@ all c =
 
 pub overflow_add-result : goal.overflow_add-result
 overflow_add-result c =
-    let start = c.before.before.before.before in
+    let start = c in
     let a = start.args in
     omega (
       arith,
-      all c,
+      all c.before,
       ones_below_le a.s.now a.g.upper a.page,
       (word_in a.s.now a.g start.requires.0 a.page start.requires.1).0,
     )
 
 pub returns : goal.returns
 returns c =
-    let start = c.before.before.before.before in
-    rw (← (map_reads start.args.s.now start.args.g start.requires.0).starts) (all c)
+    let start = c in
+    rw (← (map_reads start.args.s.now start.args.g start.requires.0).starts) (all c.before)

@@ -13,13 +13,13 @@ use Rattle.text.proofs.put_line.Goals as goal
 
 pub put_number-next-requires : goal.put_number-next-requires
 put_number-next-requires c =
-    let s = c.before.before.before.before.before in
+    let s = c in
     omega (arith, first_length s.args.numbers.now s.requires.0)
 
 pub loop-i-init : goal.loop-i-init
 loop-i-init c =
-    let k = c.before.before.before in
-    let s = k.before.before.before.before.before in
+    let k = c in
+    let s = k in
     let ns = s.args.numbers.now in (
       omega arith,
       omega arith,
@@ -30,7 +30,7 @@ loop-i-init c =
 
 pub bounds-text-next : goal.bounds-text-next
 bounds-text-next c =
-    let l = c.before.before in
+    let l = c in
     omega (
       arith,
       ending_length
@@ -40,7 +40,7 @@ bounds-text-next c =
 
 pub overflow_add-next : goal.overflow_add-next
 overflow_add-next c =
-    let l = c.before.before.before in
+    let l = c in
     omega (
       arith,
       ending_length
@@ -50,7 +50,7 @@ overflow_add-next c =
 
 pub put_number-next-requires-in-loop-i : goal.put_number-next-requires-in-loop-i
 put_number-next-requires-in-loop-i c =
-    let l = c.before.before.before.before in
+    let l = c in
     rw length-set (omega (
       arith,
       ending_length
@@ -60,8 +60,8 @@ put_number-next-requires-in-loop-i c =
 
 pub loop-i-preserved : goal.loop-i-preserved
 loop-i-preserved c =
-    let k = c.before.before.before in
-    let l = k.before.before.before.before in
+    let k = c in
+    let l = k in
     let ns = l.args.numbers.now in
     let i = l.loop-i.i in
     let h : i < length ns = omega arith in
@@ -77,26 +77,26 @@ loop-i-preserved c =
 
 pub bounds-text-next-2 : goal.bounds-text-next-2
 bounds-text-next-2 c =
-    let l = c.before.before in
+    let l = c in
     let ns = l.args.numbers.now in
     omega (arith, ap length (ending_last ns l.loop-i.i (omega arith)))
 
 pub overflow_add-result : goal.overflow_add-result
 overflow_add-result c =
-    let l = c.before.before in
+    let l = c in
     let ns = l.args.numbers.now in
     omega (arith, ap length (ending_last ns l.loop-i.i (omega arith)))
 
 pub shape_of-text : goal.shape_of-text
 shape_of-text c =
-    let l = c.before.before in
+    let l = c in
     rw length-set (l.loop-i.invariant.2 ∙ put_length l.put_number-next.ensures)
 
 pub returns : goal.returns
 returns c =
-    let l = c.before.before in
-    let k = l.before.before.before in
-    let s = k.before.before.before.before.before in
+    let l = c in
+    let k = l in
+    let s = k in
     let ns = s.args.numbers.now in
     let p =
     partly_end (partly_same (ending_last ns l.loop-i.i (omega arith)) l.loop-i.invariant.4)

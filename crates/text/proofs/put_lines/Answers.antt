@@ -13,7 +13,7 @@ use Rattle.text.proofs.put_lines.Goals as goal
 
 pub loop-from-init : goal.loop-from-init
 loop-from-init c =
-    let s = c.before.before.before in (
+    let s = c in (
       omega arith,
       s.requires.0,
       refl,
@@ -27,7 +27,7 @@ overflow_cast-to c = omega (arith, c.shared_slice_known-in-loop-from-1.given c.l
 
 pub overflow_add-to-in-loop-from : goal.overflow_add-to-in-loop-from
 overflow_add-to-in-loop-from c =
-    let l = c.before.before.before in
+    let l = c in
     omega (
       arith,
       counted_fits l.args.numbers.now l.loop-from.from (omega arith)
@@ -36,12 +36,12 @@ overflow_add-to-in-loop-from c =
 
 pub slice_bounds-put_line-end : goal.slice_bounds-put_line-end
 slice_bounds-put_line-end c =
-    let l = c.before.before.before.before in
+    let l = c in
     counted_fits l.args.numbers.now l.loop-from.from (omega arith) l.loop-from.invariant.1
 
 pub put_line-next-requires : goal.put_line-next-requires
 put_line-next-requires c =
-    let l = c.before.before.before.before.before in
+    let l = c in
     let ns = l.args.numbers.now in
     let i = l.loop-from.from in
     let h : i < length ns = omega arith in
@@ -52,8 +52,8 @@ loop-from-smaller c = omega arith
 
 pub loop-from-preserved : goal.loop-from-preserved
 loop-from-preserved c =
-    let k = c.before.before.before in
-    let l = k.before.before.before.before.before in
+    let k = c in
+    let l = k in
     let ns = l.args.numbers.now in
     let i = l.loop-from.from in
     let h : i < length ns = omega arith in
@@ -69,7 +69,7 @@ loop-from-preserved c =
 
 pub returns : goal.returns
 returns c =
-    let l = c.before.before in
+    let l = c in
     let ns = l.args.numbers.now in
     partly_all (partly_same (lines_none ns l.loop-from.from (omega arith)) l.loop-from.invariant.4)
 

@@ -7,21 +7,21 @@ use Rattle.text.proofs.put_refused.Goals as goal
 
 pub returns-then-n-eq0 : goal.returns-then-n-eq0
 returns-then-n-eq0 c =
-    let k = c.before.before in
+    let k = c in
     let a = k.args in
     put_same (sym (refused_none a.r (omega arith))) (put_none a.at a.text.now)
 
 pub write_u64-requires : goal.write_u64-requires
 write_u64-requires c =
-    let k = c.before.before in
-    let s = k.before.before in
+    let k = c in
+    let s = k in
     omega (arith, refused_length s.args.r k.number_of-n.result k.number_of-n.ensures (omega arith), s.requires)
 
 pub put_line-requires : goal.put_line-requires
 put_line-requires c =
-    let w = c.before.before.before.before in
-    let k = w.before.before.before in
-    let s = k.before.before in (
+    let w = c in
+    let k = w in
+    let s = k in (
       omega arith,
       omega (
         arith,
@@ -33,8 +33,8 @@ put_line-requires c =
 
 pub returns : goal.returns
 returns c =
-    let p = c.before.before.before in
-    let w = p.before.before.before.before.before in
-    let k = w.before.before.before in
-    let s = k.before.before in
+    let p = c in
+    let w = p in
+    let k = w in
+    let s = k in
     put_refused s.args.r k.number_of-n.ensures (omega arith) w.write_u64.ensures p.put_line.ensures

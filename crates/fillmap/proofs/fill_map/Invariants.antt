@@ -1,0 +1,27 @@
+-- `fill_map` writes the header, and then four words and their number at a time: those up to number q stand in the room,
+-- and the elements below bit 256 * q are passed.
+use mathlib.Core.Path.{◌≡◌, refl, subst}
+use mathlib.Core.List.{List, [], ◌∷◌}
+use Prim.Native.Nat.{ℕ, ◌+◌, ◌-◌, ◌*◌, ◌/◌, ◌^◌, ◌≤◌, ◌<◌}
+use native.Mathlib.Omega.{arith}
+use lib.ListN.{length}
+use lib.Seq.{sets}
+use Rattle.rules.specs.Limits.{map_version}
+use Rattle.rules.specs.Bytes.{be}
+use Rattle.rules.specs.List.{bitmap}
+use Rattle.shape.specs.declared.Shape.{Shape}
+use Rattle.filllaws.specs.Filling.{FramedAs}
+use Rattle.filllaws.proofs.SideLaws.{header_fits}
+use Rattle.filllaws.proofs.PartLaws.{framed_none}
+use Rattle.fillmap.specs.Mapping.{Parted, Mapped}
+use Rattle.fillmap.proofs.PartedLaws.{rising_climbing, parted_none}
+use Rattle.fillmap.proofs.MappedLaws.{Spread, spread, mapped_none, mapped_more, mapped_all}
+use Rattle.fillmap.proofs.fill_map.Given as goal
+
+abbrev pub invariant-loop-q : goal.invariant-loop-q
+invariant-loop-q l =
+    (l.q ≤ l.g.u / 256) × (l.q-end ≡ l.g.u / 256) × (length l.room ≡ length l.initial.room) × Parted l.list (64 * (4 * l.q)) l.next
+    × ((before : List ℕ) → FramedAs bitmap l.g before l.initial.room → Mapped l.g l.list before l.room l.q)
+
+abbrev pub decreases-loop-q : goal.decreases-loop-q
+decreases-loop-q l = l.q-end - l.q
