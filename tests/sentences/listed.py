@@ -3,9 +3,10 @@ import re
 
 from reading.program import OUTSIDE
 
-# where the definitions and contracts of `panel` stand, and the crates whose definitions they may name
+# where the definitions and contracts of `panel` stand, and the crates whose definitions they may name; `std` is the
+# toolchain's
 PANEL = ("crates/panel/specs/", "crates/panel/src/")
-PANEL_CITES = ["rules", "panel"]
+PANEL_CITES = ["rules", "panel", "std"]
 
 
 def each_folder_once(listing):
@@ -55,10 +56,11 @@ def map_has_groups(listing):
 
 
 def panel_cites_rules(listing):
-    """The definitions and contracts of `panel` name definitions of `rules` and its own, and no other crate's."""
+    """The definitions and contracts of `panel` name definitions of `rules`, its own and the toolchain's, and no other
+    crate's."""
     for path, text in listing.texts.items():
         if path.startswith(PANEL):
-            for crate in re.findall(r"^(?:ghost )?use Rattle·(\w+)", text, re.MULTILINE):
+            for crate in re.findall(r"^(?:\w+ )*use Rattle\.(\w+)", text, re.MULTILINE):
                 if crate not in PANEL_CITES:
                     yield f"{path}: it names definitions of {crate}"
 
