@@ -1,8 +1,6 @@
 """Sentences about crates.txt: each crate once, in a group, behind all that it uses; and about what `panel` cites."""
 import re
 
-from reading.program import OUTSIDE
-
 # where the definitions and contracts of `panel` stand, and the crates whose definitions they may name; `std` is the
 # toolchain's
 PANEL = ("crates/panel/specs/", "crates/panel/src/")
@@ -25,12 +23,12 @@ def each_in_a_group(listing):
 
 
 def uses_above(listing):
-    """A crate lists others that stand above it, each once and in their order, or a library of the toolchain."""
+    """A crate lists others that stand above it, each once and in their order; of the toolchain it uses std alone, which
+    is never listed."""
     for crate, uses in listing.listed.items():
         above = listing.order[:listing.order.index(crate)]
-        own = [name for name in uses if name not in OUTSIDE]
-        yield from (f"{crate}: {name} does not stand above it" for name in own if name not in above)
-        if own != [name for name in above if name in own]:
+        yield from (f"{crate}: {name} does not stand above it" for name in uses if name not in above)
+        if uses != [name for name in above if name in uses]:
             yield f"{crate}: what it lists is not in the order of the file"
 
 
