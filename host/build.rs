@@ -34,7 +34,7 @@ fn archive_folder() -> PathBuf {
 
 fn advice(archive: &Path) -> String {
     format!(
-        "the library's archive is not at {}: run `rt staticlib jundefola` at the root of the repository, \
+        "the library's archive is not at {}: run `host/archive` at the root of the repository, \
          or name its folder in {VARIABLE}",
         archive.display()
     )

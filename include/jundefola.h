@@ -2,7 +2,7 @@
  * Jundefola: posting lists in Elias-Fano form or as bitmaps, the words of a manual, cards that index them, and
  * questions over cards.
  *
- * For C99 and C++. Link the archive target/staticlib/libjundefola.a, which `rt staticlib jundefola` makes.
+ * For C99 and C++. Link the archive target/staticlib/libjundefola.a, which `host/archive` makes.
  *
  * - A call keeps nothing: it reads what it is lent, writes the room it is lent, and allocates nothing. Calls from
  *   several threads may run at once, as long as nobody writes what another call reads or writes.

@@ -7,7 +7,7 @@ from . import tree
 
 def bound(function):
     """Every name that a function binds, as often as it does."""
-    lets = [let.name for let in tree.every(tree.Let, function.body)]
+    lets = [let.name for let in tree.every((tree.Let, tree.LetElse), function.body)]
     loops = [loop.name for loop in tree.every(tree.For, function.body)]
     return [p.name for p in function.parameters] + lets + loops
 

@@ -21,7 +21,7 @@ class Listing:
     def take(self, line):
         """Takes in a line: the heading of a group, a crate, or an empty line, which ends a group."""
         heading = re.match(r"# (\w+)(: .*)?$", line)
-        crate = re.match(r"(\w+):((?: \w+)*)$", line)
+        crate = re.match(r"(\w+)(?: staticlib)?:((?: \w+)*)$", line)
         if not line:
             self.group = None
         elif heading:
@@ -43,7 +43,7 @@ class Listing:
         """The crates that a crate's files name, comments apart: in code by `name::`, and elsewhere by their modules."""
         own = [text for path, text in self.texts.items() if path.startswith(f"crates/{crate}/")]
         told = re.sub(r"//[^\n]*|--[^\n]*", "", "\n".join(own))
-        return {name for pair in re.findall(r"\b(\w+)::|Rattle·(\w+)", told) for name in pair}
+        return {name for pair in re.findall(r"\b(\w+)::|Rattle\.(\w+)", told) for name in pair}
 
     def types(self, crate):
         """The types of what a crate's functions are given and give back, and of what they call."""

@@ -5,8 +5,8 @@ from . import tree
 from .source import read
 from .tokens import Unread
 
-# where functions and constants come from that no crate of the sources has
-OUTSIDE = {"u8", "u16", "u32", "u64", "usize", "std", "libc", "io", "os"}
+# where functions, variants and constants come from that no crate of the sources has
+OUTSIDE = {"u8", "u16", "u32", "u64", "usize", "str", "std", "Ok", "Err"}
 read_once = lru_cache(maxsize=None)(read)
 
 
@@ -19,7 +19,7 @@ class Program:
             crate = path.split("/")[1]
             if crate in self.crates:
                 raise Unread(f"crate {crate}: more than one file")
-            self.crates[crate] = read_once(crate, text)
+            self.crates[crate] = read_once(crate, text, path.endswith("/main.rt"))
         self.functions = {f.path: f for source in self.crates.values() for f in source.functions.values()}
         self.structs = {f"{crate}::{name}": fields for crate, source in self.crates.items()
                         for name, fields in source.structs.items()}

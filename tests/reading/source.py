@@ -1,5 +1,6 @@
 """A source read whole: its functions with their bodies, and its structs. What this reader does not know is an error:
-modules, methods but `len`, patterns that bind, tuples and whatever else the sources do not use."""
+modules, methods but `len`, patterns that bind, tuples and whatever else the sources do not use. The file of a program,
+which reads files and prints, may also call methods of the toolchain's library, and use `?` and `let .. else`."""
 from dataclasses import dataclass, field
 
 from . import tree
@@ -56,8 +57,9 @@ class Source:
 class Reader:
     """A place in the tokens of a source."""
 
-    def __init__(self, crate, text):
-        self.crate, self.text, self.tokens, self.at = crate, text, tokens(text), 0
+    def __init__(self, crate, text, is_program):
+        self.crate, self.text, self.is_program = crate, text, is_program
+        self.tokens, self.at = tokens(text), 0
 
     @property
     def next(self):
@@ -76,6 +78,10 @@ class Reader:
         self.at += 1
         return self.tokens[self.at - 1].text
 
+    def accept_kind(self, kind):
+        """The next token's text, which is passed, if it is of this kind; else nothing."""
+        return self.take(kind) if self.next.kind == kind else None
+
     def expect(self, *texts):
         return self.accept(*texts) or self.fail(" or ".join(f"`{t}`" for t in texts))
 
@@ -84,6 +90,12 @@ class Reader:
             self.fail(f"a {kind}")
         self.at += 1
         return self.tokens[self.at - 1].text
+
+    def in_program(self):
+        """Passes a token that only the file of a program may have there."""
+        if not self.is_program:
+            self.fail("what a library's file may have")
+        self.at += 1
 
     def listed(self, end, read):
         """What lies between commas, up to the bracket that ends it."""
@@ -103,17 +115,30 @@ class Reader:
     def type(self):
         """A type's text, without lifetimes."""
         if self.accept("&"):
-            if self.next.kind == "lifetime":
-                self.take("lifetime")
+            self.accept_kind("lifetime")
             return ("&mut " if self.accept("mut") else "&") + self.type()
         if self.accept("["):
             text = "[" + self.type()
             if self.accept(";"):
                 text += "; " + self.take("number")
             return text + self.expect("]")
-        path = self.path()
-        self.lifetimes()
-        return path
+        if self.accept("("):
+            inside = "" if self.sees(")") else self.type()
+            return f"({inside}{self.expect(')')}"
+        if self.accept("impl"):
+            traits = [self.type()]
+            while self.accept("+"):
+                traits.append(self.type())
+            return f"impl {' + '.join(traits)}"
+        return self.path() + self.type_arguments()
+
+    def type_arguments(self):
+        """The text of the types that a type is given in angles, lifetimes left out; nothing where it is given none."""
+        if not self.accept("<"):
+            return ""
+        given = self.listed(">", lambda: "" if self.accept_kind("lifetime") else self.type())
+        types = [kind for kind in given if kind]
+        return f"<{', '.join(types)}>" if types else ""
 
     def lifetimes(self):
         if self.accept("<"):
@@ -152,24 +177,35 @@ class Expressions(Reader):
         return tree.Unary(sign, self.unary(made)) if sign else self.postfix(self.primary(made))
 
     def postfix(self, left):
-        while self.sees(".", "["):
+        while self.sees(".", "[", "?"):
             if self.accept("["):
                 left = tree.Index(left, self.expression())
                 self.expect("]")
-                continue
-            self.expect(".")
-            name = self.take("name")
-            if self.accept("("):
-                self.expect(")")
-                left = tree.Length(left) if name == "len" else self.fail("the method `len`")
+            elif self.sees("?"):
+                self.in_program()
+                left = tree.Try(left)
             else:
-                left = tree.Field(left, name)
+                self.expect(".")
+                left = self.member(left, self.take("name"))
         return left
+
+    def member(self, of, name):
+        """A field, or a method, which is the toolchain's, since no crate of the sources declares one."""
+        if not self.sees("("):
+            return tree.Field(of, name)
+        if name == "len":
+            self.expect("(")
+            self.expect(")")
+            return tree.Length(of)
+        self.in_program()
+        return tree.Method(of, name, self.listed(")", self.expression))
 
     def primary(self, made):
         if self.next.kind in ("number", "text"):
             return tree.Literal(self.take(self.next.kind))
         if self.accept("("):
+            if self.accept(")"):
+                return tree.Literal("()")
             inside = self.expression()
             self.expect(")")
             return inside
@@ -279,9 +315,22 @@ class Statements(Expressions):
     def let(self):
         mutable = bool(self.accept("mut"))
         name = self.take("name")
+        if self.sees("("):
+            self.in_program()
+            return self.let_else(name)
         kind = self.type() if self.accept(":") else ""
         self.expect("=")
         return tree.Let(name, mutable, kind, self.expression())
+
+    def let_else(self, variant):
+        """What a variant holds gets a name, or the block behind `else` leaves."""
+        mutable = bool(self.accept("mut"))
+        name = self.take("name")
+        self.expect(")")
+        self.expect("=")
+        value = self.expression()
+        self.expect("else")
+        return tree.LetElse(variant, name, mutable, value, self.block())
 
 
 class Items(Statements):
@@ -300,8 +349,18 @@ class Items(Statements):
 
     def attributes(self):
         while self.accept("#"):
+            self.accept("!")
             self.expect("[")
-            self.skip_to("]")
+            self.skip_inside("[", "]")
+
+    def skip_inside(self, start, end):
+        """Passes what is left of a pair of brackets."""
+        depth = 1
+        while depth:
+            if self.next.kind == "end":
+                self.fail(f"`{end}`")
+            depth += self.sees(start) - self.sees(end)
+            self.at += 1
 
     def skip_to(self, end):
         while not self.accept(end):
@@ -324,14 +383,23 @@ class Items(Statements):
             name = self.take("name")
             self.once(found.aliases, name, self.alias())
         elif word == "use":
-            path = self.path()
+            for path in self.used():
+                self.once(found.uses, path.split("::")[-1], path)
             self.expect(";")
-            self.once(found.uses, path.split("::")[-1], path)
         elif word == "impl":
             self.methods(found)
         else:
             found.others.add(self.take("name"))
             self.enum() if word == "enum" else self.constant()
+
+    def used(self):
+        """The paths that a `use` brings in, each whole."""
+        path = self.take("name")
+        while self.accept("::"):
+            if self.accept("{"):
+                return [f"{path}::{inner}" for group in self.listed("}", self.used) for inner in group]
+            path += "::" + self.take("name")
+        return [path]
 
     def once(self, named, name, item):
         if name in named:
@@ -390,19 +458,15 @@ class Items(Statements):
         return Parameter(name, mutable, self.type())
 
     def contract(self):
-        """The text of a contract, which is passed."""
+        """The text of a clause of a contract, which is passed, and without its name if it has one."""
         self.expect("requires", "ensures")
+        self.accept_kind("name")
         self.expect("{")
-        first, last, depth = self.next.start, self.next.start, 1
-        while depth:
-            if self.next.kind == "end":
-                self.fail("the contract's end")
-            depth += self.sees("{") - self.sees("}")
-            last = self.next.start
-            self.at += 1
-        return " ".join(self.text[first:last].split())
+        first = self.next.start
+        self.skip_inside("{", "}")
+        return " ".join(self.text[first:self.tokens[self.at - 1].start].split())
 
 
-def read(crate, text):
+def read(crate, text, is_program=False):
     """The items of a source."""
-    return Items(crate, text).source()
+    return Items(crate, text, is_program).source()

@@ -77,11 +77,31 @@ class Call(Node):
 
 @dataclass(eq=False)
 class Length(Node):
-    """`x.len()`, the one method."""
+    """`x.len()`."""
     of: Node
 
     def __str__(self):
         return f"{closed(self.of, 13)}.len()"
+
+
+@dataclass(eq=False)
+class Method(Node):
+    """A call of another method, in a program."""
+    of: Node
+    name: str
+    arguments: list
+
+    def __str__(self):
+        return f"{closed(self.of, 13)}.{self.name}({listed(self.arguments)})"
+
+
+@dataclass(eq=False)
+class Try(Node):
+    """`x?`, which gives what `x` holds or leaves the function."""
+    of: Node
+
+    def __str__(self):
+        return f"{closed(self.of, 13)}?"
 
 
 @dataclass(eq=False)
@@ -228,6 +248,19 @@ class Let(Node):
     def __str__(self):
         typed = f": {self.type}" if self.type else ""
         return f"let {'mut ' if self.mutable else ''}{self.name}{typed} = {self.value}"
+
+
+@dataclass(eq=False)
+class LetElse(Node):
+    """A name for what a variant holds; where the value is another one, the block leaves."""
+    variant: str
+    name: str
+    mutable: bool
+    value: Node
+    other: Node
+
+    def __str__(self):
+        return f"let {self.variant}({'mut ' if self.mutable else ''}{self.name}) = {self.value} else {self.other}"
 
 
 @dataclass(eq=False)

@@ -1,11 +1,10 @@
 """Sentences about crates.txt: each crate once, in a group, behind all that it uses; and about what `panel` cites."""
 import re
 
-from reading.program import OUTSIDE
-
-# where the definitions and contracts of `panel` stand, and the crates whose definitions they may name
+# where the definitions and contracts of `panel` stand, and the crates whose definitions they may name; `std` is the
+# toolchain's
 PANEL = ("crates/panel/specs/", "crates/panel/src/")
-PANEL_CITES = ["rules", "panel"]
+PANEL_CITES = ["rules", "panel", "std"]
 
 
 def each_folder_once(listing):
@@ -24,12 +23,12 @@ def each_in_a_group(listing):
 
 
 def uses_above(listing):
-    """A crate lists others that stand above it, each once and in their order, or a library of the toolchain."""
+    """A crate lists others that stand above it, each once and in their order; of the toolchain it uses std alone, which
+    is never listed."""
     for crate, uses in listing.listed.items():
         above = listing.order[:listing.order.index(crate)]
-        own = [name for name in uses if name not in OUTSIDE]
-        yield from (f"{crate}: {name} does not stand above it" for name in own if name not in above)
-        if own != [name for name in above if name in own]:
+        yield from (f"{crate}: {name} does not stand above it" for name in uses if name not in above)
+        if uses != [name for name in above if name in uses]:
             yield f"{crate}: what it lists is not in the order of the file"
 
 
@@ -55,10 +54,11 @@ def map_has_groups(listing):
 
 
 def panel_cites_rules(listing):
-    """The definitions and contracts of `panel` name definitions of `rules` and its own, and no other crate's."""
+    """The definitions and contracts of `panel` name definitions of `rules`, its own and the toolchain's, and no other
+    crate's."""
     for path, text in listing.texts.items():
         if path.startswith(PANEL):
-            for crate in re.findall(r"^(?:ghost )?use Rattle·(\w+)", text, re.MULTILINE):
+            for crate in re.findall(r"^(?:\w+ )*use Rattle\.(\w+)", text, re.MULTILINE):
                 if crate not in PANEL_CITES:
                     yield f"{path}: it names definitions of {crate}"
 

@@ -26,7 +26,7 @@ RANK_IN = "rows::rank_in"
 # the name of the table's type, what gives the table, and what each function asks of the one that it is lent
 TABLE = "Table"
 PLACES = "bytetable::places"
-IS_TABLE = "PlacesOfOnes (now {})"
+IS_TABLE = "PlacesOfOnes {}.now"
 
 # one seek by the cursor in hand, and the one loop that makes seeks
 SEEK_IN = "query::seek_in"

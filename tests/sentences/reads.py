@@ -23,17 +23,17 @@ READS = {
     "numbers::read_u64": Read(["read_u32(s, at)", "read_u32(s, at + 4)"], "the halves of a number"),
     RUN_WORD: Read(["numbers::read_u64(s, at + 8 * k)"], "the word that is asked for"),
     "parts::blocks_from": Read(
-        ["numbers::read_u32(rest, 0)"], "the lengths of the blocks before one", "⌜ Walkable from k (now s) ⌝"),
-    "parts::part_at": Read(["numbers::read_u32(s, at)"], "the length of a block", "⌜ Held at (now s) ⌝"),
+        ["numbers::read_u32(rest, 0)"], "the lengths of the blocks before one", "Walkable from k s.now"),
+    "parts::part_at": Read(["numbers::read_u32(s, at)"], "the length of a block", "Held at s.now"),
     "openlists::length_of": Read(
         ["numbers::read_u32(part_of(card, places, i), LIST_N_AT)"], "n in a list's header",
-        "⌜ (i < 8) × PlaceOk (now card) (now places) i ⌝"),
+        "(i < 8) × PlaceOk card.now places.now i"),
     "reading::shape_at": Read(
         ["numbers::read_u32(block, LIST_U_AT)", "numbers::read_u32(block, LIST_N_AT)", "block[VERSION_AT]"],
-        "U, n and the version in a list's header", "⌜ FormValid (formAt (now block)) (now block) ⌝"),
+        "U, n and the version in a list's header", "FormValid (form_at block.now) block.now"),
     NUMBER_IN: Read(
         ["numbers::read_u32(block, POINTER_ZERO_AT + POINTER_SIZE * i)"], "the number that is asked for"),
-    POINTER: Read(["number_in(block, i)"], "pointer number i", "⌜ Open (now block) g × (i ≤ pointersIn g) ⌝"),
+    POINTER: Read(["number_in(block, i)"], "pointer number i", "Open block.now g × (i ≤ pointers_in g)"),
     LOW_PART: Read(
         ["runs::run_word(&s[g.lower..g.upper], 0, rank * g.w / 64)",
          "runs::run_word(&s[g.lower..g.upper], 0, rank * g.w / 64 + 1)"], "words of the lower run"),
