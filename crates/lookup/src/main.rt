@@ -73,7 +73,7 @@ fn read_file(file: &mut impl Read, buf: &mut [u8]) -> usize
     done
 }
 
-// Reads the file that argument i names; 0 where it is missing or cannot be opened.
+// Reads the file that argument i names; 0 where it is missing or cannot be opened, as by a name that is not UTF-8.
 fn load(rt: &(impl Env + Files), i: usize, buf: &mut [u8]) -> usize
     ensures { result ≤ length buf.new }
 {
