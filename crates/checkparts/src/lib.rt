@@ -31,8 +31,8 @@ pub fn spare_clear(s: &[u8], at: usize, size: usize) -> bool
 
 // Takes the next low part off what is left of the word read last, and off a new word once that is too little.
 pub fn next_low(s: &[u8], low: Low, w: usize) -> Low
-    requires held_bound { (low.held < 64) × (low.left < 2 ^ low.held) × (w ≤ 32) }
-    requires at_in_bounds { low.held < w → low.at + 8 ≤ length s.now }
+    requires held_fits { (low.held < 64) × (low.left < 2 ^ low.held) × (w ≤ 32) }
+    requires has_word { low.held < w → low.at + 8 ≤ length s.now }
     ensures { result ≡ next_low s.now w low }
 {
     let left = low.left;
@@ -87,8 +87,8 @@ fn pointer_ok(s: &[u8], q: usize, x: u64, base: usize, i: usize) -> bool
 // than there are elements, or the pointer that it decides is wrong.
 pub fn next_pointer(s: &[u8], g: Shape, i: usize, next: usize, x: u64, k: usize) -> usize
     requires { Ready s.now g k i next x }
-    ensures x_bound { 0 < result → (i + ones x ≤ g.n) × Pointed s.now g (64 * (k + 1)) (i + ones x) result }
-    ensures fact { result ≡ 0 → Holds s.now g → ⊥ }
+    ensures goes_on { 0 < result → (i + ones x ≤ g.n) × Pointed s.now g (64 * (k + 1)) (i + ones x) result }
+    ensures refuses { result ≡ 0 → Holds s.now g → ⊥ }
 {
     let through = i + u64::count_ones(x) as usize;
     if g.n < through {

@@ -14,21 +14,21 @@ Else-w-held = Lts.Else1 Tie.the-claims Reads.Pre Reads.Post Tie.handed_clauses
 pub returns-then-w-held : goal.returns-then-w-held
 returns-then-w-held c =
     let b = c.before.before.before in
-    low_near b.args.s.now b.args.low b.args.w (omega (arith, b.requires.0)) c.if-w-held.true
+    low_near b.args.s.now b.args.low b.args.w (omega (arith, b.requires.held_fits)) c.if-w-held.true
 
 -- the next word is there
 room : (c : Else-w-held) → c.args.low.at + 8 ≤ length c.args.s.now
-room c = c.requires.1 (omega (arith, c.if-w-held.false))
+room c = c.requires.has_word (omega (arith, c.if-w-held.false))
 
 pub returns : goal.returns
 returns c =
     let r = c.before.before in
     let b = r.before.before in
     low_far b.args.s.now b.args.low b.args.w c.read_u64-next.result c.read_u64-next.ensures
-    (omega (arith, b.requires.0)) b.requires.0.1 (omega (arith, r.if-w-held.false))
+    (omega (arith, b.requires.held_fits)) b.requires.held_fits.1 (omega (arith, r.if-w-held.false))
 
 pub overflow_sub-mask : goal.overflow_sub-mask
-overflow_sub-mask c = mask_pos c.args.w (omega (arith, c.requires.0))
+overflow_sub-mask c = mask_pos c.args.w (omega (arith, c.requires.held_fits))
 
 pub read_u64-next-requires : goal.read_u64-next-requires
 read_u64-next-requires c = omega (arith, room c.before)

@@ -32,47 +32,50 @@ small_at c =
 abbrev by_ones : Else-g-through → Start
 by_ones c = c.before.before.before
 
-abbrev by-pointers : Else-g-next → Start
-by-pointers c = by_ones c.before.before.before
+abbrev by_pointers : Else-g-next → Start
+by_pointers c = by_ones c.before.before.before
 
 pub returns-then-g-through : goal.returns-then-g-through
 returns-then-g-through c =
     let b = c.before.before.before.before in
-    let a = b.args in (
-      λ z. absurd (omega arith),
-      λ _. refuse_many a.s.now a.g a.k a.i a.next a.x b.requires (omega arith) c.if-g-through.true,
-    )
+    let a = b.args in
+    record {
+      goes_on = λ z. absurd (omega arith);
+      refuses = λ _. refuse_many a.s.now a.g a.k a.i a.next a.x b.requires (omega arith) c.if-g-through.true;
+    }
 
 pub returns-then-k-next : goal.returns-then-k-next
 returns-then-k-next c =
     let e = c.before.before in
     let b = by_ones e in
     let a = b.args in
-    let p = b.requires.pointed in (
-      λ _. (
+    let p = b.requires.pointed in
+    record {
+      goes_on = λ _. (
         omega (arith, e.if-g-through.false),
         pointed_same a.s.now a.g a.k a.i a.next (ones a.x) p (λ _. omega (arith, c.if-k-next.true)),
-      ),
-      λ z. absurd (omega (arith, p.first)),
-    )
+      );
+      refuses = λ z. absurd (omega (arith, p.first));
+    }
 
 pub returns-then-g-next : goal.returns-then-g-next
 returns-then-g-next c =
     let e = c.before.before.before.before in
     let b = by_ones e in
     let a = b.args in
-    let p = b.requires.pointed in (
-      λ _. (
+    let p = b.requires.pointed in
+    record {
+      goes_on = λ _. (
         omega (arith, e.if-g-through.false),
         pointed_same a.s.now a.g a.k a.i a.next (ones a.x) p
             (λ l. absurd (omega (arith, c.if-g-next.true))),
-      ),
-      λ z. absurd (omega (arith, p.first)),
-    )
+      );
+      refuses = λ z. absurd (omega (arith, p.first));
+    }
 
 pub pointer_ok-requires : goal.pointer_ok-requires
 pointer_ok-requires c =
-    let b = by-pointers c.before in
+    let b = by_pointers c.before in
     let m = small_at b in (
       pointer_room b.args.s.now b.args.g b.args.next b.requires.laid c.if-g-next.false,
       m.next,
@@ -84,34 +87,36 @@ pub returns-then-pointer_ok : goal.returns-then-pointer_ok
 returns-then-pointer_ok c =
     let t = c.before.before in
     let o = t.before in
-    let b = by-pointers o in
+    let b = by_pointers o in
     let a = b.args in
     let p = b.requires in
-    let st = t.pointer_ok.ensures.0 c.if-pointer_ok.true in (
-      λ _. (
+    let st = t.pointer_ok.ensures.0 c.if-pointer_ok.true in
+    record {
+      goes_on = λ _. (
         omega (arith, o.if-g-through.false),
         pointed_next a.s.now a.g a.k a.i a.next (ones a.x) p.pointed p.laid
             o.if-g-next.false (stands_after a.s.now a.g.upper a.k a.x a.i p.word_is
             p.counted (256 * a.next) _ st),
-      ),
-      λ z. absurd (omega arith),
-    )
+      );
+      refuses = λ z. absurd (omega arith);
+    }
 
 pub returns : goal.returns
 returns c =
     let t = c.before.before in
     let o = t.before in
-    let b = by-pointers o in
+    let b = by_pointers o in
     let a = b.args in
-    let p = b.requires in (
-      λ z. absurd (omega arith),
-      λ _ h.
+    let p = b.requires in
+    record {
+      goes_on = λ z. absurd (omega arith);
+      refuses = λ _ h.
           t.pointer_ok.ensures.1 c.if-pointer_ok.false
           (after_stands a.s.now a.g.upper a.k a.x a.i p.word_is
           p.counted (256 * a.next) _ (omega arith)
           (h.pointers_are a.next p.pointed.first o.if-g-next.false)
-          (p.pointed.ahead o.if-g-next.false) (omega (arith, o.if-k-next.false))),
-    )
+          (p.pointed.ahead o.if-g-next.false) (omega (arith, o.if-k-next.false)));
+    }
 
 pub overflow_cast-through : goal.overflow_cast-through
 overflow_cast-through c = omega (arith, (small_at c.before.before).ones_few)
@@ -138,7 +143,7 @@ pub overflow_add-next-2 : goal.overflow_add-next-2
 overflow_add-next-2 c = omega (arith, (small_at (by_ones c.before.before)).next)
 
 pub overflow_mul-k-2 : goal.overflow_mul-k-2
-overflow_mul-k-2 c = omega (arith, (small_at (by-pointers c.before)).place)
+overflow_mul-k-2 c = omega (arith, (small_at (by_pointers c.before)).place)
 
 pub overflow_add-result : goal.overflow_add-result
-overflow_add-result c = omega (arith, (small_at (by-pointers c.before.before.before)).next)
+overflow_add-result c = omega (arith, (small_at (by_pointers c.before.before.before)).next)

@@ -10,10 +10,11 @@ use Rattle.laws.proofs.RunLaws.{run_part}
 use Rattle.readlaws.proofs.ReadLaws.{Reading, open_reads, low_inside, low_small}
 use Rattle.reading.proofs.low_at.Lts
 use Rattle.reading.proofs.low_at.Reads
+use Rattle.reading.proofs.low_at.Tie
 use Rattle.reading.proofs.low_at.Goals as goal
 
 abbrev Start : Type 0
-Start = Lts.Start Reads.Pre Reads.Post
+Start = Lts.Start Tie.the-claims Reads.Pre Reads.Post
 
 -- a field of a run as a list of its own, of m bytes
 field_part : (s : List ℕ) (m at o w : ℕ) → 8 * words_for (o + w) ≤ m → field (take m (drop at s)) 0 o w ≡ field s at o w
@@ -39,29 +40,29 @@ within c =
 
 pub slice_bounds-low_field-count : goal.slice_bounds-low_field-count
 slice_bounds-low_field-count c =
-    let r = reads c.before in
+    let r = reads c.before.before in
     omega arith
 
 pub slice_bounds-low_field-start : goal.slice_bounds-low_field-start
 slice_bounds-low_field-start c =
-    let r = reads c.before in
+    let r = reads c.before.before in
     omega arith
 
 pub slice_bounds-low_field-end : goal.slice_bounds-low_field-end
 slice_bounds-low_field-end c =
-    let r = reads c.before in
+    let r = reads c.before.before in
     omega arith
 
 pub overflow_mul-i : goal.overflow_mul-i
 overflow_mul-i c =
-    let start = c.before.before.before in
+    let start = c.before.before.before.before in
     let a = start.args in
     let r = reads start in
     record { fits = omega (arith, low_inside a.block.now a.g start.requires.0 a.i start.requires.1) }
 
 pub low_field-requires : goal.low_field-requires
 low_field-requires c =
-    let start = c.before.before.before in
+    let start = c.before.before.before.before in
     let a = start.args in
     let r = reads start in
     let run = length-take-le (runLength start) (drop a.g.lower a.block.now)
@@ -70,7 +71,7 @@ low_field-requires c =
 
 pub returns : goal.returns
 returns c =
-    let start = c.before.before.before.before in
+    let start = c.before.before.before.before.before in
     let a = start.args in
     let e = c.low_field.ensures
     ∙ field_part a.block.now (runLength start) a.g.lower (a.i * a.g.w) a.g.w (within start) in

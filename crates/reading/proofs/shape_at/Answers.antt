@@ -20,7 +20,7 @@ opens s g a e = (valid_opens (form_at s) s g a e, e)
 pub map_in-requires : goal.map_in-requires
 unfolding list_u
 map_in-requires c =
-    let reads = c.before.before.before in
+    let reads = c.before.before.before.before in
     let start = reads.before.before in
     let f = start.requires.framed in
     let e = reads.read_u32-u.ensures.0 in
@@ -31,7 +31,7 @@ map_in-requires c =
 pub returns-then-block-eq-MAP_VERSION : goal.returns-then-block-eq-MAP_VERSION
 unfolding list_u list_n
 returns-then-block-eq-MAP_VERSION c =
-    let reads = c.before.before.before in
+    let reads = c.before.before.before.before in
     let start = reads.before.before.before in
     let s = start.args.block.now in
     opens s c.map_in.result start.requires (rw (version_form bitmap s c.if-block-eq-MAP_VERSION.true)
@@ -40,7 +40,7 @@ returns-then-block-eq-MAP_VERSION c =
 pub shape_of-requires : goal.shape_of-requires
 unfolding list_u list_n
 shape_of-requires c =
-    let reads = c.before.before in
+    let reads = c.before.before.before in
     let f = reads.requires.framed in
     let u = reads.read_u32-u.ensures.0 in
     (omega (arith, f.below, u, reads.read_u32-n.ensures.0), omega (arith, f.within, u))
@@ -48,7 +48,7 @@ shape_of-requires c =
 pub returns : goal.returns
 unfolding list_u list_n
 returns c =
-    let reads = c.before.before.before in
+    let reads = c.before.before.before.before in
     let start = reads.before.before.before in
     let s = start.args.block.now in
     opens s c.shape_of.result start.requires (rw (other_version s c.if-block-eq-MAP_VERSION.false)

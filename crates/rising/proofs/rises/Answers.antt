@@ -1,6 +1,5 @@
 -- `rises` compares each element with the one before it: what is left to test gives what all of it gives, unless one falls.
 use mathlib.Core.Path.{◌≡◌, refl, sym, ◌∙◌, subst}
-use mathlib.Core.Logic.{inl, inr}
 use Prim.Native.Nat.{◌+◌, ◌-◌, ◌≤◌, ◌<◌}
 use native.Mathlib.Numerals.{add-one}
 use native.Mathlib.Omega.{arith}
@@ -8,6 +7,7 @@ use lib.ListN.{length, get_or}
 use Rattle.filllaws.proofs.RiseLaws.{rising_none, climbs_end, Compared}
 use Rattle.filllaws.proofs.RiseLaws.{compared_none, compared_fell, compared_falls, compared_on}
 use Rattle.rising.proofs.rises.Goals as goal
+use Rattle.rising.proofs.rises.Goals.{then-list-i, else-list-i}
 
 pub returns-then-list-eq0 : goal.returns-then-list-eq0
 returns-then-list-eq0 c = sym (rising_none 0 c.args.u c.args.list.now c.if-list-eq0.true)
@@ -29,10 +29,10 @@ loop-i-preserved c =
       omega arith,
       omega arith,
       elim c.if-list-i.branch [
-        | inl t ↦ subst (λ b. Compared a.u xs b (i + 1)) (sym t.1)
-            (compared_fell a.u xs (i + 1) (compared_falls a.u xs i h l.loop-i.falls k t.0.taken))
-        | inr t ↦ subst (λ b. Compared a.u xs b (i + 1)) (sym t.1)
-            (compared_on a.u xs i h l.loop-i.falls k t.0.left)
+        | then-list-i t ↦ subst (λ b. Compared a.u xs b (i + 1)) (sym t.falls-is)
+            (compared_fell a.u xs (i + 1) (compared_falls a.u xs i h l.loop-i.falls k t.if-list-i.true))
+        | else-list-i t ↦ subst (λ b. Compared a.u xs b (i + 1)) (sym t.falls-is)
+            (compared_on a.u xs i h l.loop-i.falls k t.if-list-i.false)
       ],
     )
 

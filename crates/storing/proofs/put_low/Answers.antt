@@ -118,11 +118,11 @@ returns c =
     let v : ℕ = lows.acc + a.x % 2 ^ a.w * 2 ^ lows.have in
     let b = above lows.words (lows.have + a.w) u.if-a-w-lt64.false
     (bits_lt s.requires.0 s.requires.1) in
-    let p = parted r.hi r.lo v k.place-p.type-inv.1.1.0.1
+    let p = parted r.hi r.lo v k.place-p.type_inv.1.1.0.1
     (laid_bits a.x a.w lows.have lows.acc r.hi r.lo s.requires.1 k.place-p.ensures) in
     record {
       flushed = flushed_one a.at lows.words v a.room.now ((lows.have + a.w) / 64) r.hi r.lo
-          u.write_u64.new.0 b.full (omega arith) u.write_u64.ensures p.0 p.1;
+          u.write_u64.new.d b.full (omega arith) u.write_u64.ensures p.0 p.1;
       have = b.have;
       words = b.more;
     }

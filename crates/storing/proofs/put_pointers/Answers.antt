@@ -5,10 +5,8 @@ use native.Mathlib.Omega.{arith}
 use lib.ListN.{length}
 use Rattle.filllaws.specs.Filling.{Stored}
 use Rattle.filllaws.proofs.StoreLaws.{stored_none, stored_more}
+use Rattle.storing.proofs.put_pointers.Invariants.{pointer_at}
 use Rattle.storing.proofs.put_pointers.Goals as goal
-
-abbrev pointer_at : ℕ → ℕ → ℕ
-pointer_at count q = 256 * q + count
 
 pub loop-q-init : goal.loop-q-init
 loop-q-init c =
@@ -20,7 +18,7 @@ loop-q-preserved c =
     let l = c.before.before.before.before.before.before in
     let a = l.args in
     let t = stored_more 4 9 (pointer_at a.count) a.next l.loop-q.q a.room.now
-    l.loop-q.room l.loop-q.invariant.4 (omega arith) (omega arith) (omega arith) c.write_u32.new.0
+    l.loop-q.room l.loop-q.invariant.4 (omega arith) (omega arith) (omega arith) c.write_u32.new.d
     c.write_u32.ensures in
     (omega arith, omega arith, omega arith, t.long, t)
 

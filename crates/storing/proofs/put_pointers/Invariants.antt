@@ -7,6 +7,9 @@ use Rattle.filllaws.specs.Filling.{Stored}
 use Rattle.filllaws.proofs.StoreLaws.{stored_none, stored_more}
 use Rattle.storing.proofs.put_pointers.Given as goal
 
+abbrev pub pointer_at : ℕ → ℕ → ℕ
+pointer_at count q = 256 * q + count
+
 abbrev pub invariant-loop-q : goal.invariant-loop-q
 invariant-loop-q l =
     (l.next ≤ l.q) × (l.q ≤ l.end) × (l.end ≡ l.high / 256 + 1) × (length l.room ≡ length l.initial.room)

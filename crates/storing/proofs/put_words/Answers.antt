@@ -9,10 +9,8 @@ use lib.Seq.{sets}
 use Rattle.rules.specs.Bytes.{be}
 use Rattle.filllaws.specs.Filling.{Stored}
 use Rattle.filllaws.proofs.StoreLaws.{stored_none, stored_more}
+use Rattle.storing.proofs.put_words.Invariants.{word_at}
 use Rattle.storing.proofs.put_words.Goals as goal
-
-abbrev word_at : ℕ → ℕ → ℕ → ℕ
-word_at from acc j = acc / 2 ^ (64 * (j - from)) % 2 ^ 64
 
 first : (from acc : ℕ) → acc ≡ acc / 2 ^ (64 * (from - from))
 first from acc =
@@ -45,7 +43,7 @@ loop-k-preserved c =
     let w : l.loop-k.word ≡ word_at a.from a.acc k =
     sym (mod-eq_of_lt l.loop-k.invariant.4) ∙ ap (λ v. v % 2 ^ 64) l.loop-k.invariant.3 in
     let t = stored_more 8 a.at (word_at a.from a.acc) a.from k a.room.now
-    l.loop-k.room s (omega arith) (omega arith) (omega (arith, w)) c.write_u64.new.0
+    l.loop-k.room s (omega arith) (omega arith) (omega (arith, w)) c.write_u64.new.d
     (c.write_u64.ensures ∙ ap (λ v. sets l.loop-k.room (a.at + 8 * k) (be 8 v)) w) in
     (omega arith, omega arith, t.long, later a.from a.acc k (omega arith) (omega arith), omega arith, t)
 

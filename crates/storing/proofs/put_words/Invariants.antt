@@ -11,6 +11,9 @@ use Rattle.filllaws.specs.Filling.{Stored}
 use Rattle.filllaws.proofs.StoreLaws.{stored_none, stored_more}
 use Rattle.storing.proofs.put_words.Given as goal
 
+abbrev pub word_at : ℕ → ℕ → ℕ → ℕ
+word_at from acc j = acc / 2 ^ (64 * (j - from)) % 2 ^ 64
+
 abbrev pub invariant-loop-k : goal.invariant-loop-k
 invariant-loop-k l =
     (l.from ≤ l.k) × (l.k ≤ l.to) × (length l.room ≡ length l.initial.room) × (l.word ≡ l.acc / 2 ^ (64 * (l.k - l.from))) × (l.word < 2 ^ 64)

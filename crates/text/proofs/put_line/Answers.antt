@@ -25,7 +25,7 @@ loop-i-init c =
       omega arith,
       refl,
       omega (arith, first_length ns s.requires.0, k.put_number-next.ensures.next, put_length k.put_number-next.ensures),
-      partly_none (ending (drop 1 ns)) k.put_number-next.result k.put_number-next.new.0,
+      partly_none (ending (drop 1 ns)) k.put_number-next.result k.put_number-next.new.text,
     )
 
 pub bounds-text-next : goal.bounds-text-next
@@ -66,7 +66,7 @@ loop-i-preserved c =
     let i = l.loop-i.i in
     let h : i < length ns = omega arith in
     let p : Put (32 ∷ digits (get_or ns i 0)) l.loop-i.next k.put_number-next-in-loop-i.result l.loop-i.text
-    k.put_number-next-in-loop-i.new.0 =
+    k.put_number-next-in-loop-i.new.text =
     put_cat (put_one 32 l.loop-i.next l.loop-i.text) k.put_number-next-in-loop-i.ensures in (
       omega arith,
       omega arith,
@@ -89,7 +89,7 @@ overflow_add-result c =
 
 pub shape_of-text : goal.shape_of-text
 shape_of-text c =
-    let l = c.before in
+    let l = c.before.before in
     rw length-set (l.loop-i.invariant.2 ∙ put_length l.put_number-next.ensures)
 
 pub returns : goal.returns

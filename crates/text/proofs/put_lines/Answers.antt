@@ -58,7 +58,7 @@ loop-from-preserved c =
     let i = l.loop-from.from in
     let h : i < length ns = omega arith in
     let w = l.loop-from.invariant.1 in
-    let p : Put (line (answer_at ns i)) l.loop-from.next k.put_line-next.result l.loop-from.text k.put_line-next.new.0 =
+    let p : Put (line (answer_at ns i)) l.loop-from.next k.put_line-next.result l.loop-from.text k.put_line-next.new.text =
     k.put_line-next.ensures in (
       counted_fits ns i h w,
       counted_rest ns i h w,

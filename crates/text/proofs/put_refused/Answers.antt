@@ -15,7 +15,7 @@ pub write_u64-requires : goal.write_u64-requires
 write_u64-requires c =
     let k = c.before.before in
     let s = k.before.before in
-    omega (arith, refused_length s.args.r k.number_of_lem.result k.number_of_lem.ensures (omega arith), s.requires)
+    omega (arith, refused_length s.args.r k.number_of-n.result k.number_of-n.ensures (omega arith), s.requires)
 
 pub put_line-requires : goal.put_line-requires
 put_line-requires c =
@@ -25,7 +25,7 @@ put_line-requires c =
       omega arith,
       omega (
         arith,
-        refused_length s.args.r k.number_of_lem.result k.number_of_lem.ensures
+        refused_length s.args.r k.number_of-n.result k.number_of-n.ensures
             (omega arith),
         s.requires,
       ),
@@ -37,4 +37,4 @@ returns c =
     let w = p.before.before.before.before.before in
     let k = w.before.before.before in
     let s = k.before.before in
-    put_refused s.args.r k.number_of_lem.ensures (omega arith) w.write_u64.ensures p.put_line.ensures
+    put_refused s.args.r k.number_of-n.ensures (omega arith) w.write_u64.ensures p.put_line.ensures

@@ -1,0 +1,25 @@
+-- `skip` passes words without zero number h, which is before the run's end; in its word it is found by its number.
+use mathlib.Core.Path.{◌≡◌, refl, subst}
+use Prim.Native.Nat.{ℕ, ◌+◌, ◌-◌, ◌*◌, ◌^◌, ◌<◌, ◌≤◌}
+use native.Mathlib.Omega.{arith}
+use lib.Count.{ones}
+use Rattle.rules.specs.Runs.{words_for}
+use Rattle.selectlaws.specs.ByteCounts.{running_ones}
+use Rattle.readlaws.proofs.ReadLaws.{open_reads}
+use Rattle.walklaws.specs.declared.Ones.{Ones}
+use Rattle.walklaws.specs.Walks.{RunIn, Skipping, Paid}
+use Rattle.walklaws.proofs.OpenLaws.{words_few, open_run}
+use Rattle.walklaws.proofs.WalkLaws.{rank_small, skipping_in, skipping_inside, skipping_next, skipped_at}
+use Rattle.passing.proofs.skip.Given as goal
+
+-- what the walk has before it, by the number of the wanted zero
+abbrev pub placed : ℕ → ℕ → ℕ → ℕ → Ones
+placed h left k wanted = record { left = left; k = k; rank = wanted + 64 * k - h }
+
+abbrev pub invariant-loop-counts : goal.invariant-loop-counts
+invariant-loop-counts l =
+    Skipping l.s l.g l.h (placed l.h l.left l.k l.wanted) × (l.h ≤ l.wanted + 64 * l.k) × Paid l.initial.k l.initial.looks l.k l.looks
+    × (l.counts ≡ running_ones 8 0 l.left)
+
+abbrev pub decreases-loop-counts : goal.decreases-loop-counts
+decreases-loop-counts l = words_for l.g.bits - l.k

@@ -1,0 +1,24 @@
+-- `positions_rise` goes from page to page: what is left gives what all of it gives, with a base that stops above the limit.
+use mathlib.Core.List.{[]}
+use mathlib.Core.Path.{◌≡◌, refl, sym, ap, ap₂, ◌∙◌}
+use Prim.Native.Nat.{◌+◌, ◌-◌, ◌^◌, ◌≤◌, ◌<◌}
+use native.Mathlib.Omega.{arith}
+use lib.Dec.{eqb}
+use lib.ListN.{length, get_or, drop, drop_of_length-le}
+use Rattle.rules.specs.Limits.{limit}
+use Rattle.rules.specs.Term.{total}
+use Rattle.wordlaws.specs.Reach.{capped, falls_in}
+use Rattle.wordlaws.proofs.CheckLaws.{spanned, spanned_on, total_on, next_placed}
+use Rattle.wordlaws.proofs.FallLaws.{seams, seams_on, seams_none, pages_in_order}
+use Rattle.wordlaws.proofs.LayLaws.{positive_at}
+use Rattle.testword.proofs.positions_rise.Given as goal
+
+abbrev pub invariant-loop-i : goal.invariant-loop-i
+invariant-loop-i l =
+    (l.i ≤ length l.counts) × (l.i-end ≡ length l.counts) × (l.from + total (drop l.i l.counts) ≡ length l.positions)
+    × (l.base ≤ limit + 1) × (l.seams ≤ l.i)
+    × (seams 0 l.counts l.positions ≡ l.seams + seams l.from (drop l.i l.counts) l.positions)
+    × (capped (spanned l.counts l.positions) ≡ capped (l.base + spanned (drop l.i l.counts) (drop l.from l.positions)))
+
+abbrev pub decreases-loop-i : goal.decreases-loop-i
+decreases-loop-i l = length l.counts - l.i
