@@ -1,4 +1,5 @@
 // The program: a card file and a question file are its arguments, and what it prints for them goes to standard output.
+#![tactic(auto)]
 
 ghost use Rattle.std.specs.Prelude.{◌≡◌, ◌≤◌, length};
 ghost use Rattle.rules.specs.declared.Refusal.TheVariants.{Question};
@@ -8,11 +9,12 @@ ghost use Rattle.rules.specs.Ask.{reply};
 ghost use Rattle.rules.specs.Program.{file_limit, answer_room, printed_reply};
 ghost use Rattle.rules.specs.Promises.{Printed};
 ghost use Rattle.files.specs.Laid.{Put, words_of};
-ghost use Rattle.io.specs.Counts.{IsPrefixLen};
 
 use files::FILE_LIMIT;
-use libc::STDOUT_FILENO;
 use rules::Refusal;
+use std::fs::{File, OpenOptions};
+use std::io::Read;
+use std::rt::{Env, Files};
 
 // The refusal where bytes are left behind the last whole number of the questions: the card's, if it has one.
 fn refuse_rest(card: &[u8]) -> Refusal
@@ -55,16 +57,14 @@ fn answer_text(card: &[u8], questions: &[u8], text: &mut [u8; 90200]) -> usize
 }
 
 // Reads until the file ends or buf is full; 0 where a read fails, as of a file that cannot be read.
-fn read_file(fd: i32, buf: &mut [u8]) -> usize
-    ensures { IsPrefixLen result buf.new }
+fn read_file(file: &mut File, buf: &mut [u8]) -> usize
+    ensures { result ≤ length buf.new }
 {
     let mut done = 0;
     while done < buf.len() {
-        let got = libc::read(fd, &mut buf[done..]);
-        if got < 0 {
+        let Ok(more) = file.read(&mut buf[done..]) else {
             return 0;
-        }
-        let more = io::count(got, &buf[done..]);
+        };
         if more == 0 {
             return done;
         }
@@ -73,28 +73,32 @@ fn read_file(fd: i32, buf: &mut [u8]) -> usize
     done
 }
 
-// Reads the file that argument i names; 0 where it is missing or cannot be opened.
-fn load(i: usize, buf: &mut [u8]) -> usize
-    ensures { IsPrefixLen result buf.new }
+// Reads the file that argument i names; 0 where it is missing or cannot be opened, as by a name that is not UTF-8.
+// It is opened by the runtime's own method: `fs::open` would rest the proof on every call that a file system has.
+fn load(rt: &HostRuntime, i: usize, buf: &mut [u8]) -> usize
+    ensures { result ≤ length buf.new }
 {
-    let mut path = io::buffer();
-    let n = os::arg(i, &mut path);
-    let fd = os::open_read(&path[..n]);
-    if fd < 0 {
+    let mut path = [0u8; 4096];
+    let Ok(n) = rt.arg(i, &mut path) else {
         return 0;
-    }
-    let size = read_file(fd, buf);
-    libc::close(fd);
-    size
+    };
+    let Ok(name) = str::from_utf8(&path[..n]) else {
+        return 0;
+    };
+    let Ok(mut file) = rt.open_file(OpenOptions::new().read(true), name) else {
+        return 0;
+    };
+    read_file(&mut file, buf)
 }
 
-// Reads one byte more than a file may have, so that a longer one shows, and writes what is printed.
-fn main() {
+// Reads one byte more than a file may have, so that a longer one shows, and writes what is printed, as far as it
+// can be written.
+fn main(rt: HostRuntime) {
     let mut card = [0u8; FILE_LIMIT + 1];
-    let n = load(1, &mut card);
+    let n = load(&rt, 1, &mut card);
     let mut questions = [0u8; FILE_LIMIT + 1];
-    let q = load(2, &mut questions);
+    let q = load(&rt, 2, &mut questions);
     let mut text = [0u8; 90200];
     let size = answer_text(&card[..n], &questions[..q], &mut text);
-    io::write_all(STDOUT_FILENO, &text[..size]);
+    let _ = rt.write_all(&text[..size]);
 }
