@@ -11,19 +11,20 @@ use Rattle.walklaws.proofs.OpenLaws.{Stored, form_stored}
 use Rattle.mapseek.proofs.MapLaws.{map_walk, map_none_there, map_next, map_lands_none, page_small, map_lands}
 use Rattle.mapseek.proofs.find_behind.Lts
 use Rattle.mapseek.proofs.find_behind.Reads
+use Rattle.mapseek.proofs.find_behind.Tie
 use Rattle.mapseek.proofs.find_behind.Goals as goal
 
 abbrev Start : Type 0
-Start = Lts.Start Reads.Pre Reads.Post
+Start = Lts.Start Tie.the-claims Reads.Pre Reads.Post goal.the-invariant-loop-left goal.the-decreases-loop-left
 
 abbrev At-loop-left : Type 0
-At-loop-left = Lts.At-loop Reads.Pre Reads.Post
+At-loop-left = Lts.At-loop Tie.the-claims Reads.Pre Reads.Post goal.the-invariant-loop-left goal.the-decreases-loop-left
 
 abbrev Else-k-last : Type 0
-Else-k-last = Lts.Else1 Reads.Pre Reads.Post
+Else-k-last = Lts.Else1 Tie.the-claims Reads.Pre Reads.Post goal.the-invariant-loop-left goal.the-decreases-loop-left
 
 abbrev After-loop-left : Type 0
-After-loop-left = Lts.After-loop Reads.Pre Reads.Post
+After-loop-left = Lts.After-loop Tie.the-claims Reads.Pre Reads.Post goal.the-invariant-loop-left goal.the-decreases-loop-left
 
 stored : (c : Start) → Stored bitmap c.args.s.now c.args.g
 stored c = form_stored bitmap c.args.s.now c.args.g c.requires.0
@@ -32,13 +33,13 @@ inside : (c : Start) → c.args.b < c.args.g.bits
 inside c = omega (arith, (map_reads c.args.s.now c.args.g c.requires.0).bits_are)
 
 pub overflow_sub-last : goal.overflow_sub-last
-overflow_sub-last c = omega (arith, inside c.before.before)
+overflow_sub-last c = omega (arith, inside c.before.before.before)
 
 pub loop-left-init : goal.loop-left-init
 loop-left-init c =
     let start = c in
     let a = start.args in
-    (map_none_there a.s.now a.g (stored start.before.before) a.b (inside start.before.before) start.requires.3, refl)
+    (map_none_there a.s.now a.g (stored start.before.before.before) a.b (inside start.before.before.before) start.requires.3, refl)
 
 -- the function's own start, seen from the loop
 abbrev begun : At-loop-left → Start
@@ -50,9 +51,9 @@ returns-then-k-last c =
     let start = at in
     let a = start.args in
     let end : at.loop-left.k + 1 ≡ words_for a.g.bits = unfold words_for
-    in omega (arith, inside start.before.before.before.before.before.before, c.if-k-last.true) in
-    let l = map_lands_none a.s.now a.g (stored start.before.before.before.before.before.before) a.b (inside start.before.before.before.before.before.before) at.loop-left.left at.loop-left.k
-    at.loop-left.invariant.0 (omega (arith, start.requires.0.valid.some refl, (stored start.before.before.before.before.before.before).n_is)) c.loop-left-test.true end _ c.none.ensures.0
+    in omega (arith, inside start.before.before.before.before.before.before.before, c.if-k-last.true) in
+    let l = map_lands_none a.s.now a.g (stored start.before.before.before.before.before.before.before) a.b (inside start.before.before.before.before.before.before.before) at.loop-left.left at.loop-left.k
+    at.loop-left.invariant.0 (omega (arith, start.requires.0.valid.some refl, (stored start.before.before.before.before.before.before.before).n_is)) c.loop-left-test.true end _ c.none.ensures.0
     c.none.ensures.1 in
     (l.0, omega (arith, l.1, at.loop-left.invariant.1))
 
@@ -67,10 +68,10 @@ more c =
 pub next_word-at-requires : goal.next_word-at-requires
 next_word-at-requires c =
     let at = c in
-    ((stored at.before.before.before.before.before.before).run, more c.before, omega (arith, at.loop-left.invariant.1, at.requires.2))
+    ((stored at.before.before.before.before.before.before.before).run, more c.before.before, omega (arith, at.loop-left.invariant.1, at.requires.2))
 
 pub loop-left-smaller : goal.loop-left-smaller
-loop-left-smaller c = omega (arith, more c.before.before, c.next_word-at.ensures.1)
+loop-left-smaller c = omega (arith, more c.before.before.before, c.next_word-at.ensures.1)
 
 pub loop-left-preserved : goal.loop-left-preserved
 loop-left-preserved c =
@@ -78,9 +79,9 @@ loop-left-preserved c =
     let start = at in
     let a = start.args in
     let n = c.next_word-at.ensures in (
-      rw n.1 (map_next a.s.now a.g (stored start.before.before.before.before.before.before.before) a.b (inside start.before.before.before.before.before.before.before) at.loop-left.left at.loop-left.k
+      rw n.1 (map_next a.s.now a.g (stored start.before.before.before.before.before.before.before.before) a.b (inside start.before.before.before.before.before.before.before.before) at.loop-left.left at.loop-left.k
           at.loop-left.invariant.0 c.next_word-at.result.left c.loop-left-test.true
-          (more c.before.before) n.0),
+          (more c.before.before.before) n.0),
       omega (arith, at.loop-left.invariant.1, n.1, n.3),
     )
 
@@ -98,7 +99,7 @@ returns c =
     let at = c in
     let start = at in
     let a = start.args in
-    let l = map_lands a.s.now a.g (stored start.before.before.before.before.before) a.b (inside start.before.before.before.before.before) at.loop-left.left at.loop-left.k
+    let l = map_lands a.s.now a.g (stored start.before.before.before.before.before.before) a.b (inside start.before.before.before.before.before.before) at.loop-left.left at.loop-left.k
     at.loop-left.invariant.0 (omega (arith, c.loop-left-test.false)) _ c.on_page.ensures.0 c.on_page.ensures.1 in
     (l.0, omega (arith, l.1, at.loop-left.invariant.1))
 
@@ -106,13 +107,13 @@ pub none-requires : goal.none-requires
 none-requires c = tt
 
 pub overflow_mul-k : goal.overflow_mul-k
-overflow_mul-k c = omega (arith, small c)
+overflow_mul-k c = omega (arith, small c.before)
 
 pub overflow_cast-left : goal.overflow_cast-left
-overflow_cast-left c = omega (arith, small c)
+overflow_cast-left c = omega (arith, small c.before)
 
 pub overflow_add-k : goal.overflow_add-k
-overflow_add-k c = omega (arith, small c)
+overflow_add-k c = omega (arith, small c.before)
 
 pub on_page-requires : goal.on_page-requires
-on_page-requires c = small c
+on_page-requires c = small c.before

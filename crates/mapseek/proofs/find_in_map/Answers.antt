@@ -11,19 +11,20 @@ use Rattle.walklaws.proofs.OpenLaws.{Stored, look_fits, form_stored}
 use Rattle.mapseek.proofs.MapLaws.{word_inside, here_small, lands_here, lands_on_bound}
 use Rattle.mapseek.proofs.find_in_map.Lts
 use Rattle.mapseek.proofs.find_in_map.Reads
+use Rattle.mapseek.proofs.find_in_map.Tie
 use Rattle.mapseek.proofs.find_in_map.Goals as goal
 
 abbrev Start : Type 0
-Start = Lts.Start Reads.Pre Reads.Post
+Start = Lts.Start Tie.the-claims Reads.Pre Reads.Post
 
 abbrev After-look-word : Type 0
-After-look-word = Lts.After-look Reads.Pre Reads.Post
+After-look-word = Lts.After-look Tie.the-claims Reads.Pre Reads.Post
 
 abbrev Then-rest-eq1 : Type 0
-Then-rest-eq1 = Lts.Then2 Reads.Pre Reads.Post
+Then-rest-eq1 = Lts.Then2 Tie.the-claims Reads.Pre Reads.Post
 
 abbrev Then-rest-ne0 : Type 0
-Then-rest-ne0 = Lts.Then3 Reads.Pre Reads.Post
+Then-rest-ne0 = Lts.Then3 Tie.the-claims Reads.Pre Reads.Post
 
 stored : (c : Start) → Stored bitmap c.args.s.now c.args.g
 stored c = form_stored bitmap c.args.s.now c.args.g c.requires.0
@@ -35,9 +36,9 @@ pub look-word-requires : goal.look-word-requires
 look-word-requires c =
     let start = c in
     let a = start.args in
-    let t = stored start.before.before in
+    let t = stored start.before.before.before in
     look_fits a.s.now a.g t.run (a.b / 64) a.looks.now
-    (word_inside a.s.now a.g t a.b (inside start.before.before)) (omega arith)
+    (word_inside a.s.now a.g t a.b (inside start.before.before.before)) (omega arith)
 
 -- the function's own start, seen from behind the look
 abbrev begun : After-look-word → Start
@@ -58,20 +59,20 @@ abbrev tested : Then-rest-eq1 → After-look-word
 tested c = c.before.before
 
 odd : (c : Then-rest-eq1) → rest c.before.before % 2 ≡ 1
-odd c = eqb-true _ _ c.if-rest-eq1.true
+odd c = c.if-rest-eq1.true
 
 pub on_page-requires : goal.on_page-requires
 on_page-requires c =
     let start = c in
-    omega (arith, inside start.before.before.before.before.before, (stored start.before.before.before.before.before).run.short)
+    omega (arith, inside start.before.before.before.before.before.before, (stored start.before.before.before.before.before.before).run.short)
 
 pub returns-then-rest-eq1 : goal.returns-then-rest-eq1
 returns-then-rest-eq1 c =
     let at = c in
     let start = at in
     let a = start.args in
-    let one = odd c.before in
-    let bound = lands_on_bound a.s.now a.g (stored start.before.before.before.before.before.before) a.b (inside start.before.before.before.before.before.before) (rest at.before.before.before) (rest_is at.before.before.before)
+    let one = odd c.before.before in
+    let bound = lands_on_bound a.s.now a.g (stored start.before.before.before.before.before.before.before) a.b (inside start.before.before.before.before.before.before.before) (rest at.before.before.before.before) (rest_is at.before.before.before.before)
     (omega (arith, one)) one _ c.on_page.ensures.0 c.on_page.ensures.1 in
     (bound.0, omega (arith, bound.1, at.look-word.ensures.1))
 
@@ -94,8 +95,8 @@ returns-then-rest-ne0 c =
     let at = c in
     let start = at in
     let a = start.args in
-    let here = lands_here a.s.now a.g (stored start.before.before.before.before.before.before) a.b (inside start.before.before.before.before.before.before) (rest at.before.before.before) (rest_is at.before.before.before)
-    (some c.before) _ c.on_page-then-rest-ne0.ensures.0 c.on_page-then-rest-ne0.ensures.1 in
+    let here = lands_here a.s.now a.g (stored start.before.before.before.before.before.before.before) a.b (inside start.before.before.before.before.before.before.before) (rest at.before.before.before.before) (rest_is at.before.before.before.before)
+    (some c.before.before) _ c.on_page-then-rest-ne0.ensures.0 c.on_page-then-rest-ne0.ensures.1 in
     (here.0, omega (arith, here.1, at.look-word.ensures.1))
 
 -- ---- none in its word
@@ -107,14 +108,14 @@ find_behind-requires c =
       start.requires.0,
       start.requires.1,
       omega (arith, at.look-word.ensures.1, start.requires.2),
-      omega (arith, rest_is at.before.before.before, c.if-rest-ne0.false),
+      omega (arith, rest_is at.before.before.before.before, c.if-rest-ne0.false),
     )
 
 pub overflow_cast-rest : goal.overflow_cast-rest
-overflow_cast-rest c = omega (arith, small c)
+overflow_cast-rest c = omega (arith, small c.before)
 
 pub overflow_add-b : goal.overflow_add-b
-overflow_add-b c = omega (arith, small c)
+overflow_add-b c = omega (arith, small c.before)
 
 pub on_page-requires-then-rest-ne0 : goal.on_page-requires-then-rest-ne0
-on_page-requires-then-rest-ne0 c = small c
+on_page-requires-then-rest-ne0 c = small c.before

@@ -8,6 +8,7 @@ use Rattle.rules.specs.Common.{lead_of}
 use Rattle.openlists.specs.Places.{place_pages, placed_in}
 use Rattle.openlists.proofs.LeadLaws.{lead_on, lead_start, lead_less, lead_more, lead_end}
 use Rattle.openlists.proofs.lead_of.Goals as goal
+use Rattle.openlists.proofs.lead_of.Goals.{then-n-least, else-n-least}
 
 pub length_of-least-requires : goal.length_of-least-requires
 length_of-least-requires c =
@@ -38,13 +39,13 @@ loop-i-preserved c =
     let n = c.length_of-n in
     let f = place_pages s.args.card.now s.args.places.now in
     elim c.if-n-least.branch [
-      | inl e ↦
-          let g : length (f l.i) < l.least = omega (arith, n.ensures, e.0.taken) in
-          rw (e.1, e.2, n.ensures)
+      | then-n-least e ↦
+          let g : length (f l.i) < l.least = omega (arith, n.ensures, e.if-n-least.true) in
+          rw (e.lead-is, e.least-is, n.ensures)
           (h, omega arith, l.invariant.2, sym (lead_less f s.args.k l.lead l.least l.i h g) ∙ l.invariant.3)
-      | inr e ↦
-          let g : l.least ≤ length (f l.i) = omega (arith, n.ensures, e.0.left) in
-          rw (e.1, e.2) (
+      | else-n-least e ↦
+          let g : l.least ≤ length (f l.i) = omega (arith, n.ensures, e.if-n-least.false) in
+          rw (e.lead-is, e.least-is) (
             l.invariant.0,
             omega arith,
             l.invariant.2,

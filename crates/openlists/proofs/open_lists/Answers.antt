@@ -9,5 +9,5 @@ returns c =
     let b = c in (
       l.lead_of-lead.ensures.0,
       slots_opened _ _ l.lead_of-lead.result _ b.requires.0 l.lead_of-lead.ensures.1
-          o.open_slots.new.1.1.1.1.0 o.open_slots.ensures b.requires.1 l.lead_of-lead.ensures.0,
+          o.open_slots.new.shapes o.open_slots.ensures b.requires.1 l.lead_of-lead.ensures.0,
     )

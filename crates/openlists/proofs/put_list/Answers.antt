@@ -15,7 +15,7 @@ loop-j-init c = (
   c.requires.0,
   c.requires.2,
   paste-zero c.args.shapes.now (8 * c.args.slot)
-      c.args.t3,
+      c.args.numbers,
 )
 
 pub loop-j-preserved : goal.loop-j-preserved
@@ -24,11 +24,11 @@ loop-j-preserved c =
     let a = c.args in (
       omega arith,
       l.invariant.1,
-      length-set l.shapes (8 * a.slot + l.j) (get_or a.t3 l.j 0) ∙ l.invariant.2,
+      length-set l.shapes (8 * a.slot + l.j) (get_or a.numbers l.j 0) ∙ l.invariant.2,
       l.invariant.3,
       l.invariant.4,
       rw (l.invariant.5, add-one l.j)
-          (paste-suc a.shapes.now (8 * a.slot) a.t3 l.j 0 (omega arith) (omega arith)),
+          (paste-suc a.shapes.now (8 * a.slot) a.numbers l.j 0 (omega arith) (omega arith)),
     )
 
 pub returns : goal.returns

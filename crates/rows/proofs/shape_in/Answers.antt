@@ -14,10 +14,10 @@ returns c =
     let n = w in
     λ i. record {
       u = n.number.ensures i;
-      n.before = n.number-2.ensures i;
-      w.before = w.number-3.ensures i;
-      bits.before = bits.number-4.ensures i;
-      lower.before = lower.number-5.ensures i;
-      upper.before = upper.number-6.ensures i;
+      n = n.number-2.ensures i;
+      w = w.number-3.ensures i;
+      bits = bits.number-4.ensures i;
+      lower = lower.number-5.ensures i;
+      upper = upper.number-6.ensures i;
       end = to.number-7.ensures i - c.number-8.ensures i;
     }

@@ -18,7 +18,7 @@ overflow_add-seeks c =
     let l = c.loop-i in
     omega (
       arith,
-      total_drop (λ c. c.seeks) c.args.t1.cursors l.i (omega arith),
+      total_drop (λ c. c.seeks) c.args.q.cursors l.i (omega arith),
     )
 
 pub overflow_add-looks : goal.overflow_add-looks
@@ -27,14 +27,14 @@ overflow_add-looks c =
     let l = c.loop-i in
     omega (
       arith,
-      total_drop (λ c. c.looks) c.args.t1.cursors l.i (omega arith),
+      total_drop (λ c. c.looks) c.args.q.cursors l.i (omega arith),
     )
 
 pub loop-i-preserved : goal.loop-i-preserved
 unfolding unused
 loop-i-preserved c =
     let l = c.loop-i in
-    let cs = c.args.t1.cursors in (
+    let cs = c.args.q.cursors in (
       omega arith,
       omega (arith, total_drop (λ c. c.seeks) cs l.i (omega arith)),
       omega (arith, total_drop (λ c. c.looks) cs l.i (omega arith)),
@@ -42,7 +42,7 @@ loop-i-preserved c =
 
 pub returns : goal.returns
 returns c =
-    let cs = c.args.t1.cursors in
+    let cs = c.args.q.cursors in
     let i = c.loop-i.i in (
       refl,
       omega (arith, total_none (λ c. c.seeks) cs i (omega arith)),

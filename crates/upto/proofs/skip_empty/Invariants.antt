@@ -1,0 +1,14 @@
+-- `skip_empty` passes words with no one left, of which none is the run's last.
+use Prim.Native.Nat.{◌+◌, ◌-◌, ◌<◌}
+use native.Mathlib.Omega.{arith}
+use Rattle.rules.specs.Runs.{words_for}
+use Rattle.walklaws.proofs.OpenLaws.{words_few, look_fits, open_run}
+use Rattle.upto.specs.Bounds.{OnesLeft}
+use Rattle.upto.proofs.OnesLaws.{ones_go_on, ones_next}
+use Rattle.upto.proofs.skip_empty.Given as goal
+
+abbrev pub invariant-loop-at : goal.invariant-loop-at
+invariant-loop-at l = OnesLeft l.block l.g l.initial.at.rank l.at
+
+abbrev pub decreases-loop-at : goal.decreases-loop-at
+decreases-loop-at l = words_for l.g.bits - l.at.k
