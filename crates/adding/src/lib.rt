@@ -1,5 +1,6 @@
 // Elements laid into a block in place, each run's words through the part that starts at the run; so are those of a
 // bitmap, each of which is its own place [02 f].
+#![tactic(auto)]
 
 ghost use Rattle.std.specs.Prelude.{true, ◌≡◌, ◌+◌, ◌/◌, ◌%◌, ◌≤◌, length, get_or};
 ghost use Rattle.rules.specs.List.{rising};

@@ -1,4 +1,5 @@
 // The sums of a word's counts and the elements of its positions, laid in place 256 at a time.
+#![tactic(auto)]
 
 ghost use Rattle.std.specs.Prelude.{true, ◌≡◌, ◌+◌, ◌≤◌, length};
 ghost use Rattle.rules.specs.Term.{total, sums, next, placed, positive, in_order_by_page};

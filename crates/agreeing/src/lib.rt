@@ -1,4 +1,5 @@
 // Whether the three lists of a term agree.
+#![tactic(auto)]
 
 ghost use Rattle.std.specs.Prelude.{◌≡◌, ◌≤◌, length};
 ghost use Rattle.rules.specs.declared.Refusal.TheVariants.{Accepted};

@@ -1,4 +1,5 @@
 // The announcement of a word: the host's call. All headers are written, and the rest of the block is cleared.
+#![tactic(auto)]
 
 ghost use Rattle.std.specs.Prelude.{◌≡◌};
 ghost use Rattle.rules.specs.Stream.{opened};

@@ -1,4 +1,5 @@
 // The places of a byte's ones, as a constant table.
+#![tactic(auto)]
 
 ghost use Rattle.bytetable.specs.Places.{PlacesOfOnes};
 

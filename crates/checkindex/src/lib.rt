@@ -1,4 +1,5 @@
 // The check of an index: the refusal that its bytes get, with each term handed on as the part of the bytes that it is.
+#![tactic(auto)]
 
 ghost use Rattle.std.specs.Prelude.{◌≡◌, ◌≤◌, length, drop};
 ghost use Rattle.rules.specs.Index.{terms_refusal};

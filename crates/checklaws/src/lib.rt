@@ -1,4 +1,5 @@
 // Where the check of a list block stands, and the laws of its one pass over the upper run.
+#![tactic(auto)]
 
 // Where the lower run is read: the part read last, what is left of the word read last and how many bits that is, and
 // the byte at which the next word starts.

@@ -1,4 +1,5 @@
 // The check of a list block: the refusal that its bytes get, found in one pass over the words of its bits.
+#![tactic(auto)]
 
 ghost use Rattle.std.specs.Prelude.{◌≡◌, ◌≤◌};
 ghost use Rattle.rules.specs.Limits.{map_version};

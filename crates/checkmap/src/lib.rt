@@ -1,4 +1,5 @@
 // The check of a bitmap, a word at a time: its numbers count its ones, they are n in all, and its spare bits are 0.
+#![tactic(auto)]
 
 ghost use Rattle.std.specs.Prelude.{◌≡◌, ◌≤◌, length};
 ghost use Rattle.rules.specs.Limits.{limit};

@@ -1,5 +1,6 @@
 // The check of a term block: the refusal that its bytes get, with each list handed on as the part of the block that it
 // is.
+#![tactic(auto)]
 
 ghost use Rattle.std.specs.Prelude.{◌≡◌, ◌≤◌, length, drop};
 ghost use Rattle.rules.specs.Limits.{list_header};

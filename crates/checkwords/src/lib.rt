@@ -1,4 +1,5 @@
 // The check of a list block word by word: its elements climb, and its pointers stand.
+#![tactic(auto)]
 
 ghost use Rattle.std.specs.Prelude.{◌≡◌, ◌+◌, ◌<◌, ◌≤◌};
 ghost use Rattle.std.specs.Int.Count.{ones};

@@ -1,4 +1,5 @@
 // Closing an index in a lent buffer: the terms that lie there are checked, and then the header is written before them.
+#![tactic(auto)]
 
 ghost use Rattle.std.specs.Prelude.{◌≡◌, ◌≤◌, length};
 ghost use Rattle.rules.specs.Write.{laid};

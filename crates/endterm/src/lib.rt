@@ -1,5 +1,6 @@
 // The close of a session: the host's call. The pointers, or a bitmap's numbers, are written once all that was announced
 // is laid.
+#![tactic(auto)]
 
 ghost use Rattle.std.specs.Prelude.{◌≡◌};
 ghost use Rattle.rules.specs.Stream.{complete};

@@ -1,4 +1,5 @@
 // The program's files: whether they are too long, whether bytes are left behind the last number, and the numbers read.
+#![tactic(auto)]
 
 ghost use Rattle.std.specs.Prelude.{◌||◌, ◌≡◌, ◌%◌, ◌≤◌, ltb, length};
 ghost use Rattle.rules.specs.Program.{file_limit};

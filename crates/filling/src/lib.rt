@@ -1,4 +1,5 @@
 // A block begun, filled and finished: the steps by which every writer lays its elements.
+#![tactic(auto)]
 
 ghost use Rattle.std.specs.Prelude.{true, ◌≡◌, [], ◌-◌, ◌/◌, ◌≤◌, length};
 ghost use Rattle.rules.specs.List.{rising, block};

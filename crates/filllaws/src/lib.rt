@@ -1,4 +1,5 @@
 // Where the writing of a list block stands, and the laws of laying one element after the other.
+#![tactic(auto)]
 
 // The lower run so far: its words that stand in the room, and the `have` bits above them.
 #[derive(Clone, Copy)]

@@ -1,4 +1,5 @@
 // A bitmap written word by word from a rising list, and the pages of a word in either form.
+#![tactic(auto)]
 
 ghost use Rattle.std.specs.Prelude.{true, ◌≡◌, ◌+◌, ◌*◌, ◌<◌, ◌≤◌, length};
 ghost use Rattle.rules.specs.List.{rising, map_block, bitmap};

@@ -1,4 +1,5 @@
 // A word's lists of counts and of positions, laid 256 elements at a time.
+#![tactic(auto)]
 
 ghost use Rattle.std.specs.Prelude.{◌≡◌};
 ghost use Rattle.rules.specs.List.{block};

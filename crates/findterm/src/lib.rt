@@ -1,4 +1,5 @@
 // One term of a card, and its lists as parts.
+#![tactic(auto)]
 
 ghost use Rattle.std.specs.Prelude.{◌≡◌, ◌<◌};
 ghost use Rattle.rules.specs.declared.Refusal.TheVariants.{Accepted};

@@ -1,4 +1,5 @@
 // The starts of several terms, found on one way over the card.
+#![tactic(auto)]
 
 ghost use Rattle.std.specs.Prelude.{◌≡◌, ◌^◌, ◌≤◌, ◌<◌, length};
 ghost use Rattle.rules.specs.declared.Refusal.TheVariants.{Accepted};

@@ -1,4 +1,5 @@
 // Whether a run of postings may follow those of a session: the run's own tests, the seam, and the announcement.
+#![tactic(auto)]
 
 ghost use Rattle.std.specs.Prelude.{true, ◌≡◌, ◌+◌, ◌≤◌, length};
 ghost use Rattle.rules.specs.Limits.{limit};

@@ -1,4 +1,5 @@
 // What a host is told, and that each promise to it leaves one answer.
+#![tactic(auto)]
 
 use rules::Stream;
 

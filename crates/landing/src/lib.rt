@@ -1,4 +1,5 @@
 // From one to one of an upper run to the first element at or above the bound.
+#![tactic(auto)]
 
 ghost use Rattle.std.specs.Prelude.{◌≡◌, ◌+◌, ◌*◌, ◌^◌, ◌≤◌, ◌<◌, get_or};
 ghost use Rattle.rules.specs.Runs.{field};

@@ -1,4 +1,5 @@
 // Elements laid into a block one after the other: each above those before it.
+#![tactic(auto)]
 
 ghost use Rattle.std.specs.Prelude.{◌+◌, ◌-◌, ◌*◌, ◌/◌, ◌^◌, ◌<◌, ◌≤◌, length, drop};
 ghost use Rattle.filllaws.specs.Filling.{Ready, OneMore, Open, Laid};

@@ -1,4 +1,5 @@
 // Words of a run handed out, each for one look, and the walks from word to word: of an upper run, or of a bitmap.
+#![tactic(auto)]
 
 ghost use Rattle.std.specs.Prelude.{◌≡◌, ◌+◌, ◌-◌, ◌*◌, ◌/◌, ◌^◌, ◌≤◌, ◌<◌, length};
 ghost use Rattle.rules.specs.Runs.{run_word, words_for};

@@ -1,4 +1,5 @@
 // The rank of a page in a bitmap, from the number stored before it and the at most four words between.
+#![tactic(auto)]
 
 ghost use Rattle.std.specs.Prelude.{◌≡◌, ◌+◌, ◌*◌, ◌/◌, ◌^◌, ◌≤◌, ◌<◌, length};
 ghost use Rattle.rules.specs.Counts.{ones_below};

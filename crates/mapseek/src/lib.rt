@@ -1,4 +1,5 @@
 // The search on a bitmap: from the bound's own bit on, word by word, to the first one.
+#![tactic(auto)]
 
 ghost use Rattle.std.specs.Prelude.{◌≡◌, ◌+◌, ◌/◌, ◌%◌, ◌^◌, ◌<◌, ◌≤◌};
 ghost use Rattle.rules.specs.Runs.{run_word};

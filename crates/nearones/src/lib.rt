@@ -1,4 +1,5 @@
 // The last element of a block, and the first one of its upper run from a place on.
+#![tactic(auto)]
 
 ghost use Rattle.std.specs.Prelude.{◌≡◌, ◌-◌, ◌<◌, get_or};
 ghost use Rattle.rules.specs.Counts.{ones_below};

@@ -1,4 +1,5 @@
 // The numbers of a bitmap, counted in the bits that stand in its block and written into it.
+#![tactic(auto)]
 
 ghost use Rattle.std.specs.Prelude.{◌≡◌, ◌+◌, ◌*◌, ◌≤◌, length};
 ghost use Rattle.std.specs.Int.Count.{ones};

@@ -1,4 +1,5 @@
 // The pairs of a phrase: a term and its offset each. Whether they may be asked for, and the two put apart.
+#![tactic(auto)]
 
 ghost use Rattle.std.specs.Prelude.{◌≡◌, ◌≤◌, length};
 ghost use Rattle.rules.specs.Questions.{terms_of, phrase_good};

@@ -1,4 +1,5 @@
 // Opening the lists of a question: from their places in the card to their numbers, with the list that leads first.
+#![tactic(auto)]
 
 ghost use Rattle.std.specs.Prelude.{◌≡◌, ◌*◌, ◌<◌, length};
 ghost use Rattle.std.proofs.Math.Seq.{paste};

@@ -1,4 +1,5 @@
 // Blocks in the bytes that hold them: the tests that every block's header gets, and the walk from block to block.
+#![tactic(auto)]
 
 ghost use Rattle.std.specs.Prelude.{◌≡◌, ◌≤◌, length, take, drop};
 ghost use Rattle.rules.specs.Refusal.{accepted};

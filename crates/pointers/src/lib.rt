@@ -1,5 +1,6 @@
 // The last of a block's stored numbers before an element, found near the rank's share. Number i tells how many ones the
 // run has before the place that it leads to, and counts `zeros` for each i as well: 256 as a pointer, 0 in a bitmap.
+#![tactic(auto)]
 
 ghost use Rattle.std.specs.Prelude.{◌≡◌, ◌+◌, ◌*◌, ◌≤◌, leb, length};
 ghost use Rattle.rules.specs.ReadList.{form_at};

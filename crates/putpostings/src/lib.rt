@@ -1,4 +1,5 @@
 // A run of postings handed to a session: the host's call. They are laid straight into the room, behind what is there.
+#![tactic(auto)]
 
 ghost use Rattle.std.specs.Prelude.{◌≡◌, length};
 ghost use Rattle.rules.specs.Term.{lent_word};

@@ -1,4 +1,5 @@
 // The cursors of a question's lists, and the laws of the step rule on them.
+#![tactic(auto)]
 
 ghost use Rattle.std.specs.Prelude.{◌≡◌};
 ghost use Rattle.querylaws.specs.Queries.{new_query};

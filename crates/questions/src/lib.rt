@@ -1,4 +1,5 @@
 // Reading a run of questions: whether every one is well formed, and where the numbers of the one at a place lie.
+#![tactic(auto)]
 
 ghost use Rattle.std.specs.Prelude.{◌≡◌, true, ◌+◌, ◌≤◌, ◌<◌, length, drop};
 ghost use Rattle.rules.specs.Questions.{all_below, pair_good, words_good, good_question, count_of};

@@ -1,5 +1,6 @@
 // Reading inside an accepted list block: its shape, its parts, the numbers stored before them, and an element by its
 // place.
+#![tactic(auto)]
 
 ghost use Rattle.std.specs.Prelude.{◌≡◌, ◌+◌, ◌-◌, ◌*◌, ◌^◌, ◌≤◌, ◌<◌, length, take, drop, get_or};
 ghost use Rattle.rules.specs.Limits.{limit};

@@ -1,4 +1,5 @@
 // An answer put whole into the room, and how far a run of questions is.
+#![tactic(auto)]
 
 ghost use Rattle.std.specs.Prelude.{◌+◌, ◌^◌, ◌<◌, length};
 ghost use Rattle.questions.specs.Wrote.{Wrote};

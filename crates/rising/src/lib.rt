@@ -1,4 +1,5 @@
 // Whether a list is one that can be written.
+#![tactic(auto)]
 
 ghost use Rattle.std.specs.Prelude.{◌≡◌};
 ghost use Rattle.rules.specs.List.{rising};

@@ -1,4 +1,5 @@
 // A question's lists by their numbers, eight in a row for each, and what their cursors tell: ranks, seeks and looks.
+#![tactic(auto)]
 
 ghost use Rattle.std.specs.Prelude.{◌≡◌, ◌+◌, ◌*◌, ◌^◌, ◌≤◌, ◌<◌, length};
 ghost use Rattle.querylaws.specs.Lists.{number_of, shape_in};

@@ -1,5 +1,6 @@
 // The numbers and the types of document 01 that the code names. All else of the document is in specs/; this crate has no
 // function.
+#![tactic(auto)]
 
 // U and N at most.
 pub const LIMIT: usize = 16777216;

@@ -1,4 +1,5 @@
 // Runs of bits in bytes: their words, the ones of several, and fields that may lie over two.
+#![tactic(auto)]
 
 ghost use Rattle.std.specs.Prelude.{◌≡◌, ◌+◌, ◌*◌, ◌/◌, ◌%◌, ◌^◌, ◌<◌, ◌≤◌, length};
 ghost use Rattle.rules.specs.Runs.{run_word, field, words_for};

@@ -1,4 +1,5 @@
 // The seek on a list in either form, with its counts: a cursor moves as the step rule says.
+#![tactic(auto)]
 
 ghost use Rattle.std.specs.Prelude.{◌≡◌, ◌+◌, ◌^◌, ◌<◌};
 ghost use Rattle.rules.specs.ReadList.{list_u, form_at, decode};

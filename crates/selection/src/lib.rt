@@ -1,4 +1,5 @@
 // The place of a word's one by its number, from the counts of its bytes and the table of a byte's ones.
+#![tactic(auto)]
 
 ghost use Rattle.std.specs.Prelude.{◌≡◌, ◌+◌, ◌*◌, ◌/◌, ◌%◌, ◌^◌, ◌<◌, count_ones};
 ghost use Rattle.fields.specs.Words.{place_of_one, place_of_zero};

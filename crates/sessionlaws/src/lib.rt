@@ -1,4 +1,5 @@
 // The block that a session writes, and the laws of a session's tests.
+#![tactic(auto)]
 
 use shape::Shape;
 

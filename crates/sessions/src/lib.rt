@@ -1,4 +1,5 @@
 // A session's tests and its ends: what may be announced, whether it goes on, and the block that it writes.
+#![tactic(auto)]
 
 ghost use Rattle.std.specs.Prelude.{true, ◌≡◌, ◌≤◌, length, replicate};
 ghost use Rattle.rules.specs.Write.{laid};

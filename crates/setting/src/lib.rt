@@ -1,4 +1,5 @@
 // Ones set in a run of words, one word at a time: nothing that stands in the run is cleared.
+#![tactic(auto)]
 
 ghost use Rattle.std.specs.Prelude.{◌≡◌, ◌+◌, ◌*◌, ◌/◌, ◌^◌, ◌<◌, ◌≤◌, length};
 ghost use Rattle.rules.specs.InPlace.{from, with_ones};

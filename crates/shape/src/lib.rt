@@ -1,4 +1,5 @@
 // The geometry of a list block: what U and n give, worked out once and handed on by value.
+#![tactic(auto)]
 
 ghost use Rattle.std.specs.Prelude.{◌≡◌, ◌*◌, ◌^◌, ◌<◌, ◌≤◌};
 ghost use Rattle.rules.specs.Limits.{limit};

@@ -1,4 +1,5 @@
 // A list gone through by rank: from where reading stands, elements are passed up to a number.
+#![tactic(auto)]
 
 ghost use Rattle.std.specs.Prelude.{◌+◌, ◌≤◌, ◌<◌};
 ghost use Rattle.bytetable.specs.Places.{PlacesOfOnes};

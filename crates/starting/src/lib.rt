@@ -1,4 +1,5 @@
 // Where a seek starts on a list in two runs: at the cursor's bit, or at a pointer ahead of it.
+#![tactic(auto)]
 
 ghost use Rattle.std.specs.Prelude.{◌≡◌, ◌+◌, ◌-◌, ◌*◌, ◌/◌, ◌^◌, ◌<◌};
 ghost use Rattle.rules.specs.List.{two_runs};

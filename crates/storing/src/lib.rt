@@ -1,4 +1,5 @@
 // Words of a run, pointers and low parts, stored once they are known.
+#![tactic(auto)]
 
 ghost use Rattle.std.specs.Prelude.{◌≡◌, ◌+◌, ◌-◌, ◌*◌, ◌/◌, ◌^◌, ◌<◌, ◌≤◌, min, length};
 ghost use Rattle.filllaws.specs.Filling.{Stored, Flushed, Lower};

@@ -1,4 +1,5 @@
 // A stretch of the next 256 elements of a word's lists: the sums of its counts, and the places of its positions.
+#![tactic(auto)]
 
 ghost use Rattle.std.specs.Prelude.{true, ◌≡◌, ◌+◌, ◌^◌, ◌≤◌, ◌<◌, length, take, drop, replicate};
 ghost use Rattle.rules.specs.Limits.{limit};

@@ -1,1 +1,2 @@
 // Laws of one word and its block; this crate has no function.
+#![tactic(auto)]

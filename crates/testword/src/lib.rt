@@ -1,4 +1,5 @@
 // Whether a word can be written: counts that fit its positions, and positions in order on each page.
+#![tactic(auto)]
 
 ghost use Rattle.std.specs.Prelude.{true, ◌≡◌, ◌+◌, ◌≤◌, ◌<◌, length};
 ghost use Rattle.rules.specs.Term.{lent_word, total, next, placed, places, positive, in_order_by_page, valid_word};

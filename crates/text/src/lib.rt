@@ -1,4 +1,5 @@
 // What the program prints, laid into lent bytes.
+#![tactic(auto)]
 
 ghost use Rattle.std.specs.Prelude.{◌+◌, ◌≤◌, ◌<◌, length};
 ghost use Rattle.rules.specs.Program.{digits, line, lines, refused_line};

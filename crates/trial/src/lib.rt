@@ -1,4 +1,5 @@
 // Where counting the starts of a phrase on a page stands, how it goes on, and the pairs of pages and starts found.
+#![tactic(auto)]
 
 ghost use Rattle.std.specs.Prelude.{◌≡◌, ◌+◌, ◌^◌, ◌<◌};
 ghost use Rattle.trial.specs.Tries.{tried_at, PairedBehind};

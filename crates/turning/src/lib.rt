@@ -1,5 +1,6 @@
 // A word of a phrase turned to a page: reading of its lists goes on to what the page has, and never back. Where reading
 // of the words stands is kept in a row of eight numbers for each.
+#![tactic(auto)]
 
 ghost use Rattle.std.specs.Prelude.{◌≡◌, ◌+◌, ◌*◌, ◌≤◌, ◌<◌, length};
 ghost use Rattle.bytetable.specs.Places.{PlacesOfOnes};

@@ -1,4 +1,5 @@
 // Elements of a list passed from one to one, up to a bound.
+#![tactic(auto)]
 
 ghost use Rattle.std.specs.Prelude.{◌≤◌, ◌<◌};
 ghost use Rattle.readlaws.specs.Open.{Open};

@@ -1,4 +1,5 @@
 // A cursor on a list, where a seek stands between its steps, and the laws of each step.
+#![tactic(auto)]
 
 ghost use Rattle.std.specs.Prelude.{◌≡◌};
 ghost use Rattle.walklaws.specs.Cursors.{unused};

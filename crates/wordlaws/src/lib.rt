@@ -1,4 +1,5 @@
 // What the writing of a word asks of its lists, and the laws of their tests and of their places.
+#![tactic(auto)]
 
 use shape::Shape;
 

@@ -1,4 +1,5 @@
 // Where the lists of a question's words lie in an accepted card.
+#![tactic(auto)]
 
 ghost use Rattle.std.specs.Prelude.{◌≡◌, true, ◌<◌, length};
 ghost use Rattle.rules.specs.declared.Refusal.TheVariants.{Accepted};

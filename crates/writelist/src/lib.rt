@@ -1,4 +1,5 @@
 // Writing one list block: the host's call.
+#![tactic(auto)]
 
 ghost use Rattle.rules.specs.Promises.{ListWritten};
 

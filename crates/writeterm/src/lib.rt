@@ -1,5 +1,6 @@
 // Writing one word's block: the host's call. The word is tested first, and its three lists are laid into the room one
 // after the other.
+#![tactic(auto)]
 
 ghost use Rattle.std.specs.Prelude.{◌≡◌, ◌+◌, ◌≤◌, ◌<◌, length};
 ghost use Rattle.rules.specs.Term.{lent_word, next, places};

@@ -1,19 +1,10 @@
 -- `add_above` lays elements one by one: the low parts and the ones of the first i are laid or in hand, whatever the shape.
-use mathlib.Core.Path.{◌≡◌, refl, subst}
-use mathlib.Core.List.{List}
-use Prim.Native.Nat.{ℕ, ◌+◌, ◌-◌, ◌*◌, ◌/◌, ◌^◌, ◌≤◌, ◌<◌}
-use native.Mathlib.Omega.{arith}
-use borrow.Rule.Slice.PartMut.{mid_of, put_mid}
-use lib.ListN.{length, get_or}
-use lib.Pow.{shr_le}
+use mathlib.Core.Path.{◌≡◌}
+use Prim.Native.Nat.{◌-◌, ◌≤◌}
+use lib.ListN.{length}
 use Rattle.shape.specs.declared.Shape.{Shape}
-use Rattle.addlaws.specs.Adding.{used, Asked, Slots, BothLaid}
-use Rattle.addlaws.proofs.AddLaws.{lows_lt}
-use Rattle.addlaws.proofs.ElementLaws.{given_below, given_small}
-use Rattle.addlaws.proofs.AddedLaws.{runs_in}
-use Rattle.addlaws.proofs.OneLaws.{shape_at, slots_asked}
-use Rattle.addlaws.proofs.BothLaws.{both_none, both_long, high_room, both_high, low_room, both_low}
-use Rattle.addlaws.proofs.BothLaws.{last_room, both_added}
+use Rattle.addlaws.specs.Adding.{Slots, BothLaid}
+use Rattle.addlaws.proofs.OneLaws.{shape_at}
 use Rattle.adding.proofs.add_above.Given as goal
 
 abbrev pub invariant-loop-i : goal.invariant-loop-i

@@ -1,10 +1,8 @@
 -- `add_map` lays elements one by one: the ones of the first i are set or in hand.
-use mathlib.Core.Path.{◌≡◌, refl, subst}
-use Prim.Native.Nat.{ℕ, ◌-◌, ◌≤◌, ◌<◌}
-use native.Mathlib.Omega.{arith}
+use mathlib.Core.Path.{◌≡◌}
+use Prim.Native.Nat.{◌-◌, ◌≤◌}
 use lib.ListN.{length}
-use Rattle.addlaws.specs.Adding.{MapAsked, MapLaid}
-use Rattle.addlaws.proofs.MapLaws.{map_in, map_none, map_long, map_room, map_more, map_added_lem}
+use Rattle.addlaws.specs.Adding.{MapLaid}
 use Rattle.adding.proofs.add_map.Given as goal
 
 abbrev pub invariant-loop-i : goal.invariant-loop-i

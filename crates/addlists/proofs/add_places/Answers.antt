@@ -11,7 +11,7 @@ use Rattle.rules.specs.InPlace.{added}
 use Rattle.termlaws.proofs.PlaceLaws.{length_placed}
 use Rattle.filllaws.proofs.SideLaws.{fitting_kept}
 use Rattle.filllaws.proofs.SideLaws.{end_is}
-use Rattle.wordlaws.specs.Stretch.{Placing, SpotAt}
+use Rattle.wordlaws.specs.Stretch.{Placing}
 use Rattle.addlaws.proofs.MoreLaws.{added_none, stretch_rises, stretch_added, placed_rise}
 use Rattle.addlists.proofs.add_places.Lts
 use Rattle.addlists.proofs.add_places.Reads

@@ -12,7 +12,7 @@ use Rattle.rules.specs.InPlace.{added}
 use Rattle.termlaws.proofs.SumLaws.{length_sums}
 use Rattle.filllaws.proofs.SideLaws.{fitting_kept}
 use Rattle.filllaws.proofs.SideLaws.{end_is}
-use Rattle.wordlaws.proofs.LayLaws.{sums_all, TallyAt}
+use Rattle.wordlaws.proofs.LayLaws.{sums_all}
 use Rattle.wordlaws.proofs.LayLaws.{tally_first, tally_left, tally_next, tally_part, tally_behind}
 use Rattle.addlaws.proofs.MoreLaws.{added_none, stretch_rises, stretch_added, sums_rise}
 use Rattle.addlists.proofs.add_sums.Lts

@@ -6,9 +6,8 @@ use native.Mathlib.Omega.{arith}
 use lib.Count.{ones, ones-le}
 use lib.ListN.{length}
 use Rattle.rules.specs.Counts.{ones_below}
-use Rattle.selectlaws.specs.ByteCounts.{running_ones}
 use Rattle.selectlaws.proofs.ByteLaws.{running_total}
-use Rattle.readlaws.proofs.OneLaws.{Onward, onward_word, onward_start, onward_next, start_word}
+use Rattle.readlaws.proofs.OneLaws.{onward_word, onward_start, onward_next, start_word}
 use Rattle.byrank.proofs.one_past.Lts
 use Rattle.byrank.proofs.one_past.Reads
 use Rattle.byrank.proofs.one_past.Tie

@@ -1,14 +1,10 @@
 -- `one_past` finds the one: x holds the ones of word k that are not passed, and of these and later ones `left` lie
 -- before it.
 use mathlib.Core.Path.{◌≡◌}
-use Prim.Native.Nat.{ℕ, ◌+◌, ◌-◌, ◌*◌, ◌/◌, ◌≤◌, ◌<◌}
-use native.Mathlib.Omega.{arith}
-use lib.Count.{ones, ones-le}
+use Prim.Native.Nat.{◌-◌, ◌/◌, ◌≤◌}
 use lib.ListN.{length}
-use Rattle.rules.specs.Counts.{ones_below}
 use Rattle.selectlaws.specs.ByteCounts.{running_ones}
-use Rattle.selectlaws.proofs.ByteLaws.{running_total}
-use Rattle.readlaws.proofs.OneLaws.{Onward, onward_word, onward_start, onward_next, start_word}
+use Rattle.readlaws.proofs.OneLaws.{Onward}
 use Rattle.byrank.proofs.one_past.Given as goal
 
 abbrev pub invariant-loop-left : goal.invariant-loop-left

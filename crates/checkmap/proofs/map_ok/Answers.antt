@@ -3,12 +3,11 @@ use mathlib.Core.Bool.{false≢true}
 use mathlib.Core.Path.{◌≡◌, sym, ap, ◌∙◌}
 use Prim.Native.Nat.{ℕ, ◌+◌, ◌-◌, ◌*◌, ◌/◌, ◌≤◌}
 use native.Mathlib.Omega.{arith}
-use borrow.Author.Tests.{not-true, not-false}
 use lib.ListN.{length}
 use Rattle.rules.specs.Runs.{words_for}
 use Rattle.rules.specs.Counts.{ones_below}
 use Rattle.laws.proofs.CountLaws.{ones_below_le}
-use Rattle.checkmap.proofs.MapLaws.{MapLaid, map_laid, Counted, counted_start, counted_few, ones_next}
+use Rattle.checkmap.proofs.MapLaws.{MapLaid, map_laid, counted_start, counted_few, ones_next}
 use Rattle.checkmap.proofs.MapLaws.{counted_next, counted_tells}
 use Rattle.checkmap.proofs.map_ok.Lts
 use Rattle.checkmap.proofs.map_ok.Reads

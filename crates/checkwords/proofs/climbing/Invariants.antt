@@ -1,14 +1,6 @@
 -- `climbing` passes the words one after the other. The loop's invariant: what is known of those passed is so.
-use mathlib.Core.Bool.{false≢true}
-use mathlib.Core.Path.{◌≡◌, sym, ap₂, ◌∙◌}
-use Prim.Native.Nat.{◌+◌, ◌-◌, ◌/◌, ◌^◌, ◌≤◌}
-use native.Mathlib.Omega.{arith}
-use borrow.Author.Tests.{not-true, not-false, leb-true, leb-false}
-use lib.Dec.{leb, ltb}
-use Rattle.rules.specs.Runs.{words_for}
+use Prim.Native.Nat.{◌-◌, ◌≤◌}
 use Rattle.checklaws.specs.Check.{At}
-use Rattle.checklaws.proofs.PairLaws.{bound_low, bound_pair, last_ltb}
-use Rattle.checklaws.proofs.HoldLaws.{at_start, refuse_count, refuse_bound, bound_rises, holds}
 use Rattle.checkwords.proofs.climbing.Given as goal
 
 abbrev pub invariant-loop-k : goal.invariant-loop-k

@@ -1,6 +1,5 @@
 -- `runs_ok` tests the spare bits, and then the words with low parts or without.
 use mathlib.Core.Bool.{false≢true}
-use borrow.Author.Tests.{not-true, not-false}
 use Rattle.checklaws.specs.Check.{Trimmed}
 use Rattle.checkwords.proofs.runs_ok.Lts
 use Rattle.checkwords.proofs.runs_ok.Reads

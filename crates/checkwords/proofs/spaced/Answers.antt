@@ -1,9 +1,9 @@
 -- `spaced` passes the words of a list without low parts. The loop's invariant: what is known of those passed is so.
 use mathlib.Core.Bool.{false≢true}
 use mathlib.Core.Path.{◌≡◌}
-use Prim.Native.Nat.{◌+◌, ◌-◌, ◌*◌, ◌/◌, ◌≤◌, ◌<◌}
+use Prim.Native.Nat.{◌+◌, ◌-◌, ◌/◌, ◌<◌}
 use native.Mathlib.Omega.{arith}
-use borrow.Author.Tests.{not-true, not-false, eqb-true, eqb-false}
+use borrow.Author.Tests.{eqb-true, eqb-false}
 use Rattle.rules.specs.Runs.{words_for}
 use Rattle.checklaws.specs.Check.{Ready}
 use Rattle.checklaws.proofs.HoldLaws.{refuse_count, holds}

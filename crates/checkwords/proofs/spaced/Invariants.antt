@@ -1,15 +1,6 @@
 -- `spaced` passes the words of a list without low parts. The loop's invariant: what is known of those passed is so.
-use mathlib.Core.Bool.{false≢true}
-use mathlib.Core.Path.{◌≡◌}
-use Prim.Native.Nat.{◌+◌, ◌-◌, ◌*◌, ◌/◌, ◌≤◌, ◌<◌}
-use native.Mathlib.Omega.{arith}
-use borrow.Author.Tests.{not-true, not-false, eqb-true, eqb-false}
-use Rattle.rules.specs.Runs.{words_for}
-use Rattle.checklaws.specs.Check.{Ready}
-use Rattle.checklaws.proofs.HoldLaws.{refuse_count, holds}
-use Rattle.checklaws.proofs.StateLaws.{Small, small, word_room}
-use Rattle.checklaws.proofs.SpacedLaws.{Along, along_start, along_ready, along_refuse, along_next}
-use Rattle.checklaws.proofs.SpacedLaws.{spaced_rises, holds_spaced, holds_tail}
+use Prim.Native.Nat.{◌-◌, ◌≤◌}
+use Rattle.checklaws.proofs.SpacedLaws.{Along}
 use Rattle.checkwords.proofs.spaced.Given as goal
 
 abbrev pub invariant-loop-k : goal.invariant-loop-k

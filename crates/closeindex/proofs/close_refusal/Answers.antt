@@ -2,7 +2,6 @@
 use mathlib.Core.Bool.{true}
 use mathlib.Core.Path.{◌≡◌, sym, ap, ◌∙◌}
 use native.Mathlib.Omega.{arith}
-use borrow.Author.Tests.{not-true, not-false}
 use Rattle.rules.specs.Limits.{last_edition, up_to}
 use Rattle.cardlaws.specs.Terms.{body_refusal}
 use Rattle.cardlaws.proofs.ClosingLaws.{close_room, close_short, close_version, close_long, close_next, part_used}

@@ -2,7 +2,6 @@
 use mathlib.Core.Path.{◌≡◌, refl, sym, ap, ◌∙◌}
 use mathlib.Core.Bool.{true}
 use native.Mathlib.Omega.{arith}
-use borrow.Author.Tests.{not-true, not-false}
 use lib.ListN.{replicate}
 use Rattle.rules.specs.declared.Refusal.TheVariants.{Accepted, Lists}
 use Rattle.rules.specs.Write.{laid}

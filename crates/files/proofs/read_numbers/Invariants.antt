@@ -1,12 +1,8 @@
 -- `read_numbers` reads the numbers: those from number i on are still to be read.
-use mathlib.Core.Path.{◌≡◌, refl, sym, ap, ◌∙◌}
-use mathlib.Core.List.{◌∷◌}
-use Prim.Native.Nat.{◌+◌, ◌-◌, ◌*◌, ◌/◌, ◌≤◌}
-use native.Mathlib.Omega.{arith}
+use mathlib.Core.Path.{◌≡◌}
+use Prim.Native.Nat.{◌-◌, ◌*◌, ◌/◌, ◌≤◌}
 use lib.ListN.{length, drop}
 use Rattle.files.specs.Laid.{Partly, words_of}
-use Rattle.files.proofs.PutLaws.{put_one, partly_none, partly_same, partly_more, partly_all}
-use Rattle.files.proofs.WordLaws.{words_at, words_none}
 use Rattle.files.proofs.read_numbers.Given as goal
 
 abbrev pub invariant-loop-i : goal.invariant-loop-i

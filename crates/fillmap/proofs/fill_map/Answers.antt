@@ -13,7 +13,7 @@ use Rattle.shape.specs.declared.Shape.{Shape}
 use Rattle.filllaws.specs.Filling.{FramedAs}
 use Rattle.filllaws.proofs.SideLaws.{header_fits}
 use Rattle.filllaws.proofs.PartLaws.{framed_none}
-use Rattle.fillmap.specs.Mapping.{Parted, Mapped}
+use Rattle.fillmap.specs.Mapping.{Mapped}
 use Rattle.fillmap.proofs.PartedLaws.{rising_climbing, parted_none}
 use Rattle.fillmap.proofs.MappedLaws.{Spread, spread, mapped_none, mapped_more, mapped_all}
 use Rattle.fillmap.proofs.fill_map.Lts

@@ -1,21 +1,12 @@
 -- `fill_map` writes the header, and then four words and their number at a time: those up to number q stand in the room,
 -- and the elements below bit 256 * q are passed.
-use mathlib.Core.Path.{◌≡◌, refl, subst}
-use mathlib.Core.List.{List, [], ◌∷◌}
-use Prim.Native.Nat.{ℕ, ◌+◌, ◌-◌, ◌*◌, ◌/◌, ◌^◌, ◌≤◌, ◌<◌}
-use native.Mathlib.Omega.{arith}
+use mathlib.Core.Path.{◌≡◌}
+use mathlib.Core.List.{List}
+use Prim.Native.Nat.{ℕ, ◌-◌, ◌*◌, ◌/◌, ◌≤◌}
 use lib.ListN.{length}
-use lib.Seq.{sets}
-use Rattle.rules.specs.Limits.{map_version}
-use Rattle.rules.specs.Bytes.{be}
 use Rattle.rules.specs.List.{bitmap}
-use Rattle.shape.specs.declared.Shape.{Shape}
 use Rattle.filllaws.specs.Filling.{FramedAs}
-use Rattle.filllaws.proofs.SideLaws.{header_fits}
-use Rattle.filllaws.proofs.PartLaws.{framed_none}
 use Rattle.fillmap.specs.Mapping.{Parted, Mapped}
-use Rattle.fillmap.proofs.PartedLaws.{rising_climbing, parted_none}
-use Rattle.fillmap.proofs.MappedLaws.{Spread, spread, mapped_none, mapped_more, mapped_all}
 use Rattle.fillmap.proofs.fill_map.Given as goal
 
 abbrev pub invariant-loop-q : goal.invariant-loop-q

@@ -1,13 +1,9 @@
 -- `gather` sets a bit for each element below the word's end: the word in hand is what the elements so far have from
 -- that word on.
-use mathlib.Core.Path.{◌≡◌, refl, ◌∙◌}
+use mathlib.Core.Path.{◌≡◌}
 use Prim.Native.Nat.{ℕ, ◌+◌, ◌-◌, ◌*◌, ◌/◌, ◌^◌, ◌≤◌, ◌<◌}
-use native.Mathlib.Decide.{dec_lt}
-use native.Mathlib.Omega.{arith}
 use lib.ListN.{length, get_or, take}
 use Rattle.rules.specs.List.{map_of}
-use Rattle.fillmap.specs.Mapping.{word_of, Parted}
-use Rattle.fillmap.proofs.PartedLaws.{parted_of, gathered_none, gathered_more, gathered_all}
 use Rattle.fillmap.proofs.gather.Given as goal
 
 abbrev pub invariant-loop-i : goal.invariant-loop-i

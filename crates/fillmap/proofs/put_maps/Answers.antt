@@ -1,17 +1,15 @@
 -- `put_maps` stores the words one after the other: those up to k stand in the room, and the elements below bit 64 * k
 -- are passed.
 use mathlib.Core.Path.{◌≡◌, refl, ap, ◌∙◌}
-use Prim.Native.Nat.{ℕ, ◌+◌, ◌-◌, ◌*◌, ◌/◌, ◌^◌, ◌≤◌}
+use Prim.Native.Nat.{ℕ, ◌+◌, ◌-◌, ◌*◌, ◌/◌, ◌^◌}
 use native.Mathlib.Nat.{mod-lt}
 use native.Mathlib.Omega.{arith}
-use lib.ListN.{length}
 use lib.Pow.{pow_pos}
 use lib.Seq.{sets}
 use Rattle.rules.specs.Bytes.{be}
 use Rattle.rules.specs.List.{map_of}
-use Rattle.filllaws.specs.Filling.{Stored}
 use Rattle.filllaws.proofs.StoreLaws.{stored_none, stored_more}
-use Rattle.fillmap.specs.Mapping.{word_of, Parted}
+use Rattle.fillmap.specs.Mapping.{word_of}
 use Rattle.fillmap.proofs.put_maps.Goals as goal
 
 pub loop-k-init : goal.loop-k-init

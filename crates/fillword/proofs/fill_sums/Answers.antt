@@ -1,14 +1,13 @@
 -- `fill_sums` lays the sums of the counts, less 1, stretch by stretch: those of the counts passed are laid.
 use mathlib.Core.Path.{◌≡◌, refl}
-use mathlib.Core.List.{List, []}
-use Prim.Native.Nat.{ℕ, ◌-◌, ◌≤◌}
+use Prim.Native.Nat.{◌-◌, ◌≤◌}
 use native.Mathlib.Omega.{arith}
 use lib.ListN.{length, take, drop}
 use Rattle.rules.specs.Limits.{limit}
 use Rattle.rules.specs.Term.{sums}
 use Rattle.filllaws.specs.Filling.{Partly}
 use Rattle.wordlaws.proofs.LayLaws.{stretch_follows, stretch_lays, sums_long, sums_rise, sums_all}
-use Rattle.wordlaws.proofs.LayLaws.{TallyAt, tally_first, tally_left, tally_next, tally_part, tally_behind}
+use Rattle.wordlaws.proofs.LayLaws.{tally_first, tally_left, tally_next, tally_part, tally_behind}
 use Rattle.fillword.proofs.fill_sums.Lts
 use Rattle.fillword.proofs.fill_sums.Reads
 use Rattle.fillword.proofs.fill_sums.Tie

@@ -1,14 +1,11 @@
 -- `fill_sums` lays the sums of the counts, less 1, stretch by stretch: those of the counts passed are laid.
-use mathlib.Core.Path.{◌≡◌, refl}
+use mathlib.Core.Path.{◌≡◌}
 use mathlib.Core.List.{List, []}
-use Prim.Native.Nat.{ℕ, ◌-◌, ◌≤◌}
-use native.Mathlib.Omega.{arith}
-use lib.ListN.{length, take, drop}
-use Rattle.rules.specs.Limits.{limit}
+use Prim.Native.Nat.{ℕ, ◌-◌}
+use lib.ListN.{length, take}
 use Rattle.rules.specs.Term.{sums}
 use Rattle.filllaws.specs.Filling.{Partly}
-use Rattle.wordlaws.proofs.LayLaws.{stretch_follows, stretch_lays, sums_long, sums_rise, sums_all}
-use Rattle.wordlaws.proofs.LayLaws.{TallyAt, tally_first, tally_left, tally_next, tally_part, tally_behind}
+use Rattle.wordlaws.proofs.LayLaws.{TallyAt}
 use Rattle.fillword.proofs.fill_sums.Given as goal
 
 abbrev pub invariant-loop-at : goal.invariant-loop-at

@@ -1,11 +1,11 @@
 -- `find_terms` walks from term to term in rising order. The loop's invariant: `Finding`.
 use mathlib.Core.Path.{◌≡◌}
-use Prim.Native.Nat.{◌+◌, ◌-◌, ◌^◌, ◌≤◌}
+use Prim.Native.Nat.{◌+◌, ◌-◌, ◌≤◌}
 use native.Mathlib.Omega.{arith}
 use lib.ListN.{length}
 use Rattle.laws.specs.Blocks.{block_at}
 use Rattle.cardlaws.proofs.PassedLaws.{accepted_passed}
-use Rattle.findlaws.proofs.StartLaws.{Finding, finding_first, finding_walks, start_next, finding_more}
+use Rattle.findlaws.proofs.StartLaws.{finding_first, finding_walks, start_next, finding_more}
 use Rattle.findterms.proofs.find_terms.Lts
 use Rattle.findterms.proofs.find_terms.Reads
 use Rattle.findterms.proofs.find_terms.Tie

@@ -1,11 +1,8 @@
 -- `least_from` goes through the terms. The loop's invariant: what it has is the least of those passed.
 use mathlib.Core.Path.{◌≡◌}
-use mathlib.Core.Logic.{inl, inr}
-use Prim.Native.Nat.{◌-◌, ◌≤◌}
+use Prim.Native.Nat.{◌-◌}
 use native.Mathlib.Omega.{arith}
-use borrow.Author.Tests.{ltb-true, ltb-false}
 use lib.ListN.{length}
-use Rattle.findlaws.specs.Starts.{LeastOf}
 use Rattle.findlaws.proofs.StartLaws.{least_taken, least_kept}
 use Rattle.findterms.proofs.least_from.Goals as goal
 use Rattle.findterms.proofs.least_from.Goals.{then-t-term+then-term-least, else-t-term, else-t-term-via-then-t-term+else-term-least, else-t-term-via-else-t-term}

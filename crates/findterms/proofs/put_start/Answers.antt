@@ -1,10 +1,8 @@
 -- `put_start` goes through the terms. The loop's invariant: those passed have their starts as they should.
 use mathlib.Core.Path.{◌≡◌, refl}
-use mathlib.Core.Logic.{inl, inr}
-use Prim.Native.Nat.{◌-◌, ◌≤◌}
+use Prim.Native.Nat.{◌-◌}
 use native.Mathlib.Omega.{arith}
 use lib.ListN.{length}
-use Rattle.findlaws.specs.Starts.{PutOf}
 use Rattle.findlaws.proofs.StartLaws.{put_more, put_kept}
 use Rattle.findterms.proofs.put_start.Goals as goal
 use Rattle.findterms.proofs.put_start.Goals.{then-terms-i, else-terms-i}

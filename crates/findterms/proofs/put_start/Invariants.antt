@@ -1,11 +1,7 @@
 -- `put_start` goes through the terms. The loop's invariant: those passed have their starts as they should.
-use mathlib.Core.Path.{◌≡◌, refl}
-use mathlib.Core.Logic.{inl, inr}
 use Prim.Native.Nat.{◌-◌, ◌≤◌}
-use native.Mathlib.Omega.{arith}
 use lib.ListN.{length}
 use Rattle.findlaws.specs.Starts.{PutOf}
-use Rattle.findlaws.proofs.StartLaws.{put_more, put_kept}
 use Rattle.findterms.proofs.put_start.Given as goal
 
 abbrev pub invariant-loop-i : goal.invariant-loop-i

@@ -1,13 +1,8 @@
 -- `lay` lays elements word by word of the upper run: the first i follow what was laid before, and the count has grown by i.
-use mathlib.Core.Path.{◌≡◌, refl}
-use mathlib.Core.List.{◌++◌, append-nil, append_assoc}
-use Prim.Native.Nat.{ℕ, ◌+◌, ◌-◌, ◌≤◌, ◌<◌}
-use native.Mathlib.Omega.{arith}
-use lib.ListN.{length, get_or, take, drop}
-use lib.Seq.{take-add}
-use Rattle.filllaws.specs.Filling.{Ready, Laid}
-use Rattle.filllaws.proofs.PartLaws.{count_more}
-use Rattle.filllaws.proofs.RiseLaws.{follows_next, follows_more, follows_drop}
+use mathlib.Core.Path.{◌≡◌}
+use Prim.Native.Nat.{◌+◌, ◌-◌, ◌≤◌}
+use lib.ListN.{length}
+use Rattle.filllaws.specs.Filling.{Laid}
 use Rattle.laying.proofs.lay.Given as goal
 
 abbrev pub invariant-loop-i : goal.invariant-loop-i

@@ -1,13 +1,9 @@
 -- `lay_near` lays elements one by one:
 -- those from number `from` up to i follow what was laid before, and the count has grown by as many.
-use mathlib.Core.Path.{◌≡◌, refl}
-use mathlib.Core.List.{◌++◌, append-nil}
-use Prim.Native.Nat.{◌+◌, ◌-◌, ◌≤◌, ◌<◌}
-use native.Mathlib.Omega.{arith}
-use lib.ListN.{length, get_or, take, drop}
-use Rattle.filllaws.specs.Filling.{Ready, Laid}
-use Rattle.filllaws.proofs.PartLaws.{ready_step, count_more}
-use Rattle.filllaws.proofs.RiseLaws.{left_next, left_more}
+use mathlib.Core.Path.{◌≡◌}
+use Prim.Native.Nat.{◌+◌, ◌-◌, ◌≤◌}
+use lib.ListN.{length, drop}
+use Rattle.filllaws.specs.Filling.{Laid}
 use Rattle.laying.proofs.lay_near.Given as goal
 
 abbrev pub invariant-loop-i : goal.invariant-loop-i

@@ -1,9 +1,8 @@
 -- `to_end` looks at each word up to the last.
-use mathlib.Core.Path.{◌≡◌, refl}
-use Prim.Native.Nat.{◌+◌, ◌-◌, ◌≤◌}
+use mathlib.Core.Path.{refl}
+use Prim.Native.Nat.{◌-◌}
 use native.Mathlib.Omega.{arith}
 use Rattle.rules.specs.Runs.{words_for}
-use Rattle.walklaws.specs.Walks.{Paid}
 use Rattle.looks.proofs.to_end.Goals as goal
 
 pub overflow_add-last : goal.overflow_add-last

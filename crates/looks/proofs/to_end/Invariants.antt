@@ -1,7 +1,6 @@
 -- `to_end` looks at each word up to the last.
-use mathlib.Core.Path.{◌≡◌, refl}
+use mathlib.Core.Path.{◌≡◌}
 use Prim.Native.Nat.{◌+◌, ◌-◌, ◌≤◌}
-use native.Mathlib.Omega.{arith}
 use Rattle.rules.specs.Runs.{words_for}
 use Rattle.walklaws.specs.Walks.{Paid}
 use Rattle.looks.proofs.to_end.Given as goal

@@ -1,9 +1,8 @@
 -- `to_one` keeps the walk: the words that it passes have no one left, and each is one look.
-use mathlib.Core.Path.{◌≡◌, refl, ◌∙◌}
+use mathlib.Core.Path.{refl, ◌∙◌}
 use Prim.Native.Nat.{◌+◌, ◌-◌, ◌<◌}
 use native.Mathlib.Omega.{arith}
 use Rattle.rules.specs.Runs.{words_for}
-use Rattle.walklaws.specs.Walks.{Walking, Paid}
 use Rattle.walklaws.proofs.WalkLaws.{walking_more, walking_next}
 use Rattle.looks.proofs.to_one.Lts
 use Rattle.looks.proofs.to_one.Reads

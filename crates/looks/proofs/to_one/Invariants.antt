@@ -1,10 +1,8 @@
 -- `to_one` keeps the walk: the words that it passes have no one left, and each is one look.
-use mathlib.Core.Path.{◌≡◌, refl, ◌∙◌}
-use Prim.Native.Nat.{◌+◌, ◌-◌, ◌<◌}
-use native.Mathlib.Omega.{arith}
+use mathlib.Core.Path.{◌≡◌}
+use Prim.Native.Nat.{◌-◌, ◌<◌}
 use Rattle.rules.specs.Runs.{words_for}
 use Rattle.walklaws.specs.Walks.{Walking, Paid}
-use Rattle.walklaws.proofs.WalkLaws.{walking_more, walking_next}
 use Rattle.looks.proofs.to_one.Given as goal
 
 abbrev pub invariant-loop-at : goal.invariant-loop-at

@@ -6,9 +6,8 @@ use lib.Count.{count_trailing_zeros}
 use Rattle.rules.specs.Runs.{words_for}
 use Rattle.rules.specs.List.{bitmap}
 use Rattle.readlaws.proofs.FormLaws.{map_reads}
-use Rattle.walklaws.specs.Walks.{Paid, Walking}
 use Rattle.walklaws.proofs.OpenLaws.{Stored, form_stored}
-use Rattle.mapseek.proofs.MapLaws.{map_walk, map_none_there, map_next, map_lands_none, page_small, map_lands}
+use Rattle.mapseek.proofs.MapLaws.{map_none_there, map_next, map_lands_none, page_small, map_lands}
 use Rattle.mapseek.proofs.find_behind.Lts
 use Rattle.mapseek.proofs.find_behind.Reads
 use Rattle.mapseek.proofs.find_behind.Tie

@@ -1,10 +1,9 @@
 -- `last_one` finds the last one: the words above word k have none.
 use mathlib.Core.Path.{◌≡◌, sym, ap, ◌∙◌}
 use mathlib.Core.List.{List}
-use Prim.Native.Nat.{ℕ, ◌+◌, ◌-◌, ◌*◌, ◌/◌, ◌^◌, ◌<◌}
+use Prim.Native.Nat.{ℕ, ◌+◌, ◌-◌, ◌*◌, ◌/◌, ◌<◌}
 use native.Mathlib.Omega.{arith}
 use lib.ListN.{length}
-use Rattle.rules.specs.Runs.{run_word}
 use Rattle.rules.specs.Counts.{ones_below}
 use Rattle.laws.proofs.CountLaws.{below_none}
 use Rattle.readlaws.specs.Open.{ones_in}

@@ -1,15 +1,10 @@
 -- `last_one` finds the last one: the words above word k have none.
-use mathlib.Core.Path.{◌≡◌, sym, ap, ◌∙◌}
-use mathlib.Core.List.{List}
-use Prim.Native.Nat.{ℕ, ◌+◌, ◌-◌, ◌*◌, ◌/◌, ◌^◌, ◌<◌}
-use native.Mathlib.Omega.{arith}
+use mathlib.Core.Path.{◌≡◌}
+use Prim.Native.Nat.{◌+◌, ◌-◌, ◌*◌, ◌/◌, ◌^◌, ◌<◌}
 use lib.ListN.{length}
 use Rattle.rules.specs.Runs.{run_word}
 use Rattle.rules.specs.Counts.{ones_below}
-use Rattle.laws.proofs.CountLaws.{below_none}
 use Rattle.readlaws.specs.Open.{ones_in}
-use Rattle.readlaws.proofs.OneLaws.{count_lt}
-use Rattle.readlaws.proofs.LastLaws.{leading_some, none_below, last_below}
 use Rattle.nearones.proofs.last_one.Given as goal
 
 abbrev pub invariant-loop-x : goal.invariant-loop-x

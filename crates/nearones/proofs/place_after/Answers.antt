@@ -4,7 +4,7 @@ use Prim.Native.Nat.{◌+◌, ◌-◌, ◌*◌, ◌/◌, ◌%◌, ◌^◌, ◌<�
 use native.Mathlib.Omega.{arith}
 use Rattle.rules.specs.Runs.{words_for}
 use Rattle.rules.specs.Counts.{ones_below}
-use Rattle.readlaws.proofs.PartLaws.{Reached, flat_inside, word_inside, reach_word, reach_past}
+use Rattle.readlaws.proofs.PartLaws.{flat_inside, word_inside, reach_word, reach_past}
 use Rattle.nearones.proofs.place_after.Lts
 use Rattle.nearones.proofs.place_after.Reads
 use Rattle.nearones.proofs.place_after.Tie

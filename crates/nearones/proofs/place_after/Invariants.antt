@@ -1,10 +1,7 @@
 -- `place_after` passes words without a one: none lies between the start and the bit reached.
-use mathlib.Core.Path.{◌≡◌, refl, ap}
-use Prim.Native.Nat.{◌+◌, ◌-◌, ◌*◌, ◌/◌, ◌%◌, ◌^◌, ◌<◌}
-use native.Mathlib.Omega.{arith}
+use Prim.Native.Nat.{◌-◌}
 use Rattle.rules.specs.Runs.{words_for}
-use Rattle.rules.specs.Counts.{ones_below}
-use Rattle.readlaws.proofs.PartLaws.{Reached, flat_inside, word_inside, reach_word, reach_past}
+use Rattle.readlaws.proofs.PartLaws.{Reached}
 use Rattle.nearones.proofs.place_after.Given as goal
 
 abbrev pub invariant-loop-bit : goal.invariant-loop-bit

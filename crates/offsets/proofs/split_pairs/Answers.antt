@@ -3,7 +3,7 @@ use mathlib.Core.Path.{sym, ◌∙◌}
 use Prim.Native.Nat.{◌+◌, ◌*◌, ◌-◌, ◌<◌}
 use native.Mathlib.Omega.{arith}
 use lib.ListN.{length}
-use Rattle.offsets.proofs.PairLaws.{Apart, apart_none, apart_more, apart_all}
+use Rattle.offsets.proofs.PairLaws.{apart_none, apart_more, apart_all}
 use Rattle.offsets.proofs.split_pairs.Lts
 use Rattle.offsets.proofs.split_pairs.Reads
 use Rattle.offsets.proofs.split_pairs.Goals as goal

@@ -1,12 +1,10 @@
 -- `lead_of` takes each shorter list for the lead: the lead from here on is the lead.
-use mathlib.Core.Logic.{inl, inr}
-use mathlib.Core.Path.{◌≡◌, sym, ◌∙◌}
+use mathlib.Core.Path.{sym, ◌∙◌}
 use Prim.Native.Nat.{◌-◌, ◌≤◌, ◌<◌}
 use native.Mathlib.Omega.{arith}
 use lib.ListN.{length}
-use Rattle.rules.specs.Common.{lead_of}
 use Rattle.openlists.specs.Places.{place_pages, placed_in}
-use Rattle.openlists.proofs.LeadLaws.{lead_on, lead_start, lead_less, lead_more, lead_end}
+use Rattle.openlists.proofs.LeadLaws.{lead_start, lead_less, lead_more, lead_end}
 use Rattle.openlists.proofs.lead_of.Goals as goal
 use Rattle.openlists.proofs.lead_of.Goals.{then-n-least, else-n-least}
 

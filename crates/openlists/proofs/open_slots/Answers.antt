@@ -1,9 +1,8 @@
 -- `open_slots` fills one slot after the other.
 use mathlib.Core.Path.{◌≡◌, ap}
-use Prim.Native.Nat.{◌-◌, ◌≤◌}
+use Prim.Native.Nat.{◌-◌}
 use native.Mathlib.Omega.{arith}
 use lib.ListN.{length}
-use Rattle.openlists.specs.Places.{Slots}
 use Rattle.openlists.proofs.SourceLaws.{source_lt}
 use Rattle.openlists.proofs.SlotLaws.{slots_none, slots_more}
 use Rattle.openlists.proofs.open_slots.Goals as goal

@@ -1,10 +1,10 @@
 -- `put_list` copies the numbers one by one.
 use mathlib.Core.Path.{◌≡◌, ◌∙◌}
-use Prim.Native.Nat.{◌+◌, ◌-◌, ◌*◌, ◌≤◌, ◌<◌}
+use Prim.Native.Nat.{◌+◌, ◌-◌, ◌*◌}
 use native.Mathlib.Numerals.{add-one}
 use native.Mathlib.Omega.{arith}
-use lib.ListN.{length, get_or, length-set}
-use lib.Seq.{paste, paste-zero, paste-suc}
+use lib.ListN.{get_or, length-set}
+use lib.Seq.{paste-zero, paste-suc}
 use Rattle.openlists.proofs.put_list.Goals as goal
 
 pub loop-j-init : goal.loop-j-init

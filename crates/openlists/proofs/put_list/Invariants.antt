@@ -1,10 +1,8 @@
 -- `put_list` copies the numbers one by one.
-use mathlib.Core.Path.{◌≡◌, ◌∙◌}
-use Prim.Native.Nat.{◌+◌, ◌-◌, ◌*◌, ◌≤◌, ◌<◌}
-use native.Mathlib.Numerals.{add-one}
-use native.Mathlib.Omega.{arith}
-use lib.ListN.{length, get_or, length-set}
-use lib.Seq.{paste, paste-zero, paste-suc}
+use mathlib.Core.Path.{◌≡◌}
+use Prim.Native.Nat.{◌-◌, ◌*◌, ◌≤◌, ◌<◌}
+use lib.ListN.{length}
+use lib.Seq.{paste}
 use Rattle.openlists.proofs.put_list.Given as goal
 
 abbrev pub invariant-loop-j : goal.invariant-loop-j

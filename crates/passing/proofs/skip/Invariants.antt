@@ -1,15 +1,10 @@
 -- `skip` passes words without zero number h, which is before the run's end; in its word it is found by its number.
-use mathlib.Core.Path.{◌≡◌, refl, subst}
-use Prim.Native.Nat.{ℕ, ◌+◌, ◌-◌, ◌*◌, ◌^◌, ◌<◌, ◌≤◌}
-use native.Mathlib.Omega.{arith}
-use lib.Count.{ones}
+use mathlib.Core.Path.{◌≡◌}
+use Prim.Native.Nat.{ℕ, ◌+◌, ◌-◌, ◌*◌, ◌≤◌}
 use Rattle.rules.specs.Runs.{words_for}
 use Rattle.selectlaws.specs.ByteCounts.{running_ones}
-use Rattle.readlaws.proofs.ReadLaws.{open_reads}
 use Rattle.walklaws.specs.declared.Ones.{Ones}
-use Rattle.walklaws.specs.Walks.{RunIn, Skipping, Paid}
-use Rattle.walklaws.proofs.OpenLaws.{words_few, open_run}
-use Rattle.walklaws.proofs.WalkLaws.{rank_small, skipping_in, skipping_inside, skipping_next, skipped_at}
+use Rattle.walklaws.specs.Walks.{Skipping, Paid}
 use Rattle.passing.proofs.skip.Given as goal
 
 -- what the walk has before it, by the number of the wanted zero

@@ -1,8 +1,8 @@
 -- `high_near` goes up from the guess to the number below one that was compared, or to the last.
 use mathlib.Core.Path.{refl, sym, ◌∙◌}
-use Prim.Native.Nat.{◌+◌, ◌-◌, ◌*◌, ◌^◌, ◌≤◌, ◌<◌}
+use Prim.Native.Nat.{◌+◌, ◌-◌, ◌*◌, ◌^◌, ◌≤◌}
 use native.Mathlib.Omega.{arith}
-use borrow.Author.Tests.{leb-false, not-true}
+use borrow.Author.Tests.{leb-false}
 use Rattle.readlaws.specs.Open.{number_at}
 use Rattle.readlaws.proofs.NearLaws.{compares_lower, last_ends, below_ends}
 use Rattle.pointers.proofs.high_near.Lts

@@ -1,8 +1,8 @@
 -- `low_near` goes down from the guess to a number that was compared, or to number 0.
 use mathlib.Core.Path.{sym, ◌∙◌}
-use Prim.Native.Nat.{◌+◌, ◌*◌, ◌≤◌, ◌<◌}
+use Prim.Native.Nat.{◌+◌, ◌*◌}
 use native.Mathlib.Omega.{arith}
-use borrow.Author.Tests.{leb-true, not-false}
+use borrow.Author.Tests.{leb-true}
 use Rattle.readlaws.specs.Open.{number_at}
 use Rattle.readlaws.proofs.NearLaws.{compares_lower, first_before}
 use Rattle.pointers.proofs.low_near.Goals as goal

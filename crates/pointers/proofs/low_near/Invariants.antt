@@ -1,10 +1,5 @@
 -- `low_near` goes down from the guess to a number that was compared, or to number 0.
-use mathlib.Core.Path.{sym, ◌∙◌}
-use Prim.Native.Nat.{◌+◌, ◌*◌, ◌≤◌, ◌<◌}
-use native.Mathlib.Omega.{arith}
-use borrow.Author.Tests.{leb-true, not-false}
-use Rattle.readlaws.specs.Open.{number_at}
-use Rattle.readlaws.proofs.NearLaws.{compares_lower, first_before}
+use Prim.Native.Nat.{◌≤◌, ◌<◌}
 use Rattle.pointers.proofs.low_near.Given as goal
 
 abbrev pub invariant-loop-guess : goal.invariant-loop-guess

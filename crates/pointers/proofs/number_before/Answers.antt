@@ -3,7 +3,7 @@ use mathlib.Core.Path.{◌≡◌, sym, ◌∙◌}
 use Prim.Native.Nat.{ℕ, ◌+◌, ◌-◌, ◌*◌, ◌/◌}
 use native.Mathlib.Omega.{arith}
 use borrow.Author.Tests.{leb-true, leb-false}
-use Rattle.readlaws.specs.Open.{number_at, Among}
+use Rattle.readlaws.specs.Open.{number_at}
 use Rattle.readlaws.proofs.NearLaws.{compares_lower, below_ends}
 use Rattle.pointers.proofs.number_before.Goals as goal
 

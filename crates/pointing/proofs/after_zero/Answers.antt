@@ -1,6 +1,6 @@
 -- `after_zero` drops the lowest ones of the complement: its one number j is number j - i once i are dropped.
 use mathlib.Core.Path.{◌≡◌, ap, ◌∙◌}
-use Prim.Native.Nat.{ℕ, zero, suc, ◌+◌, ◌-◌, ◌%◌, ◌^◌, ◌<◌, ◌≤◌}
+use Prim.Native.Nat.{ℕ, zero, suc, ◌+◌, ◌-◌, ◌%◌, ◌^◌, ◌<◌}
 use native.Mathlib.Nat.{sub-zero, mod-eq_of_lt}
 use native.Mathlib.Omega.{arith}
 use lib.Count.{ones, count_trailing_zeros}

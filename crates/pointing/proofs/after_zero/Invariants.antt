@@ -1,13 +1,7 @@
 -- `after_zero` drops the lowest ones of the complement: its one number j is number j - i once i are dropped.
-use mathlib.Core.Path.{◌≡◌, ap, ◌∙◌}
-use Prim.Native.Nat.{ℕ, zero, suc, ◌+◌, ◌-◌, ◌%◌, ◌^◌, ◌<◌, ◌≤◌}
-use native.Mathlib.Nat.{sub-zero, mod-eq_of_lt}
-use native.Mathlib.Omega.{arith}
-use lib.Count.{ones, count_trailing_zeros}
+use mathlib.Core.Path.{◌≡◌}
+use Prim.Native.Nat.{◌-◌, ◌^◌, ◌≤◌}
 use Rattle.fields.specs.Words.{place_of_one}
-use Rattle.fields.proofs.WordLaws.{place_trailing, place_none, place_some}
-use Rattle.selectlaws.proofs.SelectLaws.{place_drop}
-use Rattle.pointlaws.proofs.PointLaws.{word_zeros, word_after}
 use Rattle.pointing.proofs.after_zero.Given as goal
 
 abbrev pub invariant-loop : goal.invariant-loop

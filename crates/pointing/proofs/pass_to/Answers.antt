@@ -4,9 +4,7 @@ use native.Mathlib.Omega.{arith}
 use lib.Count.{ones, ones-le}
 use Rattle.rules.specs.Bytes.{Bytes}
 use Rattle.rules.specs.Runs.{words_for}
-use Rattle.rules.specs.InPlace.{number_of}
 use Rattle.pointlaws.specs.declared.Passed.{Passed}
-use Rattle.pointlaws.specs.Pointing.{Before}
 use Rattle.pointlaws.proofs.PointLaws.{reached_end, pass_word, reached_word}
 use Rattle.pointing.proofs.pass_to.Lts
 use Rattle.pointing.proofs.pass_to.Reads

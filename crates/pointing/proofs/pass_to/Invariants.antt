@@ -1,13 +1,8 @@
 -- `pass_to` passes words while the zeros up to their end are fewer than h.
-use Prim.Native.Nat.{◌+◌, ◌-◌, ◌^◌, ◌<◌, ◌≤◌}
-use native.Mathlib.Omega.{arith}
-use lib.Count.{ones, ones-le}
-use Rattle.rules.specs.Bytes.{Bytes}
+use Prim.Native.Nat.{◌-◌}
 use Rattle.rules.specs.Runs.{words_for}
 use Rattle.rules.specs.InPlace.{number_of}
-use Rattle.pointlaws.specs.declared.Passed.{Passed}
 use Rattle.pointlaws.specs.Pointing.{Before}
-use Rattle.pointlaws.proofs.PointLaws.{reached_end, pass_word, reached_word}
 use Rattle.pointing.proofs.pass_to.Given as goal
 
 abbrev pub invariant-loop-words : goal.invariant-loop-words

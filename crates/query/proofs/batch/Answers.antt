@@ -45,8 +45,8 @@ seek_in-s-requires c =
       c.requires.2,
     )
 
-pub shape_of-room-then-mark : goal.shape_of-room-then-mark
-shape_of-room-then-mark c = c.loop-q.invariant.behind.long
+same_length : goal.Need-same-length invariant-loop decreases-loop
+same_length c = c.before.before.before.before.before.before.loop.invariant.behind.long
 
 -- what the seek of a round made
 step : (k : After-seek_in-s) →
@@ -116,9 +116,9 @@ bounds-room-found c =
     let g = c.loop-q.invariant in
     omega (arith, g.behind.space, g.behind.long)
 
-pub shape_of-room-then-room-found : goal.shape_of-room-then-room-found
-shape_of-room-then-room-found c =
-    let l = c.loop-q in
+same-length-2 : goal.Need-same-length-2 invariant-loop decreases-loop
+same-length-2 c =
+    let l = c.before.before.before.before.before.before.before.before.before.loop in
     length-set l.room l.found _ ∙ l.invariant.behind.long
 
 -- the room is as long with the page in it

@@ -77,8 +77,8 @@ totals-requires c =
     let g = l.invariant.1 _ (first c.before.before.before.before) in
     listing_narrow _ _ _ _ l.s.q l.s.mark l.found _ g c.loop-s-test.false
 
-pub shape_of-room : goal.shape_of-room
-shape_of-room c = (first c.before.before.before.before.before).long
+same_length : goal.Need-same-length invariant-loop decreases-loop
+same_length c = (first c.before.before.before.before).long
 
 pub returns : goal.returns
 returns c =

@@ -1,13 +1,8 @@
 -- `all_below` goes through the numbers. The loop's invariant: what is left to be tested says what all of them say.
-use mathlib.Core.Path.{◌≡◌, refl, sym, ap, ◌∙◌}
-use mathlib.Core.List.{[]}
+use mathlib.Core.Path.{◌≡◌}
 use Prim.Native.Nat.{◌-◌, ◌≤◌}
-use native.Mathlib.Omega.{arith}
-use borrow.Author.Tests.{le-ltb, lt-ltb}
-use lib.ListN.{length, get_or, drop}
-use lib.Seq.{drop-length}
+use lib.ListN.{length, drop}
 use Rattle.rules.specs.Questions.{all_below}
-use Rattle.questions.proofs.GoodLaws.{below_at}
 use Rattle.questions.proofs.all_below.Given as goal
 
 abbrev pub invariant-loop-i : goal.invariant-loop-i

@@ -1,12 +1,8 @@
 -- `rises` compares each element with the one before it: what is left to test gives what all of it gives, unless one falls.
-use mathlib.Core.Path.{◌≡◌, refl, sym, ◌∙◌, subst}
-use mathlib.Core.Logic.{inl, inr}
-use Prim.Native.Nat.{◌+◌, ◌-◌, ◌≤◌, ◌<◌}
-use native.Mathlib.Numerals.{add-one}
-use native.Mathlib.Omega.{arith}
-use lib.ListN.{length, get_or}
-use Rattle.filllaws.proofs.RiseLaws.{rising_none, climbs_end, Compared}
-use Rattle.filllaws.proofs.RiseLaws.{compared_none, compared_fell, compared_falls, compared_on}
+use mathlib.Core.Path.{◌≡◌}
+use Prim.Native.Nat.{◌-◌, ◌≤◌}
+use lib.ListN.{length}
+use Rattle.filllaws.proofs.RiseLaws.{Compared}
 use Rattle.rising.proofs.rises.Given as goal
 
 abbrev pub invariant-loop-i : goal.invariant-loop-i

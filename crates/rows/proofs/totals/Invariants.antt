@@ -1,11 +1,8 @@
 -- `totals` adds up the cursors: what is summed, and the total of those that are left, is the total.
-use mathlib.Core.Path.{◌≡◌, refl}
+use mathlib.Core.Path.{◌≡◌}
 use Prim.Native.Nat.{◌+◌, ◌-◌, ◌≤◌}
-use native.Mathlib.Omega.{arith}
 use lib.ListN.{drop}
-use Rattle.walklaws.specs.Cursors.{unused}
 use Rattle.querylaws.specs.Queries.{total, seeks_of, looks_of}
-use Rattle.querylaws.proofs.QueryLaws.{total_drop, total_none}
 use Rattle.rows.proofs.totals.Given as goal
 
 abbrev pub invariant-loop-i : goal.invariant-loop-i

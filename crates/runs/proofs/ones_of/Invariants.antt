@@ -1,13 +1,7 @@
 -- `ones_of` adds the ones of word after word. The loop's invariant: those of the words passed.
 use mathlib.Core.Path.{◌≡◌}
 use Prim.Native.Nat.{◌+◌, ◌-◌, ◌*◌, ◌≤◌}
-use native.Mathlib.Omega.{arith}
-use lib.Count.{ones}
 use Rattle.rules.specs.Counts.{ones_below}
-use Rattle.laws.proofs.CountLaws.{next_word, ones_below_le}
-use Rattle.runs.proofs.ones_of.Lts
-use Rattle.runs.proofs.ones_of.Reads
-use Rattle.runs.proofs.ones_of.Tie
 use Rattle.runs.proofs.ones_of.Given as goal
 
 abbrev pub invariant-loop-k : goal.invariant-loop-k

@@ -3,7 +3,7 @@ use mathlib.Core.Path.{◌≡◌, refl, sym, ◌∙◌}
 use mathlib.Core.Logic.{inl, inr}
 use Prim.Native.Nat.{◌<◌}
 use native.Mathlib.Omega.{arith}
-use borrow.Author.Tests.{leb-true, leb-false, eqb-true, eqb-false}
+use borrow.Author.Tests.{leb-false}
 use Rattle.rules.specs.List.{two_runs, bitmap}
 use Rattle.rules.specs.ReadList.{form_at}
 use Rattle.maplaws.proofs.Theorems.{valid_form}

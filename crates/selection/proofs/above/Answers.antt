@@ -1,4 +1,4 @@
-use Rattle.std.proofs.Common.{arith, rules}
+use Rattle.std.proofs.Common.{arith}
 use Rattle.selectlaws.proofs.SelectLaws.{marked_fits}
 use Rattle.selection.proofs.above.Goals as goal
 

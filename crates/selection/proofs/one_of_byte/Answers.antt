@@ -1,5 +1,5 @@
 -- `one_of_byte` reads the table at the byte and j.
-use Rattle.std.proofs.Common.{◌≡◌, ◌+◌, ◌*◌, get_or, arith, rules}
+use Rattle.std.proofs.Common.{◌≡◌, ◌+◌, ◌*◌, get_or, arith}
 use Rattle.bytetable.specs.Places.{PlacesOfOnes}
 use Rattle.fields.specs.Words.{place_of_one}
 use Rattle.fields.proofs.WordLaws.{place_le}

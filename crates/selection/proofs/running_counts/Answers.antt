@@ -1,4 +1,4 @@
-use Rattle.std.proofs.Common.{◌≡◌, ℕ, ◌+◌, ◌*◌, ◌%◌, ◌^◌, ap, ◌∙◌, arith, lit<, rules}
+use Rattle.std.proofs.Common.{◌≡◌, ℕ, ◌+◌, ◌*◌, ◌%◌, ◌^◌, ap, ◌∙◌, arith, lit<}
 use Rattle.selectlaws.specs.ByteCounts.{each, byte_ones}
 use Rattle.selectlaws.proofs.ByteLaws.{running_is}
 use Rattle.selection.proofs.running_counts.Goals as goal

@@ -1,4 +1,4 @@
-use Rattle.std.proofs.Common.{arith, rules}
+use Rattle.std.proofs.Common.{arith}
 use Rattle.selectlaws.proofs.ByteLaws.{doubled}
 use Rattle.selection.proofs.summed.Goals as goal
 

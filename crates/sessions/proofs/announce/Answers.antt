@@ -2,7 +2,6 @@
 use mathlib.Core.Bool.{true}
 use mathlib.Core.Path.{◌≡◌, sym, ◌∙◌}
 use native.Mathlib.Omega.{arith}
-use borrow.Author.Tests.{not-true, not-false}
 use Rattle.rules.specs.Limits.{last_edition, up_to}
 use Rattle.sessionlaws.proofs.AnnounceLaws.{announce_version, announce_limit, announce_reach, announce_pages}
 use Rattle.sessionlaws.proofs.AnnounceLaws.{announce_counts, announce_positions, announce_none, announce_accepted}

@@ -1,10 +1,8 @@
 -- `clear` lays one zero more in each round.
-use mathlib.Core.Path.{◌≡◌, sym, ap, ◌∙◌}
+use mathlib.Core.Path.{◌≡◌}
 use Prim.Native.Nat.{◌-◌, ◌≤◌}
-use native.Mathlib.Omega.{arith}
-use lib.ListN.{length, replicate, set}
+use lib.ListN.{replicate}
 use Rattle.rules.specs.Write.{laid}
-use Rattle.sessions.proofs.ClearLaws.{cleared_none, cleared_more, cleared_long}
 use Rattle.sessions.proofs.clear.Given as goal
 
 abbrev pub invariant-loop-i : goal.invariant-loop-i

@@ -1,5 +1,5 @@
 -- `pages_shape` gives the shape of the form that the version, U and n ask for.
-use mathlib.Core.Path.{◌≡◌, sym, ap, ◌∙◌}
+use mathlib.Core.Path.{sym, ap, ◌∙◌}
 use Rattle.rules.specs.List.{Form}
 use Rattle.shape.specs.Shape.{form_shape}
 use Rattle.shape.proofs.ShapeLaws.{form_before, form_dense, form_sparse}

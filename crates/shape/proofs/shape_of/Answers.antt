@@ -3,7 +3,7 @@ use mathlib.Core.Path.{sym}
 use Prim.Native.Nat.{ℕ, ◌*◌, ◌/◌, ◌^◌, ◌≤◌}
 use native.Mathlib.Omega.{arith}
 use Rattle.rules.specs.Runs.{words_for}
-use Rattle.rules.specs.List.{width, zeros, lower_at, upper_at}
+use Rattle.rules.specs.List.{zeros, lower_at, upper_at}
 use Rattle.listlaws.proofs.BlockLaws.{size_is}
 use Rattle.shape.proofs.ShapeLaws.{shape_none, shape_some, bounded}
 use Rattle.shape.proofs.shape_of.Lts

@@ -1,8 +1,7 @@
 -- `put_pointers` writes the pointers: those up to number q stand in the room.
 use mathlib.Core.Path.{◌≡◌, refl, subst}
-use Prim.Native.Nat.{ℕ, ◌+◌, ◌-◌, ◌*◌, ◌/◌, ◌≤◌}
+use Prim.Native.Nat.{◌+◌, ◌-◌, ◌/◌}
 use native.Mathlib.Omega.{arith}
-use lib.ListN.{length}
 use Rattle.filllaws.specs.Filling.{Stored}
 use Rattle.filllaws.proofs.StoreLaws.{stored_none, stored_more}
 use Rattle.storing.proofs.put_pointers.Invariants.{pointer_at}

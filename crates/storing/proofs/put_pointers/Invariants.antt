@@ -1,10 +1,8 @@
 -- `put_pointers` writes the pointers: those up to number q stand in the room.
-use mathlib.Core.Path.{◌≡◌, refl, subst}
+use mathlib.Core.Path.{◌≡◌}
 use Prim.Native.Nat.{ℕ, ◌+◌, ◌-◌, ◌*◌, ◌/◌, ◌≤◌}
-use native.Mathlib.Omega.{arith}
 use lib.ListN.{length}
 use Rattle.filllaws.specs.Filling.{Stored}
-use Rattle.filllaws.proofs.StoreLaws.{stored_none, stored_more}
 use Rattle.storing.proofs.put_pointers.Given as goal
 
 abbrev pub pointer_at : ℕ → ℕ → ℕ

@@ -1,14 +1,8 @@
 -- `put_words` writes the words: those up to k stand in the room, and what is in hand is the rest of acc.
-use mathlib.Core.Path.{◌≡◌, refl, sym, ap, ◌∙◌, subst}
-use Prim.Native.Nat.{ℕ, ◌+◌, ◌-◌, ◌*◌, ◌/◌, ◌%◌, ◌^◌, ◌≤◌, ◌<◌}
-use native.Mathlib.Nat.{div-eq_of_lt, div-one, mod-eq_of_lt, lt_of_lt_of_le}
-use native.Mathlib.Omega.{arith}
+use mathlib.Core.Path.{◌≡◌}
+use Prim.Native.Nat.{ℕ, ◌-◌, ◌*◌, ◌/◌, ◌%◌, ◌^◌, ◌≤◌, ◌<◌}
 use lib.ListN.{length}
-use lib.Pow.{pow_mono}
-use lib.Seq.{sets}
-use Rattle.rules.specs.Bytes.{be}
 use Rattle.filllaws.specs.Filling.{Stored}
-use Rattle.filllaws.proofs.StoreLaws.{stored_none, stored_more}
 use Rattle.storing.proofs.put_words.Given as goal
 
 abbrev pub word_at : ℕ → ℕ → ℕ → ℕ

@@ -1,8 +1,8 @@
 -- `mark` goes from page to page: the ends of the pages passed are marked, and no other position.
-use mathlib.Core.Path.{◌≡◌, refl, sym, subst}
+use mathlib.Core.Path.{refl, sym, subst}
 use Prim.Native.Nat.{◌+◌, ◌-◌, ◌<◌}
 use native.Mathlib.Omega.{arith}
-use lib.ListN.{length, drop}
+use lib.ListN.{drop}
 use Rattle.wordlaws.specs.Stretch.{last_at, headed}
 use Rattle.wordlaws.proofs.StretchLaws.{Marking, marking_none, marking_all, marking_rest}
 use Rattle.wordlaws.proofs.StretchLaws.{marking_end, marking_over, marking_more}

@@ -1,15 +1,8 @@
 -- `put_sums` adds the counts up one by one: the first i sums stand in the part.
-use mathlib.Core.Path.{◌≡◌, refl, sym, ap, ◌∙◌}
-use mathlib.Core.List.{List, [], ◌∷◌, ◌++◌}
-use Prim.Native.Nat.{ℕ, ◌+◌, ◌-◌, ◌≤◌, ◌<◌}
-use native.Mathlib.Numerals.{add-one}
-use native.Mathlib.Omega.{arith}
-use lib.ListN.{length, get_or, take, set, length-set}
-use lib.Seq.{take_all, take-length, take-suc-set}
+use mathlib.Core.Path.{◌≡◌}
+use Prim.Native.Nat.{◌+◌, ◌-◌, ◌≤◌}
+use lib.ListN.{length, take}
 use Rattle.rules.specs.Term.{total, sums}
-use Rattle.termlaws.proofs.SumLaws.{length_sums}
-use Rattle.filllaws.proofs.RiseLaws.{take_more}
-use Rattle.wordlaws.proofs.LayLaws.{total_take, total_take_le, positive_at, get_d_sums}
 use Rattle.stretches.proofs.put_sums.Given as goal
 
 abbrev pub invariant-loop-i : goal.invariant-loop-i

@@ -1,6 +1,5 @@
 -- `check_word` asks for one clause of a valid word after the other.
 use mathlib.Core.Path.{sym, ◌∙◌}
-use borrow.Author.Tests.{not-true, not-false}
 use lib.ListN.{length}
 use Rattle.rules.specs.Term.{places}
 use Rattle.wordlaws.proofs.WordLaws.{no_word, summing_parts, lengths_differ}

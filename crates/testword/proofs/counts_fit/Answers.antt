@@ -1,9 +1,8 @@
 -- `counts_fit` takes the counts from n one by one: what is left of n is to be the sum of those that are left.
-use mathlib.Core.Path.{◌≡◌, refl, sym, ◌∙◌}
-use Prim.Native.Nat.{◌-◌, ◌≤◌, ◌<◌}
+use mathlib.Core.Path.{refl, sym, ◌∙◌}
+use Prim.Native.Nat.{◌-◌, ◌<◌}
 use native.Mathlib.Omega.{arith}
-use lib.ListN.{length, get_or, drop}
-use Rattle.wordlaws.specs.Reach.{summing}
+use lib.ListN.{get_or}
 use Rattle.wordlaws.proofs.CheckLaws.{summing_end, summing_none, summing_over, summing_on}
 use Rattle.testword.proofs.counts_fit.Goals as goal
 

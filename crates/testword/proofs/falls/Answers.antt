@@ -1,10 +1,9 @@
 -- `falls` goes over the list from its front: those counted and those left are all.
 use mathlib.Core.Path.{◌≡◌, refl}
-use Prim.Native.Nat.{◌+◌, ◌-◌, ◌≤◌}
+use Prim.Native.Nat.{◌+◌, ◌-◌}
 use native.Mathlib.Numerals.{add-one}
 use native.Mathlib.Omega.{arith}
 use lib.ListN.{length}
-use Rattle.wordlaws.specs.Reach.{falls_in}
 use Rattle.wordlaws.proofs.FallLaws.{falls_none, falls_on}
 use Rattle.testword.proofs.falls.Goals as goal
 

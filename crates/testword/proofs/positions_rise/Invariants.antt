@@ -1,16 +1,12 @@
 -- `positions_rise` goes from page to page: what is left gives what all of it gives, with a base that stops above the limit.
-use mathlib.Core.List.{[]}
-use mathlib.Core.Path.{◌≡◌, refl, sym, ap, ap₂, ◌∙◌}
-use Prim.Native.Nat.{◌+◌, ◌-◌, ◌^◌, ◌≤◌, ◌<◌}
-use native.Mathlib.Omega.{arith}
-use lib.Dec.{eqb}
-use lib.ListN.{length, get_or, drop, drop_of_length-le}
+use mathlib.Core.Path.{◌≡◌}
+use Prim.Native.Nat.{◌+◌, ◌-◌, ◌≤◌}
+use lib.ListN.{length, drop}
 use Rattle.rules.specs.Limits.{limit}
 use Rattle.rules.specs.Term.{total}
-use Rattle.wordlaws.specs.Reach.{capped, falls_in}
-use Rattle.wordlaws.proofs.CheckLaws.{spanned, spanned_on, total_on, next_placed}
-use Rattle.wordlaws.proofs.FallLaws.{seams, seams_on, seams_none, pages_in_order}
-use Rattle.wordlaws.proofs.LayLaws.{positive_at}
+use Rattle.wordlaws.specs.Reach.{capped}
+use Rattle.wordlaws.proofs.CheckLaws.{spanned}
+use Rattle.wordlaws.proofs.FallLaws.{seams}
 use Rattle.testword.proofs.positions_rise.Given as goal
 
 abbrev pub invariant-loop-i : goal.invariant-loop-i

@@ -1,11 +1,11 @@
 -- `put_line` lays the line: what is behind number i - 1 is still to be laid.
-use mathlib.Core.Path.{◌≡◌, refl, ap, ◌∙◌}
+use mathlib.Core.Path.{refl, ap, ◌∙◌}
 use mathlib.Core.List.{◌∷◌}
-use Prim.Native.Nat.{◌+◌, ◌-◌, ◌≤◌, ◌<◌}
+use Prim.Native.Nat.{◌-◌, ◌<◌}
 use native.Mathlib.Omega.{arith}
 use lib.ListN.{length, drop, get_or, length-set}
 use Rattle.rules.specs.Program.{digits}
-use Rattle.files.specs.Laid.{Put, Partly}
+use Rattle.files.specs.Laid.{Put}
 use Rattle.files.proofs.PutLaws.{put_one, put_same, put_cat, put_length, partly_none, partly_same, partly_more}
 use Rattle.files.proofs.PutLaws.{partly_end}
 use Rattle.text.proofs.LineLaws.{ending, line_first, first_length, ending_at, ending_length, ending_last}

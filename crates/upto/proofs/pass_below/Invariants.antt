@@ -1,14 +1,6 @@
 -- `pass_below` passes one element after the other: each but the last passed is below b, and the word at hand has the rest.
-use mathlib.Core.Path.{◌≡◌, refl, ap, ◌∙◌}
-use Prim.Native.Nat.{ℕ, ◌+◌, ◌-◌, ◌*◌, ◌^◌, ◌≤◌, ◌<◌}
-use native.Mathlib.Omega.{arith}
-use borrow.Author.Tests.{leb-true, leb-false}
-use lib.Count.{count_trailing_zeros}
-use Rattle.readlaws.specs.Open.{OneAt}
-use Rattle.readlaws.proofs.ReadLaws.{open_reads}
-use Rattle.span.specs.Walks.{PassedTo}
+use Prim.Native.Nat.{◌-◌, ◌≤◌}
 use Rattle.upto.specs.Bounds.{Passing, OnesLeft}
-use Rattle.upto.proofs.OnesLaws.{ones_place, ones_drop, passing_on}
 use Rattle.upto.proofs.pass_below.Given as goal
 
 abbrev pub invariant-loop-at : goal.invariant-loop-at

@@ -3,7 +3,6 @@ use Prim.Native.Nat.{◌+◌, ◌-◌, ◌<◌}
 use native.Mathlib.Omega.{arith}
 use Rattle.rules.specs.Runs.{words_for}
 use Rattle.walklaws.proofs.OpenLaws.{words_few, look_fits, open_run}
-use Rattle.upto.specs.Bounds.{OnesLeft}
 use Rattle.upto.proofs.OnesLaws.{ones_go_on, ones_next}
 use Rattle.upto.proofs.skip_empty.Lts
 use Rattle.upto.proofs.skip_empty.Reads

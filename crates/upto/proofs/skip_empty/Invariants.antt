@@ -1,10 +1,7 @@
 -- `skip_empty` passes words with no one left, of which none is the run's last.
-use Prim.Native.Nat.{◌+◌, ◌-◌, ◌<◌}
-use native.Mathlib.Omega.{arith}
+use Prim.Native.Nat.{◌-◌}
 use Rattle.rules.specs.Runs.{words_for}
-use Rattle.walklaws.proofs.OpenLaws.{words_few, look_fits, open_run}
 use Rattle.upto.specs.Bounds.{OnesLeft}
-use Rattle.upto.proofs.OnesLaws.{ones_go_on, ones_next}
 use Rattle.upto.proofs.skip_empty.Given as goal
 
 abbrev pub invariant-loop-at : goal.invariant-loop-at

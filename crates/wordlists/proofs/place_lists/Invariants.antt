@@ -1,12 +1,8 @@
 -- `place_lists` goes from word to word. The loop's invariant: the places put so far are those of the words' lists.
-use mathlib.Core.Path.{◌≡◌, sym, ◌∙◌}
-use Prim.Native.Nat.{◌+◌, ◌-◌, ◌*◌, ◌^◌, ◌≤◌, ◌<◌}
-use native.Mathlib.Omega.{arith}
-use lib.ListN.{length, get_or, set, length-set}
-use Rattle.rules.specs.Index.{index_t}
-use Rattle.questions.proofs.GoodLaws.{words_parts}
-use Rattle.wordlists.specs.Lying.{list_of, Lying, AllLying}
-use Rattle.wordlists.proofs.LyingLaws.{lying_more, card_short}
+use mathlib.Core.Path.{◌≡◌}
+use Prim.Native.Nat.{◌-◌, ◌≤◌}
+use lib.ListN.{length}
+use Rattle.wordlists.specs.Lying.{AllLying}
 use Rattle.wordlists.proofs.place_lists.Given as goal
 
 abbrev pub invariant-loop-i : goal.invariant-loop-i

@@ -1,6 +1,5 @@
 use mathlib.Core.Path.{sym, ap₂, ◌∙◌}
 use native.Mathlib.Omega.{arith}
-use borrow.Author.Tests.{not-true, not-false}
 use lib.ListN.{length}
 use Rattle.rules.specs.declared.Refusal.TheVariants.{Accepted}
 use Rattle.rules.specs.List.{two_runs}
