@@ -55,7 +55,7 @@ loop-next-preserved c =
     let b = w in
     finding_more b.args.card.now b.args.terms.now b.requires.0 b.requires.1 l.starts
     (length b.args.starts.now) l.t l.rest.now l.next l.invariant w.loop-next-test.true
-    w.blocks_from-left.result.now w.blocks_from-left.ensures p.new.1.1.1.0 c.least_from-next-in-loop-next.result p.ensures
+    w.blocks_from-left.result.now w.blocks_from-left.ensures p.new.starts c.least_from-next-in-loop-next.result p.ensures
     c.least_from-next-in-loop-next.ensures
 
 pub returns : goal.returns

@@ -8,6 +8,7 @@ use lib.ListN.{length}
 use Rattle.findlaws.specs.Starts.{LeastOf}
 use Rattle.findlaws.proofs.StartLaws.{least_taken, least_kept}
 use Rattle.findterms.proofs.least_from.Goals as goal
+use Rattle.findterms.proofs.least_from.Goals.{then-t-term+then-term-least, else-t-term, else-t-term-via-then-t-term+else-term-least, else-t-term-via-else-t-term}
 
 pub loop-i-init : goal.loop-i-init
 loop-i-init c = (
@@ -29,11 +30,14 @@ loop-i-preserved c =
     let a = c.args in (
       omega arith,
       elim c.if-t-term.branch [
-        | inl e ↦ rw e.2 (least_taken a.terms.now l.i a.t l.least l.invariant.1 e.0.taken
-            (ltb-true _ _ e.1.taken))
-        | inr e ↦
-            rw e.1 (least_kept a.terms.now l.i a.t l.least l.invariant.1
-            (λ h. elim e.0.came [ inl f ↦ ltb-false _ _ f.1.left | inr f ↦ absurd (omega (arith, f.left)) ]))
+        | then-t-term+then-term-least e ↦ rw e.least-is (least_taken a.terms.now l.i a.t l.least l.invariant.1
+            e.if-t-term.true e.if-term-least.true)
+        | else-t-term e ↦
+            rw e.least-is (least_kept a.terms.now l.i a.t l.least l.invariant.1
+            (λ h. elim e.else-t-term.branch [
+              | else-t-term-via-then-t-term+else-term-least w ↦ w.if-term-least.false
+              | else-t-term-via-else-t-term w ↦ absurd (omega (arith, w.if-t-term.false))
+            ]))
       ],
     )
 

@@ -7,6 +7,7 @@ use lib.ListN.{length}
 use Rattle.findlaws.specs.Starts.{PutOf}
 use Rattle.findlaws.proofs.StartLaws.{put_more, put_kept}
 use Rattle.findterms.proofs.put_start.Goals as goal
+use Rattle.findterms.proofs.put_start.Goals.{then-terms-i, else-terms-i}
 
 pub loop-i-init : goal.loop-i-init
 loop-i-init c = (
@@ -25,12 +26,12 @@ loop-i-preserved c =
       omega arith,
       l.invariant.1,
       elim c.if-terms-i.branch [
-        | inl e ↦
-            rw e.1 (put_more a.terms.now l.i a.t a.at a.starts.now l.starts l.invariant.2
-            (omega arith) e.0.taken)
-        | inr e ↦
-            rw e.1 (put_kept a.terms.now l.i a.t a.at a.starts.now l.starts l.invariant.2
-            e.0.left)
+        | then-terms-i e ↦
+            rw e.starts-is (put_more a.terms.now l.i a.t a.at a.starts.now l.starts l.invariant.2
+            (omega arith) e.if-terms-i.true)
+        | else-terms-i e ↦
+            rw e.starts-is (put_kept a.terms.now l.i a.t a.at a.starts.now l.starts l.invariant.2
+            e.if-terms-i.false)
       ],
     )
 
