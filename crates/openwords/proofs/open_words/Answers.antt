@@ -1,7 +1,7 @@
 -- `open_words` fills one slot after the other. The loop's invariant: the slots filled so far place their words' lists.
 use mathlib.Core.Path.{◌≡◌, refl, sym, ap, ◌∙◌}
 use mathlib.Core.List.{List}
-use Prim.Native.Nat.{ℕ, ◌-◌, ◌≤◌}
+use Prim.Native.Nat.{ℕ, ◌-◌}
 use native.Mathlib.Omega.{arith}
 use lib.ListN.{length, get_or}
 use Rattle.rules.specs.declared.Refusal.TheVariants.{Accepted}
@@ -12,7 +12,6 @@ use Rattle.readlaws.proofs.FormLaws.{alone_valid}
 use Rattle.openlists.specs.Places.{Within}
 use Rattle.wordlists.specs.Lying.{list_of, Lying}
 use Rattle.wordlists.proofs.LyingLaws.{card_short, word_below}
-use Rattle.openwords.specs.Slots.{Filled}
 use Rattle.openwords.proofs.SlotLaws.{list_accepted, filled_more}
 use Rattle.openwords.proofs.open_words.Lts
 use Rattle.openwords.proofs.open_words.Reads

@@ -2,7 +2,7 @@
 use mathlib.Core.Path.{◌≡◌, sym, refl, ◌∙◌}
 use Prim.Native.Nat.{ℕ, ◌+◌, ◌*◌, ◌<◌}
 use native.Mathlib.Omega.{arith}
-use borrow.Author.Tests.{ltb-true, ltb-false, not-true, not-false}
+use borrow.Author.Tests.{ltb-true, ltb-false}
 use lib.Dec.{lit<}
 use lib.ListN.{length, get_or}
 use mir.Syntax.{w64}

@@ -1,16 +1,13 @@
 -- `batch` seeks list by list: what is left to be sought comes to the rule's next page, and what is left to be
 -- listed, behind what was, to the batch. The measure: the seeks that may follow.
-use mathlib.Core.Bool.{false≢true}
-use mathlib.Core.Logic.{inl, inr}
-use mathlib.Core.Path.{◌≡◌, sym, ◌∙◌}
+use mathlib.Core.Path.{◌≡◌, ◌∙◌}
 use Prim.Native.Nat.{◌-◌, ◌^◌, ◌<◌}
 use native.Mathlib.Omega.{arith}
-use borrow.Author.Tests.{ltb-true, lt-ltb}
 use lib.ListN.{length, set, length-set}
 use Rattle.walklaws.specs.Cursors.{spent_mark, unused}
 use Rattle.querylaws.specs.Queries.{with_cursor, seeks_of}
 use Rattle.querylaws.proofs.RunLaws.{midst_seekable, midst_some, midst_less}
-use Rattle.querylaws.proofs.BatchLaws.{Amid, Step, amid_start, amid_none, amid_larger, amid_same, amid_page}
+use Rattle.querylaws.proofs.BatchLaws.{Step, amid_start, amid_none, amid_larger, amid_same, amid_page}
 use Rattle.querylaws.proofs.BatchLaws.{amid_full}
 use Rattle.query.proofs.batch.Lts
 use Rattle.query.proofs.batch.Reads

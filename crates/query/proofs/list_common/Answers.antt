@@ -1,12 +1,8 @@
 -- `list_common` lists one batch of pages in the room, if there is any, and counts the others batch by batch: the bound
 -- grows with each.
-use mathlib.Core.Logic.{inl, inr}
-use mathlib.Core.Path.{◌≡◌, refl, sym, ◌∙◌}
-use mathlib.Core.List.{List}
-use Prim.Native.Nat.{ℕ, ◌+◌, ◌-◌}
+use mathlib.Core.Path.{refl, sym, ◌∙◌}
+use Prim.Native.Nat.{◌+◌, ◌-◌}
 use native.Mathlib.Omega.{arith}
-use lib.ListN.{length}
-use Rattle.walklaws.specs.Cursors.{spent_mark}
 use Rattle.querylaws.proofs.NewLaws.{new_running}
 use Rattle.querylaws.proofs.BatchLaws.{batched_long}
 use Rattle.querylaws.proofs.ListingLaws.{Listing, listing_none, listing_first, listing_few, listing_on, listing_more}

@@ -1,16 +1,11 @@
 -- `list_common` lists one batch of pages in the room, if there is any, and counts the others batch by batch: the bound
 -- grows with each.
-use mathlib.Core.Logic.{inl, inr}
-use mathlib.Core.Path.{◌≡◌, refl, sym, ◌∙◌}
+use mathlib.Core.Path.{◌≡◌}
 use mathlib.Core.List.{List}
-use Prim.Native.Nat.{ℕ, ◌+◌, ◌-◌}
-use native.Mathlib.Omega.{arith}
+use Prim.Native.Nat.{ℕ, ◌-◌}
 use lib.ListN.{length}
 use Rattle.walklaws.specs.Cursors.{spent_mark}
-use Rattle.querylaws.proofs.NewLaws.{new_running}
-use Rattle.querylaws.proofs.BatchLaws.{batched_long}
-use Rattle.querylaws.proofs.ListingLaws.{Listing, listing_none, listing_first, listing_few, listing_on, listing_more}
-use Rattle.querylaws.proofs.ListingLaws.{listing_less, listing_narrow, listing_end}
+use Rattle.querylaws.proofs.ListingLaws.{Listing}
 use Rattle.query.proofs.list_common.Given as goal
 
 -- whatever the first batch listed is listed still
