@@ -1,4 +1,5 @@
 // Kind 3: the pages that a question's words share, with the seeks and looks that finding them took.
+#![tactic(auto)]
 
 ghost use Rattle.std.specs.Prelude.{◌≡◌, true, ◌+◌, ◌≤◌, length};
 ghost use Rattle.rules.specs.declared.Refusal.TheVariants.{Accepted};

@@ -1,4 +1,5 @@
 // Answers of one list: its element of a rank, and its first element at or above a bound.
+#![tactic(auto)]
 
 ghost use Rattle.std.specs.Prelude.{◌≡◌, ◌<◌};
 ghost use Rattle.rules.specs.declared.Refusal.TheVariants.{Accepted};

@@ -1,4 +1,5 @@
 // Opening the lists of a question's words, each in the slot of its word.
+#![tactic(auto)]
 
 ghost use Rattle.std.specs.Prelude.{◌≡◌, true, ◌<◌, length};
 ghost use Rattle.rules.specs.declared.Refusal.TheVariants.{Accepted};

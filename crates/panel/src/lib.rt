@@ -1,4 +1,5 @@
 // A screen of common pages, above the index library: what it knows of the library is the promise of each call.
+#![tactic(auto)]
 
 ghost use Rattle.std.specs.Prelude.{◌≡◌, true, [], ◌∷◌, ◌-◌, ◌≤◌, ◌<◌, length, get_or, take};
 ghost use Rattle.rules.specs.declared.Refusal.TheVariants.{Accepted};

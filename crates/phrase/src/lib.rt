@@ -1,4 +1,5 @@
 // A word of a phrase on one page: its positions there, gone through from bound to bound and never back.
+#![tactic(auto)]
 
 ghost use Rattle.std.specs.Prelude.{◌+◌, ◌^◌, ◌<◌};
 ghost use Rattle.turning.specs.Words.{base_in, BlockAt};

@@ -1,5 +1,6 @@
 // Common pages of up to eight lists by the step rule: the cursors travel as one query by value, and the lists' numbers
 // are lent beside it.
+#![tactic(auto)]
 
 ghost use Rattle.std.specs.Prelude.{◌≡◌, ◌<◌, length};
 ghost use Rattle.bytetable.specs.Places.{PlacesOfOnes};

@@ -1,4 +1,5 @@
 // The words of a phrase tried at a start, each turned to the page once it is needed.
+#![tactic(auto)]
 
 ghost use Rattle.std.specs.Prelude.{◌≡◌, ◌-◌, ◌<◌};
 ghost use Rattle.bytetable.specs.Places.{PlacesOfOnes};

@@ -2,7 +2,7 @@
 use mathlib.Core.Path.{◌≡◌, sym, refl, ◌∙◌}
 use Prim.Native.Nat.{ℕ, ◌+◌, ◌*◌, ◌<◌}
 use native.Mathlib.Omega.{arith}
-use borrow.Author.Tests.{ltb-true, ltb-false, not-true, not-false}
+use borrow.Author.Tests.{ltb-true, ltb-false}
 use lib.Dec.{lit<}
 use lib.ListN.{length, get_or}
 use mir.Syntax.{w64}
@@ -11,16 +11,17 @@ use Rattle.turning.specs.Words.{base_in}
 use Rattle.phrase.proofs.StandLaws.{sought_none, sought_there}
 use Rattle.phrase.proofs.position_from.Lts
 use Rattle.phrase.proofs.position_from.Reads
+use Rattle.phrase.proofs.position_from.Tie
 use Rattle.phrase.proofs.position_from.Goals as goal
 
 abbrev After-pass_on : Type 0
-After-pass_on = Lts.After-pass_on Reads.Pre Reads.Post
+After-pass_on = Lts.After-pass_on Tie.the-claims Reads.Pre Reads.Post
 
 abbrev Start : Type 0
-Start = Lts.Start Reads.Pre Reads.Post
+Start = Lts.Start Tie.the-claims Reads.Pre Reads.Post
 
 abbrev Else-not-pass_on : Type 0
-Else-not-pass_on = Lts.Else1 Reads.Pre Reads.Post
+Else-not-pass_on = Lts.Else1 Tie.the-claims Reads.Pre Reads.Post
 
 -- the places of word i's numbers fit a machine word, and so do those of their bytes
 record Places (i : ℕ) : Type 0 where
@@ -73,7 +74,7 @@ pub returns : goal.returns
 returns c =
     let a = c.args in
     let p = c.pass_on in
-    sought_there _ _ _ a.b a.i p.result _ p.ensures _ (beyond c.before) refl
+    sought_there _ _ _ a.b a.i p.result _ p.ensures _ (beyond c.before.before) refl
 
 pub overflow_mul-base : goal.overflow_mul-base
 overflow_mul-base c = (places c.requires.0.few).first
@@ -88,7 +89,7 @@ pub bounds-words-i : goal.bounds-words-i
 bounds-words-i c = let p = c.requires in in_words _ p.0.few (lit< tt) p.3.room
 
 pub shape_of-words-then-not-pass_on : goal.shape_of-words-then-not-pass_on
-shape_of-words-then-not-pass_on c = same_length c.before.before.before
+shape_of-words-then-not-pass_on c = same_length c.before.before.before.before
 
 pub overflow_mul-result : goal.overflow_mul-result
 overflow_mul-result c = (places c.requires.0.few).first
@@ -107,10 +108,10 @@ bounds-words-i-2 c = let p = c in
     past_in p.requires.0.few p.pass_on.ensures.ready.room
 
 pub overflow_sub-result : goal.overflow_sub-result
-overflow_sub-result c = omega (arith, beyond c.before)
+overflow_sub-result c = omega (arith, beyond c.before.before)
 
 pub overflow_sub-result-2 : goal.overflow_sub-result-2
-overflow_sub-result-2 c = omega (arith, beyond c.before)
+overflow_sub-result-2 c = omega (arith, beyond c.before.before)
 
 pub shape_of-words : goal.shape_of-words
-shape_of-words c = same_length c.before.before.before.before
+shape_of-words c = same_length c.before.before.before.before.before

@@ -1,29 +1,28 @@
 -- `batch` seeks list by list: what is left to be sought comes to the rule's next page, and what is left to be
 -- listed, behind what was, to the batch. The measure: the seeks that may follow.
-use mathlib.Core.Bool.{false≢true}
-use mathlib.Core.Logic.{inl, inr}
-use mathlib.Core.Path.{◌≡◌, sym, ◌∙◌}
+use mathlib.Core.Path.{◌≡◌, ◌∙◌}
 use Prim.Native.Nat.{◌-◌, ◌^◌, ◌<◌}
 use native.Mathlib.Omega.{arith}
-use borrow.Author.Tests.{ltb-true, lt-ltb}
 use lib.ListN.{length, set, length-set}
 use Rattle.walklaws.specs.Cursors.{spent_mark, unused}
 use Rattle.querylaws.specs.Queries.{with_cursor, seeks_of}
 use Rattle.querylaws.proofs.RunLaws.{midst_seekable, midst_some, midst_less}
-use Rattle.querylaws.proofs.BatchLaws.{Amid, Step, amid_start, amid_none, amid_larger, amid_same, amid_page}
+use Rattle.querylaws.proofs.BatchLaws.{Step, amid_start, amid_none, amid_larger, amid_same, amid_page}
 use Rattle.querylaws.proofs.BatchLaws.{amid_full}
 use Rattle.query.proofs.batch.Lts
 use Rattle.query.proofs.batch.Reads
+use Rattle.query.proofs.batch.Tie
 use Rattle.query.proofs.batch.Goals as goal
+use Rattle.query.proofs.batch.Lts.{else-i-gt0-via-then-i-gt0+else-b-page, else-i-gt0-via-else-i-gt0}
 
 abbrev At-loop-q : Type 0
-At-loop-q = Lts.At-loop Reads.Pre Reads.Post
+At-loop-q = Lts.At-loop Tie.the-claims Reads.Pre Reads.Post goal.the-invariant-loop-q goal.the-decreases-loop-q
 
 abbrev After-seek_in-s : Type 0
-After-seek_in-s = Lts.After-seek_in Reads.Pre Reads.Post
+After-seek_in-s = Lts.After-seek_in Tie.the-claims Reads.Pre Reads.Post goal.the-invariant-loop-q goal.the-decreases-loop-q
 
 abbrev Joined-else-i-gt0 : Type 0
-Joined-else-i-gt0 = Lts.Joined2 Reads.Pre Reads.Post
+Joined-else-i-gt0 = Lts.Joined2 Tie.the-claims Reads.Pre Reads.Post goal.the-invariant-loop-q goal.the-decreases-loop-q
 
 pub loop-q-init : goal.loop-q-init
 loop-q-init c =
@@ -45,8 +44,8 @@ seek_in-s-requires c =
       c.requires.2,
     )
 
-same_length : goal.Need-same-length invariant-loop decreases-loop
-same_length c = c.before.before.before.before.before.before.loop.invariant.behind.long
+pub shape_of-room-then-mark : goal.shape_of-room-then-mark
+shape_of-room-then-mark c = c.loop-q.invariant.behind.long
 
 -- what the seek of a round made
 step : (k : After-seek_in-s) →
@@ -64,7 +63,7 @@ pub returns-then-mark : goal.returns-then-mark
 returns-then-mark c =
     let k = c in
     rw (c.turn_of.ensures, k.seek_in-s.ensures.0)
-    (amid_none _ _ _ _ _ _ _ _ _ _ _ _ (step k.before.before.before.before) c.if-mark.true)
+    (amid_none _ _ _ _ _ _ _ _ _ _ _ _ (step k.before.before.before.before.before) c.if-mark.true)
 
 -- the mark that a seek leaves
 marked : (k : After-seek_in-s) → 0 < k.seek_in-s.result.hand.mark
@@ -89,14 +88,14 @@ fewer k =
 pub loop-q-smaller-then-b-page : goal.loop-q-smaller-then-b-page
 loop-q-smaller-then-b-page c =
     let k = c in
-    rw k.seek_in-s.ensures.0 (fewer k.before.before.before.before.before c.if-mark.false)
+    rw k.seek_in-s.ensures.0 (fewer k.before.before.before.before.before.before c.if-mark.false)
 
 pub loop-q-preserved-then-b-page : goal.loop-q-preserved-then-b-page
 unfolding unused
 loop-q-preserved-then-b-page c =
     let k = c in
     rw k.seek_in-s.ensures.0
-    (amid_larger _ _ _ _ _ _ _ _ _ _ _ _ (step k.before.before.before.before.before)
+    (amid_larger _ _ _ _ _ _ _ _ _ _ _ _ (step k.before.before.before.before.before.before)
     c.if-mark.false (omega (arith, c.if-i-gt0.true))
     (c.if-b-page.true))
 
@@ -105,10 +104,8 @@ no_larger : (c : Joined-else-i-gt0) → 0 < c.loop-q.i
     → c.loop-q.b
     < c.seek_in-s.result.hand.mark - 1 → ⊥
 no_larger c h g = elim c.else-i-gt0.branch [
-  | inl e ↦
-      let k = c in
-      false≢true (sym e.1.left ∙ lt-ltb k.loop-q.b (k.seek_in-s.result.hand.mark - 1) g)
-  | inr e ↦ omega (arith, e.left)
+  | else-i-gt0-via-then-i-gt0+else-b-page w ↦ omega (arith, w.if-b-page.false)
+  | else-i-gt0-via-else-i-gt0 w ↦ omega (arith, w.if-i-gt0.false)
 ]
 
 pub bounds-room-found : goal.bounds-room-found
@@ -116,9 +113,9 @@ bounds-room-found c =
     let g = c.loop-q.invariant in
     omega (arith, g.behind.space, g.behind.long)
 
-same-length-2 : goal.Need-same-length-2 invariant-loop decreases-loop
-same-length-2 c =
-    let l = c.before.before.before.before.before.before.before.before.before.loop in
+pub shape_of-room-then-room-found : goal.shape_of-room-then-room-found
+shape_of-room-then-room-found c =
+    let l = c.loop-q in
     length-set l.room l.found _ ∙ l.invariant.behind.long
 
 -- the room is as long with the page in it
@@ -134,59 +131,59 @@ pub returns-then-room-found : goal.returns-then-room-found
 returns-then-room-found c =
     let k = c in
     rw (c.turn_of-then-room-found.ensures, k.seek_in-s.ensures.0)
-    (amid_full _ _ _ _ _ _ _ _ _ _ _ _ (step k.before.before.before.before.before.before.before)
-    c.if-mark.false (no_larger c.before.before.before) c.if-k-i.true
-    (omega (arith, c.if-room-found.true, room_long k.before.before.before.before.before.before.before)))
+    (amid_full _ _ _ _ _ _ _ _ _ _ _ _ (step k.before.before.before.before.before.before.before.before)
+    c.if-mark.false (no_larger c.before.before.before.before) c.if-k-i.true
+    (omega (arith, c.if-room-found.true, room_long k.before.before.before.before.before.before.before.before)))
 
 pub loop-q-smaller-then-k-i : goal.loop-q-smaller-then-k-i
 loop-q-smaller-then-k-i c =
     let k = c in
-    rw k.seek_in-s.ensures.0 (fewer k.before.before.before.before.before.before c.if-mark.false)
+    rw k.seek_in-s.ensures.0 (fewer k.before.before.before.before.before.before.before c.if-mark.false)
 
 pub loop-q-preserved-then-k-i : goal.loop-q-preserved-then-k-i
 loop-q-preserved-then-k-i c =
     let k = c in
     rw k.seek_in-s.ensures.0
-    (amid_page _ _ _ _ _ _ _ _ _ _ _ _ (step k.before.before.before.before.before.before)
-    c.if-mark.false (no_larger c.before.before) c.if-k-i.true
-    (omega (arith, c.if-room-found.false, room_long k.before.before.before.before.before.before)))
+    (amid_page _ _ _ _ _ _ _ _ _ _ _ _ (step k.before.before.before.before.before.before.before)
+    c.if-mark.false (no_larger c.before.before.before) c.if-k-i.true
+    (omega (arith, c.if-room-found.false, room_long k.before.before.before.before.before.before.before)))
 
 pub loop-q-smaller : goal.loop-q-smaller
 loop-q-smaller c =
     let k = c in
-    rw k.seek_in-s.ensures.0 (fewer k.before.before.before.before.before c.if-mark.false)
+    rw k.seek_in-s.ensures.0 (fewer k.before.before.before.before.before.before c.if-mark.false)
 
 pub loop-q-preserved : goal.loop-q-preserved
 unfolding unused
 loop-q-preserved c =
     let k = c in
     rw k.seek_in-s.ensures.0
-    (amid_same _ _ _ _ _ _ _ _ _ _ _ _ (step k.before.before.before.before.before)
-    c.if-mark.false (no_larger c.before) c.if-k-i.false)
+    (amid_same _ _ _ _ _ _ _ _ _ _ _ _ (step k.before.before.before.before.before.before)
+    c.if-mark.false (no_larger c.before.before) c.if-k-i.false)
 
 pub offset_bounds-q-i : goal.offset_bounds-q-i
-offset_bounds-q-i c = omega (arith, few c)
+offset_bounds-q-i c = omega (arith, few c.before)
 
 pub bounds-q-i : goal.bounds-q-i
-bounds-q-i c = omega (arith, few c)
+bounds-q-i c = omega (arith, few c.before)
 
 pub offset_bounds-q-i-in-loop-q : goal.offset_bounds-q-i-in-loop-q
-offset_bounds-q-i-in-loop-q c = omega (arith, few c.before.before.before.before)
+offset_bounds-q-i-in-loop-q c = omega (arith, few c.before.before.before.before.before)
 
 pub bounds-q-i-in-loop-q : goal.bounds-q-i-in-loop-q
-bounds-q-i-in-loop-q c = omega (arith, few c.before.before.before.before)
+bounds-q-i-in-loop-q c = omega (arith, few c.before.before.before.before.before)
 
 pub turn_of-requires : goal.turn_of-requires
 turn_of-requires c = tt
 
 pub overflow_sub-page : goal.overflow_sub-page
-overflow_sub-page c = marked c.before.before.before
+overflow_sub-page c = marked c.before.before.before.before
 
 pub overflow_add-i : goal.overflow_add-i
-overflow_add-i c = omega (arith, few c.before.before.before.before.before.before)
+overflow_add-i c = omega (arith, few c.before.before.before.before.before.before.before)
 
 pub overflow_sub-room : goal.overflow_sub-room
-overflow_sub-room c = marked c.before.before.before.before.before
+overflow_sub-room c = marked c.before.before.before.before.before.before
 
 pub turn_of-requires-then-room-found : goal.turn_of-requires-then-room-found
 turn_of-requires-then-room-found c = tt

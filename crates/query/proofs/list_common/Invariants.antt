@@ -1,32 +1,12 @@
 -- `list_common` lists one batch of pages in the room, if there is any, and counts the others batch by batch: the bound
 -- grows with each.
-use mathlib.Core.Logic.{inl, inr}
-use mathlib.Core.Path.{◌≡◌, refl, sym, ◌∙◌}
+use mathlib.Core.Path.{◌≡◌}
 use mathlib.Core.List.{List}
-use Prim.Native.Nat.{ℕ, ◌+◌, ◌-◌}
-use native.Mathlib.Omega.{arith}
+use Prim.Native.Nat.{ℕ, ◌-◌}
 use lib.ListN.{length}
 use Rattle.walklaws.specs.Cursors.{spent_mark}
-use Rattle.querylaws.proofs.NewLaws.{new_running}
-use Rattle.querylaws.proofs.BatchLaws.{batched_long}
-use Rattle.querylaws.proofs.ListingLaws.{Listing, listing_none, listing_first, listing_few, listing_on, listing_more}
-use Rattle.querylaws.proofs.ListingLaws.{listing_less, listing_narrow, listing_end}
+use Rattle.querylaws.proofs.ListingLaws.{Listing}
 use Rattle.query.proofs.list_common.Given as goal
-
--- what the first batch listed; with no room there is none
-pub first : (c : Joined-room-gt0) → Listing c.args.card.now
-    c.args.shapes.now c.args.k
-    c.args.room.now c.if-room-gt0.s.q c.if-room-gt0.s.mark c.if-room-gt0.s.found
-    c.if-room-gt0.room
-first c = elim c.if-room-gt0.branch [
-  | inl e ↦
-      rw (e.5, e.6)
-      (listing_first _ _ _ _ c.requires.0 e.2.result _
-      (rw c.new-q.ensures at e.2.ensures))
-  | inr e ↦
-      rw (e.1, e.2, c.new-q.ensures)
-      (listing_none _ _ _ _ c.requires.0 (omega (arith, e.0.left)))
-]
 
 -- whatever the first batch listed is listed still
 abbrev pub invariant-loop-s : goal.invariant-loop-s
