@@ -33,8 +33,8 @@ NOTES = """\
 - Ratios are the archive's time over the contender's, in the same run: below 1.00 the archive is faster.
 - `archive` is target/staticlib/libjundefola.a, called as a host calls it; `peer` is bench/peer, the same calls in Rust \
 without proofs; `sdsl` is its sd_vector; `CRoaring` its bitmap after run_optimize; `galloping` a plain sorted array, \
-which is neither compressed nor checked. Everything is compiled at -O3: the archive and the program by the toolchain, for \
-x86-64-v2, and all else for plain x86-64.
+which is neither compressed nor checked. Everything is compiled at -O3 for plain x86-64, but the program, which the toolchain \
+builds for x86-64-v2.
 - All answers and all blocks are compared before anything is timed; a difference ends the run.
 - In each repetition every contender runs once, in turn, and its smallest time counts. The time is the thread's own, \
 which leaves out what other processes take of the core; for the program it is the time of day.

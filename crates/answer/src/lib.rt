@@ -1,4 +1,5 @@
 // Kind 4, the pages on which a phrase starts, and the answer to one question by its kind.
+#![tactic(auto)]
 
 ghost use Rattle.std.specs.Prelude.{◌≡◌, true, length, get_or};
 ghost use Rattle.rules.specs.declared.Refusal.TheVariants.{Accepted};

@@ -1,4 +1,5 @@
 // The call: a card, questions, and room for their answers.
+#![tactic(auto)]
 
 ghost use Rattle.std.specs.Prelude.{◌≡◌, true, length};
 ghost use Rattle.rules.specs.declared.Refusal.TheVariants.{Accepted};

@@ -1,4 +1,5 @@
 // The calls that a host makes, in C or Rust: include/jundefola.h tells of them, and none asks anything beforehand.
+#![tactic(auto)]
 
 ghost use Rattle.std.specs.Prelude.{◌≡◌};
 ghost use Rattle.rules.specs.Refusal.{number};

@@ -1,4 +1,5 @@
 // The pages on which a phrase starts, each with its starts, put into a room that they fit.
+#![tactic(auto)]
 
 ghost use Rattle.std.specs.Prelude.{◌≡◌, ◌^◌, ◌<◌, ltb, length, ◌∷◌};
 ghost use Rattle.rules.specs.Questions.{numbered};

@@ -1,4 +1,5 @@
 // The starts of a phrase on one page.
+#![tactic(auto)]
 
 ghost use Rattle.std.specs.Prelude.{◌-◌};
 ghost use Rattle.bytetable.specs.Places.{PlacesOfOnes};

@@ -1,0 +1,6 @@
+-- What `begin_term` answers, with its number.
+use Rattle.hostlaws.proofs.HostLaws.{told_streaming}
+use Rattle.jundefola.proofs.jf_begin_term.Goals as goal
+
+pub returns : goal.returns
+returns c = told_streaming _ _ _ _ c.streamed.ensures c.begin_term.ensures

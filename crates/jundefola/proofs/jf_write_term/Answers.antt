@@ -1,0 +1,6 @@
+-- What `write_term` answers, with its number.
+use Rattle.hostlaws.proofs.HostLaws.{told_made}
+use Rattle.jundefola.proofs.jf_write_term.Goals as goal
+
+pub returns : goal.returns
+returns c = told_made _ _ _ _ c.written.ensures c.write_term.ensures
