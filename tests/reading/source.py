@@ -343,7 +343,7 @@ class Items(Statements):
             if self.accept("ghost"):
                 self.expect("use")
                 self.skip_to(";")
-            else:
+            elif self.next.kind != "end":
                 self.item(found, "")
         return found
 
