@@ -29,7 +29,8 @@ abbrev In-loop-i : Type 0
 In-loop-i = Lts.In-loop Tie.the-claims Reads.Pre Reads.Post goal.the-invariant-loop-i goal.the-decreases-loop-i
 
 abbrev After-slice_known-in-loop-i-1 : Type 0
-After-slice_known-in-loop-i-1 = Lts.After-slice_known2 Tie.the-claims Reads.Pre Reads.Post goal.the-invariant-loop-i goal.the-decreases-loop-i
+After-slice_known-in-loop-i-1 = Lts.After-slice_known2 Tie.the-claims Reads.Pre Reads.Post goal.the-invariant-loop-i
+    goal.the-decreases-loop-i
 
 -- the start, seen from the loop
 abbrev entry : At-loop-i → Start
@@ -74,9 +75,9 @@ runs : (l : At-loop-i)
     → let a = l.args in (a.lower ≤ a.upper) × (a.upper ≤ length l.loop-i.block)
     × (length l.loop-i.block ≡ length a.block.now)
 runs l =
-    let s = l in
-    let r = runs_in (shaped s.before.before.before.before s.requires.shape) s.args.block.now (ask s.before.before.before.before).fitting in
-    let n = both_long (ask s.before.before.before.before) (l.loop-i.invariant.2 s.requires.shape s.requires.slots) in
+    let s = l.before.before.before.before in
+    let r = runs_in (shaped s s.requires.shape) s.args.block.now (ask s).fitting in
+    let n = both_long (ask s) (l.loop-i.invariant.2 s.requires.shape s.requires.slots) in
     (r.0, omega (arith, r, n), n)
 
 -- the loop, and the block, behind the one of element i
@@ -89,13 +90,14 @@ risen c =
     let upper = l.args.upper in
     put_mid upper (length l.loop-i.block - upper) l.loop-i.block c.add_high-highs.new.run
 
-one_set : (c : After-slice_known-in-loop-i-1) (g : Shape) → Has c.before.before.before.before.before.before.before.before.before.before g
+one_set : (c : After-slice_known-in-loop-i-1) (g : Shape) → Has (entry c.before.before.before.before.before.before) g
     → let l = c in
     let a = l.args in
-    BothLaid (shaped l.before.before.before.before.before.before.before.before.before.before g) a.from a.base a.list.now l.loop-i.i (l.loop-i.i + 1) l.loop-i.lows
+    BothLaid (shaped (entry l.before.before.before.before.before.before) g) a.from a.base a.list.now l.loop-i.i
+    (l.loop-i.i + 1) l.loop-i.lows
     c.add_high-highs.result a.block.now (risen c)
 one_set c g o =
-    both_high (slots_asked o) (c.loop-i.invariant.2 g o) (going c.before.before.before.before.before) c.add_high-highs.ensures
+    both_high (slots_asked o) (c.loop-i.invariant.2 g o) (going (turn c)) c.add_high-highs.ensures
 
 pub add_low-lows-requires : goal.add_low-lows-requires
 add_low-lows-requires c =
@@ -104,18 +106,19 @@ add_low-lows-requires c =
     let p = l.requires in
     let d = (l.loop-i.invariant.2 p.shape p.slots).lows in (
       d.short,
-      omega (arith, small l.before.before.before.before.before.before.before.before (going t.before.before.before.before.before.before.before)),
+      omega (arith, small l.before.before.before.before.before.before.before.before (going (turn t.before.before))),
       lows_lt _ _ _ l.loop-i.lows _ _ d,
-      low_room (ask l.before.before.before.before.before.before.before.before.before.before.before.before) (one_set c.before.before p.shape p.slots) (going t.before.before.before.before.before.before.before),
+      low_room (ask (entry l.before.before.before.before.before.before.before.before))
+          (one_set c.before.before p.shape p.slots) (going (turn t.before.before)),
     )
 
 pub loop-i-preserved : goal.loop-i-preserved
 loop-i-preserved c =
-    let k = c in
-    let t = k in (
-      omega (arith, going t.before.before.before.before.before.before.before.before.before.before),
+    let k = c.before.before.before.before.before in
+    let t = turn k in (
+      omega (arith, going t),
       refl,
-      λ g o. both_low (slots_asked o) (one_set k.before.before.before.before.before g o) (going t.before.before.before.before.before.before.before.before.before.before) c.add_low-lows.ensures,
+      λ g o. both_low (slots_asked o) (one_set k g o) (going t) c.add_low-lows.ensures,
     )
 
 -- where the loop ends, all elements are laid or in hand
@@ -143,13 +146,15 @@ flush-requires-2 c =
     let k = c in
     let t = k in
     let p = t.requires in
-    last_room (ask t.before.before.before.before.before.before.before.before.before.before.before) (all t.before.before.before.before.before.before.before t.loop-i-test.false p.shape p.slots) k.flush.ensures
+    last_room (ask (entry t.before.before.before.before.before.before.before))
+    (all t.before.before.before.before.before.before.before t.loop-i-test.false p.shape p.slots) k.flush.ensures
 
 pub returns : goal.returns
 returns c g o =
     let k = c in
     let t = k in
-    both_added (slots_asked o) (all t.before.before.before.before.before.before.before.before.before.before t.loop-i-test.false g o) k.flush.ensures
+    both_added (slots_asked o)
+    (all t.before.before.before.before.before.before.before.before.before.before t.loop-i-test.false g o) k.flush.ensures
     c.flush-2.ensures
 
 pub overflow_mul-from : goal.overflow_mul-from

@@ -30,13 +30,13 @@ slots s = record {
 
 pub add_above-requires : goal.add_above-requires
 add_above-requires c =
-    let s = c in
-    record { shape = s.args.g; slots = slots s.before.before.before.before }
+    let s = c.before.before.before.before in
+    record { shape = s.args.g; slots = slots s }
 
 pub returns : goal.returns
 returns c =
     let k = c in
-    let s = k in
+    let s = k.before.before.before.before.before.before.before in
     let a = s.args in
-    k.add_above.ensures a.g (slots s.before.before.before.before.before.before.before)
+    k.add_above.ensures a.g (slots s)
     ∙ ap (λ (xs : List ℕ). added a.g.u a.g.n a.from xs a.block.now) (raised_zero a.list.now)

@@ -47,8 +47,13 @@ pub loop-i-preserved : goal.loop-i-preserved
 loop-i-preserved c =
     let k = c in
     let t = k in
-    let l = t in
-    (omega (arith, going t.before.before.before.before.before.before), refl, map_more (ask l.before.before.before.before.before.before.before.before.before.before) l.loop-i.invariant.2 (going t.before.before.before.before.before.before) k.add_high-highs.ensures)
+    let l = t in (
+      omega (arith, going t.before.before.before.before.before.before),
+      refl,
+      map_more
+          (ask (entry l.before.before.before.before.before.before.before)) l.loop-i.invariant.2
+          (going t.before.before.before.before.before.before) k.add_high-highs.ensures,
+    )
 
 pub returns : goal.returns
 returns c U asked =
@@ -74,7 +79,7 @@ pub overflow_cast-list : goal.overflow_cast-list
 overflow_cast-list c = omega (arith, c.shared_slice_known-in-loop-i-1.given c.loop-i.i)
 
 pub add_high-highs-requires : goal.add_high-highs-requires
-add_high-highs-requires c = let l = c in map_room (ask l.before.before.before.before.before.before.before) l.loop-i.invariant.2
+add_high-highs-requires c = let l = c in map_room (ask (entry l.before.before.before.before)) l.loop-i.invariant.2
 
 pub slice_bounds-flush-count : goal.slice_bounds-flush-count
 slice_bounds-flush-count c = (inside c.before.before).0
@@ -86,7 +91,7 @@ pub slice_bounds-flush-end : goal.slice_bounds-flush-end
 slice_bounds-flush-end c = omega (arith, inside c.before.before)
 
 pub flush-requires : goal.flush-requires
-flush-requires c = let l = c in map_room (ask l.before.before.before.before.before.before) l.loop-i.invariant.2
+flush-requires c = let l = c in map_room (ask (entry l.before.before.before)) l.loop-i.invariant.2
 
 pub shape_of-block : goal.shape_of-block
 shape_of-block c = omega (arith, inside c.before.before.before.before.before.before)

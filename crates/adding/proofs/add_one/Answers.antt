@@ -55,9 +55,9 @@ risen c =
     let a = c.args in
     put_mid a.upper (length a.block.now - a.upper) a.block.now c.add_high-highs.new.run
 
-one_set : (c : After-slice_known-2-1) (g : Shape) → Has c.before.before.before.before.before.before g
+one_set : (c : After-slice_known-2-1) (g : Shape) → Has (entry c) g
     → let a = c.args in
-    BothLaid (shaped c.before.before.before.before.before.before g) a.i a.x (0 ∷ []) 0 1 c.nothing_laid-none.result
+    BothLaid (shaped (entry c) g) a.i a.x (0 ∷ []) 0 1 c.nothing_laid-none.result
     c.add_high-highs.result a.block.now (risen c)
 one_set c g o =
     let n = c in
@@ -66,11 +66,11 @@ one_set c g o =
 
 pub add_low-rest-requires : goal.add_low-rest-requires
 add_low-rest-requires c =
-    let s = c in
+    let s = entry c.before in
     let o = s.requires.slot in
     let l = one_set c.before s.requires.shape o in (
       l.lows.short,
-      omega (arith, small s.before.before.before.before.before.before.before),
+      omega (arith, small s),
       lows_lt _ _ _ c.nothing_laid-none.result _ _ l.lows,
       low_room (one_asked o) l (omega arith),
     )
@@ -85,9 +85,9 @@ laid c =
     let lower = c.args.lower in
     put_mid lower (length t - lower) t c.add_low-rest.new.run
 
-all : (c : After-slice_known-3-1) (g : Shape) → Has c.before.before.before.before.before.before.before.before.before.before g
+all : (c : After-slice_known-3-1) (g : Shape) → Has (entry c.before.before.before.before) g
     → let a = c.args in
-    BothLaid (shaped c.before.before.before.before.before.before.before.before.before.before g) a.i a.x (0 ∷ []) 1 1 c.add_low-rest.result
+    BothLaid (shaped (entry c.before.before.before.before) g) a.i a.x (0 ∷ []) 1 1 c.add_low-rest.result
     c.add_high-highs.result a.block.now (laid c)
 all c g o =
     let k = c in
@@ -110,7 +110,8 @@ pub returns : goal.returns
 returns c g o =
     let f = c in
     let a = f.args in
-    both_added (one_asked o) (all f.before.before.before.before.before.before.before.before.before g o) f.flush.ensures c.flush-2.ensures
+    both_added (one_asked o) (all f.before.before.before.before.before.before.before.before.before g o)
+    f.flush.ensures c.flush-2.ensures
     ∙ ap (λ (xs : List ℕ). added g.u g.n a.i xs a.block.now) (raised_one a.x)
 
 pub overflow_mul-i : goal.overflow_mul-i
@@ -132,22 +133,22 @@ pub add_high-highs-requires : goal.add_high-highs-requires
 add_high-highs-requires c = omega (arith, used_none)
 
 pub slice_bounds-add_low-count : goal.slice_bounds-add_low-count
-slice_bounds-add_low-count c = omega (arith, runs c.before.before.before.before.before.before.before)
+slice_bounds-add_low-count c = omega (arith, runs (entry c.before))
 
 pub slice_bounds-add_low-start : goal.slice_bounds-add_low-start
-slice_bounds-add_low-start c = omega (arith, runs c.before.before.before.before.before.before.before)
+slice_bounds-add_low-start c = omega (arith, runs (entry c.before))
 
 pub slice_bounds-flush-count : goal.slice_bounds-flush-count
-slice_bounds-flush-count c = omega (arith, runs c.before.before.before.before.before.before.before.before.before.before.before)
+slice_bounds-flush-count c = omega (arith, runs (entry c.before.before.before.before.before))
 
 pub slice_bounds-flush-start : goal.slice_bounds-flush-start
-slice_bounds-flush-start c = omega (arith, runs c.before.before.before.before.before.before.before.before.before.before.before)
+slice_bounds-flush-start c = omega (arith, runs (entry c.before.before.before.before.before))
 
 pub slice_bounds-flush-count-2 : goal.slice_bounds-flush-count-2
-slice_bounds-flush-count-2 c = omega (arith, runs c.before.before.before.before.before.before.before.before.before.before.before.before.before.before.before)
+slice_bounds-flush-count-2 c = omega (arith, runs (entry c.before.before.before.before.before.before.before.before.before))
 
 pub slice_bounds-flush-start-2 : goal.slice_bounds-flush-start-2
-slice_bounds-flush-start-2 c = omega (arith, runs c.before.before.before.before.before.before.before.before.before.before.before.before.before.before.before)
+slice_bounds-flush-start-2 c = omega (arith, runs (entry c.before.before.before.before.before.before.before.before.before))
 
 pub shape_of-block : goal.shape_of-block
 shape_of-block c = omega arith

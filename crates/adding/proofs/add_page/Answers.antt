@@ -19,9 +19,9 @@ alone s = list_one s.args.list.now s.requires.0
 
 pub add_map-requires : goal.add_map-requires
 add_map-requires c =
-    let s = c in
+    let s = c.before.before.before.before.before in
     let p = s.requires.1 in
-    record { u = p.shape.u; asked = place_map p.slot c.if-w-eq-BITMAP.true s.args.list.now (alone s.before.before.before.before.before) }
+    record { u = p.shape.u; asked = place_map p.slot c.if-w-eq-BITMAP.true s.args.list.now (alone s) }
 
 pub add_one-requires : goal.add_one-requires
 add_one-requires c =
@@ -32,13 +32,13 @@ pub returns-then-w-eq-BITMAP : goal.returns-then-w-eq-BITMAP
 returns-then-w-eq-BITMAP c o g slot =
     let k = c in
     let b = k in
-    let s = b in
+    let s = b.before.before.before.before.before.before.before.before in
     let a = s.args in
     let x = get_or a.list.now 0 0 in
     let w = b.if-w-eq-BITMAP.true in
     laid_map o g slot.fitting.shape a.i (x ∷ []) a.block.now k.add_map.new.block (slot.width_is ∙ w)
-    (k.add_map.ensures g.u (place_map slot w a.list.now (alone s.before.before.before.before.before.before.before.before))
-    ∙ ap (λ (xs : List _). map_added g.u xs a.block.now) (alone s.before.before.before.before.before.before.before.before))
+    (k.add_map.ensures g.u (place_map slot w a.list.now (alone s))
+    ∙ ap (λ (xs : List _). map_added g.u xs a.block.now) (alone s))
 
 pub returns-else-w-eq-BITMAP : goal.returns-else-w-eq-BITMAP
 returns-else-w-eq-BITMAP c o g slot =

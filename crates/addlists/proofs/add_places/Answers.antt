@@ -25,7 +25,8 @@ abbrev At-loop-at : Type 0
 At-loop-at = Lts.At-loop Tie.the-claims Reads.Pre Reads.Post goal.the-invariant-loop-at goal.the-decreases-loop-at
 
 abbrev After-next_places-next : Type 0
-After-next_places-next = Lts.After-next_places Tie.the-claims Reads.Pre Reads.Post goal.the-invariant-loop-at goal.the-decreases-loop-at
+After-next_places-next = Lts.After-next_places Tie.the-claims Reads.Pre Reads.Post goal.the-invariant-loop-at
+    goal.the-decreases-loop-at
 
 -- all elements
 abbrev els : Start → List ℕ
@@ -55,13 +56,13 @@ entry l = l.before.before.before.before.before
 pub loop-at-init : goal.loop-at-init
 loop-at-init c =
     let k = c in
-    let s = k in
+    let s = k.before.before.before.before.before in
     let a = s.args in
     let e = c.first_spot-at.ensures in (
       refl,
-      e.1 a.g.u a.positions.now (placing s.before.before.before.before.before),
+      e.1 a.g.u a.positions.now (placing s),
       rw e.0 (sym (added_none a.g.u a.g.n a.from a.block.now (λ i. (k.slice_known-1.given i).fits)
-          (fits s.before.before.before.before.before))),
+          (fits s))),
     )
 
 pub next_places-next-requires : goal.next_places-next-requires
@@ -81,7 +82,7 @@ abbrev laid : After-next_places-next → List ℕ
 laid c = take (count c - 0) c.next_places-next.new.part
 
 laid_is : (c : After-next_places-next)
-    → laid c ≡ take (count c) (drop c.loop-at.at.done (els c.before.before.before.before.before.before.before.before.before))
+    → laid c ≡ take (count c) (drop c.loop-at.at.done (els (entry c.before.before.before.before)))
 laid_is c =
     let l = c in
     let a = l.args in
@@ -92,10 +93,12 @@ pub add_all-requires : goal.add_all-requires
 add_all-requires c =
     let n = c in
     let l = n in
-    let s = l in (
+    let s = entry l.before.before.before.before.before.before.before.before.before.before.before in (
       fitting_kept s.args.g s.args.block.now s.requires.0 l.loop-at.block l.loop-at.invariant.0,
       rw length-take (omega (arith, s.requires.1, n.next_places-next.ensures.done)),
-      stretch_rises s.args.g.u l.loop-at.at.done (count n.before.before.before.before.before.before.before) (els s.before.before.before.before.before.before.before.before.before.before.before.before.before.before.before.before) (laid n.before.before.before.before.before.before.before) (placing s.before.before.before.before.before.before.before.before.before.before.before.before.before.before.before.before).rises (laid_is n.before.before.before.before.before.before.before),
+      stretch_rises s.args.g.u l.loop-at.at.done (count n.before.before.before.before.before.before.before) (els s)
+          (laid n.before.before.before.before.before.before.before) (placing s).rises
+          (laid_is n.before.before.before.before.before.before.before),
     )
 
 pub loop-at-preserved : goal.loop-at-preserved
@@ -103,26 +106,29 @@ loop-at-preserved c =
     let y = c in
     let n = y in
     let l = n in
-    let s = l in
+    let s = entry l.before.before.before.before.before.before.before.before.before.before.before.before.before.before in
     let a = s.args in
     let i = l.loop-at.at.done in
-    let e : i + count n.before.before.before.before.before.before.before.before.before.before ≡ n.next_places-next.result.done = omega (arith, n.next_places-next.ensures.done) in (
+    let e : i + count n.before.before.before.before.before.before.before.before.before.before ≡
+    n.next_places-next.result.done = omega (arith, n.next_places-next.ensures.done) in (
       omega arith,
       n.next_places-next.ensures.spot a.start a.g.u l.loop-at.invariant.1,
       y.add_all.ensures
-          ∙ stretch_added a.g.u i (count n.before.before.before.before.before.before.before.before.before.before) (els s.before.before.before.before.before.before.before.before.before.before.before.before.before.before.before.before.before.before.before) (laid n.before.before.before.before.before.before.before.before.before.before) (placing s.before.before.before.before.before.before.before.before.before.before.before.before.before.before.before.before.before.before.before).rises (laid_is n.before.before.before.before.before.before.before.before.before.before) a.g.n a.from
-          a.block.now l.loop-at.block (omega (arith, els_long s.before.before.before.before.before.before.before.before.before.before.before.before.before.before.before.before.before.before.before)) (fits s.before.before.before.before.before.before.before.before.before.before.before.before.before.before.before.before.before.before.before) l.loop-at.invariant.2
-          ∙ ap (λ (j : ℕ). added a.g.u a.g.n a.from (take j (els s.before.before.before.before.before.before.before.before.before.before.before.before.before.before.before.before.before.before.before)) a.block.now) e,
+          ∙ stretch_added a.g.u i (count n.before.before.before.before.before.before.before.before.before.before)
+          (els s) (laid n.before.before.before.before.before.before.before.before.before.before) (placing s).rises
+          (laid_is n.before.before.before.before.before.before.before.before.before.before) a.g.n a.from
+          a.block.now l.loop-at.block (omega (arith, els_long s)) (fits s) l.loop-at.invariant.2
+          ∙ ap (λ (j : ℕ). added a.g.u a.g.n a.from (take j (els s)) a.block.now) e,
     )
 
 pub returns : goal.returns
 returns c =
     let l = c in
-    let s = l in
+    let s = entry l.before.before.before in
     let a = s.args in
     l.loop-at.invariant.2
     ∙ ap (λ (xs : List ℕ). added a.g.u a.g.n a.from xs a.block.now)
-    (take_all l.loop-at.at.done (els s.before.before.before.before.before.before.before.before) (omega (arith, els_long s.before.before.before.before.before.before.before.before)))
+    (take_all l.loop-at.at.done (els s) (omega (arith, els_long s)))
 
 pub slice_bounds-next_places-end : goal.slice_bounds-next_places-end
 slice_bounds-next_places-end c = refl

@@ -27,7 +27,8 @@ abbrev At-loop-at : Type 0
 At-loop-at = Lts.At-loop Tie.the-claims Reads.Pre Reads.Post goal.the-invariant-loop-at goal.the-decreases-loop-at
 
 abbrev After-next_sums-next : Type 0
-After-next_sums-next = Lts.After-next_sums Tie.the-claims Reads.Pre Reads.Post goal.the-invariant-loop-at goal.the-decreases-loop-at
+After-next_sums-next = Lts.After-next_sums Tie.the-claims Reads.Pre Reads.Post goal.the-invariant-loop-at
+    goal.the-decreases-loop-at
 
 -- all elements
 abbrev els : Start → List ℕ
@@ -68,7 +69,7 @@ next_sums-next-requires c =
 part_is : (c : After-next_sums-next)
     → let l = c in
     take (c.next_sums-next.result.done - l.loop-at.at.done - 0) c.next_sums-next.new.part
-    ≡ take 256 (drop l.loop-at.at.done (els l.before.before.before.before.before.before.before))
+    ≡ take 256 (drop l.loop-at.at.done (els (entry l.before.before.before.before)))
 part_is c =
     let l = c in
     let a = l.args in
@@ -80,11 +81,11 @@ add_all-requires c =
     let k = c in
     let l = k in
     let i = l.loop-at.at.done in
-    let s = l in (
+    let s = entry l.before.before.before.before.before.before.before.before.before.before.before in (
       fitting_kept s.args.g s.args.block.now s.requires.0 l.loop-at.block l.loop-at.invariant.0,
       rw length-take (omega (arith, s.requires.1, k.next_sums-next.ensures.done)),
-      stretch_rises s.args.g.u i 256 (els s.before.before.before.before.before.before.before.before.before.before.before.before.before.before) (take (k.next_sums-next.result.done - i - 0) k.next_sums-next.new.part)
-          (els_rise s.before.before.before.before.before.before.before.before.before.before.before.before.before.before) (part_is k.before.before.before.before.before.before.before),
+      stretch_rises s.args.g.u i 256 (els s) (take (k.next_sums-next.result.done - i - 0) k.next_sums-next.new.part)
+          (els_rise s) (part_is k.before.before.before.before.before.before.before),
     )
 
 pub loop-at-preserved : goal.loop-at-preserved
@@ -95,15 +96,16 @@ loop-at-preserved c =
     let l = k in
     let t = l.loop-at.at in
     let h = l.loop-at.invariant.1 in
-    let s = l in
+    let s = entry l.before.before.before.before.before.before.before.before.before.before.before.before.before.before in
     let a = s.args in
     let cs = a.counts.now in (
       omega arith,
       tally_next a.before cs t h n.result n.new.part n.ensures,
       y.add_all.ensures
-          ∙ stretch_added a.g.u t.done 256 (els s.before.before.before.before.before.before.before.before.before.before.before.before.before.before.before.before.before) (take (n.result.done - t.done - 0) n.new.part)
-          (els_rise s.before.before.before.before.before.before.before.before.before.before.before.before.before.before.before.before.before) (part_is k.before.before.before.before.before.before.before.before.before.before) a.g.n a.from a.block.now l.loop-at.block
-          (omega (arith, h.within, length_sums a.before cs)) (fits s.before.before.before.before.before.before.before.before.before.before.before.before.before.before.before.before.before) l.loop-at.invariant.2
+          ∙ stretch_added a.g.u t.done 256 (els s) (take (n.result.done - t.done - 0) n.new.part)
+          (els_rise s) (part_is k.before.before.before.before.before.before.before.before.before.before) a.g.n a.from
+          a.block.now l.loop-at.block
+          (omega (arith, h.within, length_sums a.before cs)) (fits s) l.loop-at.invariant.2
           ∙ ap (λ (xs : List ℕ). added a.g.u a.g.n a.from xs a.block.now)
           (tally_behind a.before cs t h n.result n.new.part n.ensures),
     )

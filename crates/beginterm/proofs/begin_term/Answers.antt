@@ -39,12 +39,12 @@ refusal s = announce_refusal s.args.version s.args.n s.args.pages s.args.positio
 pub returns-then-not-passed : goal.returns-then-not-passed
 returns-then-not-passed c =
     let p = c in
-    let s = p in
+    let s = p.before.before.before.before.before.before in
     let a = s.args in
     let e = p.announce-refusal.ensures in
-    let no : accepted (refusal s.before.before.before.before.before.before) ≡ false =
+    let no : accepted (refusal s) ≡ false =
     ap accepted (sym e) ∙ sym p.passed.ensures ∙ c.if-not-passed.true in
-    streamed_is c.ended.result a.room.now (refusal s.before.before.before.before.before.before) 0 over a.room.now
+    streamed_is c.ended.result a.room.now (refusal s) 0 over a.room.now
     (c.ended.ensures.0 ∙ e, c.ended.ensures.1, c.ended.ensures.2) refl
     ∙ sym (begin_refused a.version a.n a.pages a.positions a.u a.room.now no)
 
@@ -98,8 +98,8 @@ pub returns-then-room-g : goal.returns-then-room-g
 returns-then-room-g c =
     let l = c in
     let a = l.args in
-    let t = told l.before.before.before.before.before.before.before.before in
-    let r = bounds l.before.before.before.before.before.before.before.before in
+    let t = told (tested l.before.before.before.before) in
+    let r = bounds (tested l.before.before.before.before) in
     streamed_is c.ended-then-room-g.result a.room.now Room 0 over a.room.now c.ended-then-room-g.ensures refl
     ∙ sym (begin_short a.version a.n a.pages a.positions a.u a.room.now t
     (omega (
@@ -116,7 +116,7 @@ house : (c : Else-room-g)
 house c =
     let l = c in
     let a = l.args in
-    housed a.version a.n a.pages a.positions a.u (told l.before.before.before.before.before.before) l.layout-g.result
+    housed a.version a.n a.pages a.positions a.u (told (tested l.before.before)) l.layout-g.result
     (layout_is l.before.before) a.room.now c.if-room-g.false
 
 pub put_frames-requires : goal.put_frames-requires
@@ -129,17 +129,19 @@ returns c =
     let f = c in
     let l = f in
     let a = l.args in
-    let t = told l.before.before.before.before.before.before.before.before.before.before.before.before in
-    let r = bounds l.before.before.before.before.before.before.before.before.before.before.before.before in
+    let t = told (tested l.before.before.before.before.before.before.before.before) in
+    let r = bounds (tested l.before.before.before.before.before.before.before.before) in
     let e = announced_told a.version a.n a.pages a.positions a.u r l.layout-g.result
     (layout_is l.before.before.before.before.before.before.before.before) in
     ap₂ (goes Accepted) c.opened.ensures
-    (f.put_frames.ensures a.version (house f.before.before.before.before.before.before) ∙ ap (λ (b : List ℕ). laid b a.room.now) e)
+    (f.put_frames.ensures a.version (house f.before.before.before.before.before.before) ∙ ap
+    (λ (b : List ℕ). laid b a.room.now) e)
     ∙ sym (begin_opened a.version a.n a.pages a.positions a.u a.room.now t
     (omega (
       arith,
       f.if-room-g.false,
-      size_is a.version a.n a.pages a.positions a.u r l.layout-g.result (layout_is l.before.before.before.before.before.before.before.before),
+      size_is a.version a.n a.pages a.positions a.u r l.layout-g.result
+          (layout_is l.before.before.before.before.before.before.before.before),
     )))
 
 pub pages_shape-first-requires : goal.pages_shape-first-requires

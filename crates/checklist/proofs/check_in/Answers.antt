@@ -98,11 +98,11 @@ headed_at c =
 
 -- ---- U and n as they are read
 
-u_at : (c : After-read_u32-u) → c.read_u32-u.result ≡ list_u (block c.before.before.before.before.before)
+u_at : (c : After-read_u32-u) → c.read_u32-u.result ≡ list_u (block (by-u c))
 unfolding list_u
 u_at c = c.read_u32-u.ensures.0
 
-n_at : (c : After-read_u32-n) → c.read_u32-n.result ≡ list_n (block c.before.before.before.before.before.before.before)
+n_at : (c : After-read_u32-n) → c.read_u32-n.result ≡ list_n (block (by_n c))
 unfolding list_n
 n_at c = c.read_u32-n.ensures.0
 
@@ -113,7 +113,7 @@ returns-then-u-gt-LIMIT c =
     sym (refuse_limit a.last a.version a.block.now (headed_at u.before.before.before)
     (omega (arith, u_at u.before.before, c.if-u-gt-LIMIT.true)))
 
-within_at : (c : After-read_u32-n) → list_u (block c.before.before.before.before.before.before.before) ≤ limit
+within_at : (c : After-read_u32-n) → list_u (block (by_n c)) ≤ limit
 within_at c = omega (arith, u_at c.before.before, c.if-u-gt-LIMIT.false)
 
 pub returns-then-u-n : goal.returns-then-u-n
@@ -124,7 +124,7 @@ returns-then-u-n c =
     sym (refuse_many a.last a.version a.block.now (headed_at u.before.before.before.before.before) (within_at n.before.before)
     (omega (arith, u_at u.before.before.before.before, n_at n.before.before, c.if-u-n.true)))
 
-below_at : (c : After-pages_shape-g) → list_n (block c.before.before.before.before.before.before.before.before.before) ≤ list_u (block c.before.before.before.before.before.before.before.before.before)
+below_at : (c : After-pages_shape-g) → list_n (block (by_shape c)) ≤ list_u (block (by_shape c))
 below_at c =
     let n = c in
     omega (arith, u_at n.before.before.before.before, n_at n.before.before, c.if-u-n.false)
@@ -132,8 +132,8 @@ below_at c =
 -- ---- the form
 
 shape_at : (c : After-pages_shape-g)
-    → let s = block c.before.before.before.before.before.before.before.before.before in
-    c.pages_shape-g.result ≡ form_shape (form c.before.before.before.before.before.before.before.before.before) (list_u s) (list_n s)
+    → let s = block (by_shape c) in
+    c.pages_shape-g.result ≡ form_shape (form (by_shape c)) (list_u s) (list_n s)
 shape_at c =
     let n = c in
     let v = c.args.version in
@@ -141,58 +141,64 @@ shape_at c =
     ∙ ap₂ (λ (U m : ℕ). form_shape (form_of v U m) U m) (u_at n.before.before.before.before) (n_at n.before.before)
 
 form_tested : (c : After-pages_shape-g)
-    → let b = c in
-    beq (eqb (get_or (block b.before.before.before.before.before.before.before.before.before) 4 0) map_version) (eqb c.pages_shape-g.result.w map_width)
-    ≡ eqb (get_or (block b.before.before.before.before.before.before.before.before.before) 4 0) (form_version (form b.before.before.before.before.before.before.before.before.before))
+    → let b = by_shape c in
+    beq (eqb (get_or (block b) 4 0) map_version) (eqb c.pages_shape-g.result.w map_width)
+    ≡ eqb (get_or (block b) 4 0) (form_version (form b))
 form_tested c =
-    let b = c in
-    let s = block b.before.before.before.before.before.before.before.before.before in
-    let n = c in
-    let wide = ap (λ (g : Shape). eqb g.w map_width) (shape_at c) ∙ width_tells (form b.before.before.before.before.before.before.before.before.before) (list_u s) (list_n s) in
+    let b = by_shape c in
+    let s = block b in
+    let n = c.before.before.before.before.before in
+    let wide = ap (λ (g : Shape). eqb g.w map_width) (shape_at c) ∙ width_tells (form b) (list_u s) (list_n s) in
     ap (beq (eqb (get_or s 4 0) map_version)) wide
-    ∙ form_test (form b.before.before.before.before.before.before.before.before.before) b.args.last (get_or s 4 0) b.requires (headed_at n.before.before.before.before.before).known
+    ∙ form_test (form b) b.args.last (get_or s 4 0) b.requires (headed_at n).known
 
 pub returns-then-block-g : goal.returns-then-block-g
 returns-then-block-g c =
     let g = c in
     let n = g in
-    let b = g in
-    let v = get_or (block b.before.before.before.before.before.before.before.before.before.before.before.before.before) 4 0 in
-    let t : not (eqb v (form_version (form b.before.before.before.before.before.before.before.before.before.before.before.before.before))) ≡ true = rw (form_tested g.before.before.before.before) at c.if-block-g.true in
-    sym (refuse_form b.args.last b.args.version (block b.before.before.before.before.before.before.before.before.before.before.before.before.before) (headed_at n.before.before.before.before.before.before.before.before.before) (within_at n.before.before.before.before.before.before)
-    (below_at g.before.before.before.before) (form b.before.before.before.before.before.before.before.before.before.before.before.before.before) refl (eqb-false v (form_version (form b.before.before.before.before.before.before.before.before.before.before.before.before.before)) (not-true (eqb v (form_version (form b.before.before.before.before.before.before.before.before.before.before.before.before.before))) t)))
+    let b = by_shape g.before.before.before.before in
+    let v = get_or (block b) 4 0 in
+    let t : not (eqb v (form_version (form b))) ≡ true = rw (form_tested g.before.before.before.before) at c.if-block-g.true in
+    sym (refuse_form b.args.last b.args.version (block b)
+    (headed_at n.before.before.before.before.before.before.before.before.before)
+    (within_at n.before.before.before.before.before.before)
+    (below_at g.before.before.before.before) (form b) refl
+    (eqb-false v (form_version (form b)) (not-true (eqb v (form_version (form b))) t)))
 
 version_at : (c : Else-block-g)
-    → let b = c in
-    get_or (block b.before.before.before.before.before.before.before.before.before.before.before.before) 4 0 ≡ form_version (form b.before.before.before.before.before.before.before.before.before.before.before.before)
+    → let b = by_shape c.before.before.before in
+    get_or (block b) 4 0 ≡ form_version (form b)
 version_at c =
     let g = c in
-    let b = g in
-    let v = get_or (block b.before.before.before.before.before.before.before.before.before.before.before.before) 4 0 in
-    let t : not (eqb v (form_version (form b.before.before.before.before.before.before.before.before.before.before.before.before))) ≡ false = rw (form_tested g.before.before.before) at c.if-block-g.false in
-    equal_passed v (form_version (form b.before.before.before.before.before.before.before.before.before.before.before.before)) t
+    let b = by_shape g.before.before.before in
+    let v = get_or (block b) 4 0 in
+    let t : not (eqb v (form_version (form b))) ≡ false = rw (form_tested g.before.before.before) at c.if-block-g.false in
+    equal_passed v (form_version (form b)) t
 
 -- ---- the length
 
 end_at : (c : After-pages_shape-g)
-    → let s = block c.before.before.before.before.before.before.before.before.before in
-    c.pages_shape-g.result.end ≡ form_size (form c.before.before.before.before.before.before.before.before.before) (list_u s) (list_n s)
+    → let s = block (by_shape c) in
+    c.pages_shape-g.result.end ≡ form_size (form (by_shape c)) (list_u s) (list_n s)
 end_at c =
-    let s = block c.before.before.before.before.before.before.before.before.before in
-    ap (λ (g : Shape). g.end) (shape_at c) ∙ form_shape_end (form c.before.before.before.before.before.before.before.before.before) (list_u s) (list_n s)
+    let s = block (by_shape c) in
+    ap (λ (g : Shape). g.end) (shape_at c) ∙ form_shape_end (form (by_shape c)) (list_u s) (list_n s)
 
 pub returns-then-block-g-2 : goal.returns-then-block-g-2
 returns-then-block-g-2 c =
     let e = c in
     let g = e in
     let n = g in
-    let b = g in
-    sym (refuse_size b.args.last b.args.version (block b.before.before.before.before.before.before.before.before.before.before.before.before.before.before.before) (headed_at n.before.before.before.before.before.before.before.before.before.before.before) (within_at n.before.before.before.before.before.before.before.before)
-    (below_at g.before.before.before.before.before.before) (form b.before.before.before.before.before.before.before.before.before.before.before.before.before.before.before) refl (version_at e.before.before.before) (λ q. c.if-block-g-2.true (q ∙ sym (end_at g.before.before.before.before.before.before))))
+    let b = by_shape g.before.before.before.before.before.before in
+    sym (refuse_size b.args.last b.args.version (block b)
+    (headed_at n.before.before.before.before.before.before.before.before.before.before.before)
+    (within_at n.before.before.before.before.before.before.before.before)
+    (below_at (by_form g.before.before.before)) (form b) refl (version_at e.before.before.before)
+    (λ q. c.if-block-g-2.true (q ∙ sym (end_at (by_form g.before.before.before)))))
 
 framed_at : (c : Else-block-g-2)
-    → let b = c in
-    FramedAs (form b.before.before.before.before.before.before.before.before.before.before.before.before.before.before) (block b.before.before.before.before.before.before.before.before.before.before.before.before.before.before)
+    → let b = by_shape c.before.before.before.before.before in
+    FramedAs (form b) (block b)
 framed_at c =
     let e = c in
     let g = e in
@@ -203,56 +209,58 @@ framed_at c =
       length_stated = h.states;
       version_is = version_at e.before.before;
       within = within_at n.before.before.before.before.before.before.before;
-      below = below_at g.before.before.before.before.before;
-      length_is = c.if-block-g-2.false ∙ end_at g.before.before.before.before.before;
+      below = below_at (by_form g.before.before);
+      length_is = c.if-block-g-2.false ∙ end_at (by_form g.before.before);
     }
 
 -- ---- behind the frame
 
 framing_at : (c : Else-block-g-2)
     → let g = c in
-    Framing g.pages_shape-g.result (block g.before.before.before.before.before.before.before.before.before.before.before.before.before.before)
+    Framing g.pages_shape-g.result (block (by_shape g.before.before.before.before.before))
 framing_at c =
     let g = c in
     let u = g in
     record {
-      form = form g.before.before.before.before.before.before.before.before.before.before.before.before.before.before;
+      form = form (by_shape g.before.before.before.before.before);
       bytes = λ i. omega (arith, u.shared_slice_known-1.given i);
       framed = framed_at c;
-      shape_is = shape_at g.before.before.before.before.before;
+      shape_is = shape_at (by_form g.before.before);
     }
 
 known_at : (c : Else-block-g-2)
-    → let b = c in
-    up_to b.args.last (get_or (block b.before.before.before.before.before.before.before.before.before.before.before.before.before.before) 4 0) ≡ true
+    → let b = by_shape c.before.before.before.before.before in
+    up_to b.args.last (get_or (block b) 4 0) ≡ true
 known_at c =
-    let g = c in
-    (headed_at g.before.before.before.before.before.before.before.before.before.before).known
+    let g = c.before.before.before.before.before.before.before.before.before.before in
+    (headed_at g).known
 
 -- what the body tells, in the form that is asked for
 told_at : (c : After-body_ok)
-    → let b = c in
-    c.body_ok.result ≡ is_block (form b.before.before.before.before.before.before.before.before.before.before.before.before.before.before.before) (block b.before.before.before.before.before.before.before.before.before.before.before.before.before.before.before) (list_u (block b.before.before.before.before.before.before.before.before.before.before.before.before.before.before.before)) (decode (block b.before.before.before.before.before.before.before.before.before.before.before.before.before.before.before))
+    → let b = by_shape c.before.before.before.before.before.before in
+    c.body_ok.result ≡ is_block (form b) (block b) (list_u (block b)) (decode (block b))
 told_at c =
-    let b = c in
-    let s = block b.before.before.before.before.before.before.before.before.before.before.before.before.before.before.before in
+    let b = by_shape c.before.before.before.before.before.before in
+    let s = block b in
     c.body_ok.ensures
-    ∙ ap (λ (f : Form). is_block f s (list_u s) (decode s)) (framed_form (form b.before.before.before.before.before.before.before.before.before.before.before.before.before.before.before) s (framed_at c.before))
+    ∙ ap (λ (f : Form). is_block f s (list_u s) (decode s)) (framed_form (form b) s (framed_at c.before))
 
 pub returns-then-body_ok : goal.returns-then-body_ok
 returns-then-body_ok c =
     let r = c in
     let e = r in
-    let b = e in
-    sym (framed_accepted b.args.last b.args.version (block b.before.before.before.before.before.before.before.before.before.before.before.before.before.before.before.before.before) (form b.before.before.before.before.before.before.before.before.before.before.before.before.before.before.before.before.before) refl (known_at e.before.before.before) (framed_at e.before.before.before)
+    let b = by_shape e.before.before.before.before.before.before.before.before in
+    sym (framed_accepted b.args.last b.args.version (block b) (form b) refl (known_at e.before.before.before)
+    (framed_at e.before.before.before)
     (sym (told_at r.before.before) ∙ c.if-body_ok.true))
 
 pub returns : goal.returns
 returns c =
     let r = c in
     let e = r in
-    let b = e in
-    sym (framed_refused b.args.last b.args.version (block b.before.before.before.before.before.before.before.before.before.before.before.before.before.before.before.before.before) (form b.before.before.before.before.before.before.before.before.before.before.before.before.before.before.before.before.before) refl (known_at e.before.before.before) (framed_at e.before.before.before)
+    let b = by_shape e.before.before.before.before.before.before.before.before in
+    sym (framed_refused b.args.last b.args.version (block b) (form b) refl (known_at e.before.before.before)
+    (framed_at e.before.before.before)
     (sym (told_at r.before.before) ∙ c.if-body_ok.false))
 
 pub read_u32-u-requires : goal.read_u32-u-requires

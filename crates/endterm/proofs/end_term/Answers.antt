@@ -58,8 +58,11 @@ returns-then-not-is_complete c =
     let l = d in
     let a = l.args in
     streamed_is c.ended-then-not-is_complete.result k.clear.new.room Lists 0 over (laid (replicate (size_of a.s) 0) a.room.now)
-    c.ended-then-not-is_complete.ensures (k.clear.ensures ∙ ap (λ n. laid (replicate n 0) a.room.now) (long l.before.before.before.before.before.before.before.before.before))
-    ∙ sym (end_spoilt a.s a.room.now (goes_on l.before.before.before.before.before.before.before.before.before.before) (omega (arith, long l.before.before.before.before.before.before.before.before.before, d.if-room-size.false))
+    c.ended-then-not-is_complete.ensures
+    (k.clear.ensures ∙ ap (λ n. laid (replicate n 0) a.room.now)
+    (long l.before.before.before.before.before.before.before.before.before))
+    ∙ sym (end_spoilt a.s a.room.now (goes_on l.before.before.before.before.before.before.before.before.before.before)
+    (omega (arith, long l.before.before.before.before.before.before.before.before.before, d.if-room-size.false))
     (sym d.is_complete.ensures ∙ k.if-not-is_complete.true))
 
 -- the layout is that of the session, and the room holds its block
@@ -92,7 +95,8 @@ returns c =
     (e.0, e.1 ∙ long l.before.before.before.before.before.before.before.before.before, e.2)
     (k.point_lists.ensures a.s.version (house d.before.before.before.before.before.before.before.before)
     ∙ pointed_told a.s a.room.now p.announced l.layout_of-g.result l.layout_of-g.ensures)
-    ∙ sym (end_whole a.s a.room.now (goes_on l.before.before.before.before.before.before.before.before.before.before) (omega (arith, long l.before.before.before.before.before.before.before.before.before, d.if-room-size.false))
+    ∙ sym (end_whole a.s a.room.now (goes_on l.before.before.before.before.before.before.before.before.before.before)
+    (omega (arith, long l.before.before.before.before.before.before.before.before.before, d.if-room-size.false))
     (sym d.is_complete.ensures ∙ k.if-not-is_complete.false))
 
 pub layout_of-g-requires : goal.layout_of-g-requires

@@ -33,10 +33,10 @@ abbrev from-pages : After-slice_known-2-1 → Start
 from-pages c = c.before.before.before.before.before.before
 
 abbrev from-counts : After-slice_known-3-1 → Start
-from-counts c = c.before.before.before.before.before.before.before.before.before.before.before
+from-counts c = from-pages c.before.before.before.before.before
 
 abbrev from-positions : After-slice_known-4-1 → Start
-from-positions c = c.before.before.before.before.before.before.before.before.before.before.before.before.before.before.before.before
+from-positions c = from-counts c.before.before.before.before.before
 
 -- the room behind each
 abbrev paged : After-slice_known-2-1 → List ℕ
@@ -101,7 +101,8 @@ returns c v h =
     let Q : List ℕ → List ℕ = pointed g.positions.u g.positions.n in
     part_from g.third Q (counted b.before.before.before.before.before.before) r.new.block r.ensures
     ∙ ap (from g.third Q)
-    (part_from g.second C (paged d.before.before.before.before.before.before.before.before.before.before.before) q.new.block q.ensures
+    (part_from g.second C (paged d.before.before.before.before.before.before.before.before.before.before.before)
+    q.new.block q.ensures
     ∙ ap (from g.second C)
     (part_from 5 P s.args.room.now p.new.block (p.ensures f (house_shapes h).0)))
 

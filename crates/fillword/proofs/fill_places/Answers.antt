@@ -21,7 +21,8 @@ abbrev Start : Type 0
 Start = Lts.Start Tie.the-claims Reads.Pre Reads.Post goal.the-invariant-loop-at goal.the-decreases-loop-at
 
 abbrev After-next_places-next : Type 0
-After-next_places-next = Lts.After-next_places Tie.the-claims Reads.Pre Reads.Post goal.the-invariant-loop-at goal.the-decreases-loop-at
+After-next_places-next = Lts.After-next_places Tie.the-claims Reads.Pre Reads.Post goal.the-invariant-loop-at
+    goal.the-decreases-loop-at
 
 -- the start, seen from the loop, and all elements
 abbrev entry : At-loop-at → Start
@@ -36,7 +37,7 @@ els_long s = places_long s.args.g s.args.counts.now s.args.positions.now s.args.
 -- those laid before a stretch, over the room at entry
 so_far : (l : At-loop-at)
     → let a = l.args in
-    Partly a.g (take l.loop-at.at.done (els l.before.before.before.before.before.before.before.before.before)) l.loop-at.f a.room.now l.loop-at.room
+    Partly a.g (take l.loop-at.at.done (els (entry l))) l.loop-at.f a.room.now l.loop-at.room
 so_far l = l.loop-at.invariant.2 l.args.room.now l.begin-f.ensures
 
 pub begin-f-requires : goal.begin-f-requires
@@ -65,7 +66,7 @@ loop-of c = c.before.before.before.before
 part_is : (c : After-next_places-next)
     → let l = c in
     let k = c.next_places-next.result.done - l.loop-at.at.done in
-    take (k - 0) c.next_places-next.new.part ≡ take k (drop l.loop-at.at.done (els l.before.before.before.before.before.before.before.before.before.before.before.before.before))
+    take (k - 0) c.next_places-next.new.part ≡ take k (drop l.loop-at.at.done (els (entry l.before.before.before.before)))
 part_is c =
     let l = c in
     let k : ℕ = c.next_places-next.result.done - l.loop-at.at.done in
@@ -76,13 +77,14 @@ pub lay-f-requires : goal.lay-f-requires
 lay-f-requires c =
     let n = c in
     let l = n in
-    let s = l in
+    let s = entry l.before.before.before.before.before.before.before.before.before.before in
     let i = l.loop-at.at.done in
     record {
-      xs = take i (els s.before.before.before.before.before.before.before.before.before.before.before.before.before.before.before.before.before.before.before);
+      xs = take i (els s);
       before = s.args.room.now;
-      partly = so_far l.before.before.before.before.before.before.before.before.before.before;
-      follows = rw (part_is n.before.before.before.before.before.before) (stretch_follows s.args.g (els s.before.before.before.before.before.before.before.before.before.before.before.before.before.before.before.before.before.before.before) (els_long s.before.before.before.before.before.before.before.before.before.before.before.before.before.before.before.before.before.before.before) s.requires.rises i
+      partly = so_far (loop-of l.before.before.before.before.before.before);
+      follows = rw (part_is n.before.before.before.before.before.before)
+          (stretch_follows s.args.g (els s) (els_long s) s.requires.rises i
           (n.next_places-next.result.done - i));
     }
 
@@ -91,14 +93,15 @@ loop-at-preserved c =
     let y = c in
     let n = y in
     let l = n in
-    let s = l in
+    let s = entry l.before.before.before.before.before.before.before.before.before.before.before.before.before in
     let i = l.loop-at.at.done in
     let r = n.next_places-next.result.done in (
       omega arith,
       n.next_places-next.ensures.spot 0 s.args.g.u l.loop-at.invariant.1,
       λ before q.
-          next_laid s.args.g (els s.before.before.before.before.before.before.before.before.before.before.before.before.before.before.before.before.before.before.before.before.before.before) (els_long s.before.before.before.before.before.before.before.before.before.before.before.before.before.before.before.before.before.before.before.before.before.before) s.requires.rises i (r - i) r
-          (omega (arith, n.next_places-next.ensures.done)) (take (r - i - 0) n.next_places-next.new.part) (part_is n.before.before.before.before.before.before.before.before.before)
+          next_laid s.args.g (els s) (els_long s) s.requires.rises i (r - i) r
+          (omega (arith, n.next_places-next.ensures.done)) (take (r - i - 0) n.next_places-next.new.part)
+          (part_is n.before.before.before.before.before.before.before.before.before)
           l.loop-at.f y.lay-f.result l.loop-at.room y.lay-f.new.room before y.lay-f.ensures
           (l.loop-at.invariant.2 before q),
     )
@@ -106,23 +109,23 @@ loop-at-preserved c =
 -- where all are laid
 all_laid : (l : At-loop-at) → length l.args.positions.now ≤ l.loop-at.at.done
     → let a = l.args in
-    Partly a.g (els l.before.before.before.before.before.before.before.before.before) l.loop-at.f a.room.now l.loop-at.room
+    Partly a.g (els (entry l)) l.loop-at.f a.room.now l.loop-at.room
 all_laid l h =
-    let s = l in
-    rw (take_all l.loop-at.at.done (els s.before.before.before.before.before.before.before.before.before) (omega (arith, els_long s.before.before.before.before.before.before.before.before.before, s.requires.count))) at (so_far l)
+    let s = entry l in
+    rw (take_all l.loop-at.at.done (els s) (omega (arith, els_long s, s.requires.count))) at (so_far l)
 
 pub finish-requires : goal.finish-requires
 finish-requires c =
-    let l = c in
-    let s = l in
-    record { xs = els s.before.before.before.before.before.before.before.before.before.before.before.before.before; before = s.args.room.now; partly = all_laid l.before.before.before.before (omega arith); all = els_long s.before.before.before.before.before.before.before.before.before.before.before.before.before }
+    let l = c.before.before.before.before in
+    let s = entry l in
+    record { xs = els s; before = s.args.room.now; partly = all_laid l (omega arith); all = els_long s }
 
 pub returns : goal.returns
 returns c =
     let f = c in
-    let l = f in
-    let s = l in
-    f.finish.ensures (els s.before.before.before.before.before.before.before.before.before.before.before.before.before.before.before.before) s.args.room.now (all_laid l.before.before.before.before.before.before.before (omega arith)) (els_long s.before.before.before.before.before.before.before.before.before.before.before.before.before.before.before.before)
+    let l = f.before.before.before.before.before.before.before in
+    let s = entry l in
+    f.finish.ensures (els s) s.args.room.now (all_laid l (omega arith)) (els_long s)
 
 pub slice_bounds-next_places-end : goal.slice_bounds-next_places-end
 slice_bounds-next_places-end c = refl

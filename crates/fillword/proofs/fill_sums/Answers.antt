@@ -20,7 +20,8 @@ abbrev Start : Type 0
 Start = Lts.Start Tie.the-claims Reads.Pre Reads.Post goal.the-invariant-loop-at goal.the-decreases-loop-at
 
 abbrev After-next_sums-next : Type 0
-After-next_sums-next = Lts.After-next_sums Tie.the-claims Reads.Pre Reads.Post goal.the-invariant-loop-at goal.the-decreases-loop-at
+After-next_sums-next = Lts.After-next_sums Tie.the-claims Reads.Pre Reads.Post goal.the-invariant-loop-at
+    goal.the-decreases-loop-at
 
 -- the start, seen from the loop
 abbrev entry : At-loop-at → Start
@@ -74,8 +75,9 @@ lay-f-requires c =
     record {
       xs = take l.loop-at.at.done (sums 0 cs);
       before = a.room.now;
-      partly = so_far l.before.before.before.before.before.before.before.before.before.before;
-      follows = rw (part_is k.before.before.before.before.before.before) (stretch_follows a.g (sums 0 cs) (sums_long a.g cs a.room.now s.requires)
+      partly = so_far (loop-of l.before.before.before.before.before.before);
+      follows = rw (part_is k.before.before.before.before.before.before)
+          (stretch_follows a.g (sums 0 cs) (sums_long a.g cs a.room.now s.requires)
           (sums_rise a.g cs a.room.now s.requires) l.loop-at.at.done 256);
     }
 
@@ -94,7 +96,8 @@ loop-at-preserved c =
       λ before p.
           rw (tally_behind 0 cs t l.loop-at.invariant.1 n.result n.new.part n.ensures) at (stretch_lays a.g
           (sums 0 cs) (sums_long a.g cs a.room.now s.requires) (sums_rise a.g cs a.room.now s.requires)
-          t.done 256 (take (n.result.done - t.done - 0) n.new.part) (part_is k.before.before.before.before.before.before.before.before.before) l.loop-at.f
+          t.done 256 (take (n.result.done - t.done - 0) n.new.part)
+          (part_is k.before.before.before.before.before.before.before.before.before) l.loop-at.f
           y.lay-f.result l.loop-at.room y.lay-f.new.room before y.lay-f.ensures (l.loop-at.invariant.2 before p)),
     )
 

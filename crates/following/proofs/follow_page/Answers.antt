@@ -66,28 +66,28 @@ abbrev start : Else-positions-eq0 → Start
 start e = e.before.before.before.before.before.before.before.before.before.before.before
 
 pub returns-then-pages-s : goal.returns-then-pages-s
-returns-then-pages-s c = refused c.before.before.before.before.before.before.before.before.before.before.before.before.before.before.before (λ p. omega (arith, p.seam, c.if-pages-s.true))
+returns-then-pages-s c = refused (start c.before.before.before.before) (λ p. omega (arith, p.seam, c.if-pages-s.true))
 
 pub returns-then-s-pages : goal.returns-then-s-pages
 returns-then-s-pages c =
-    refused c.before.before.before.before.before.before.before.before.before.before.before.before.before.before.before.before.before.before (λ p. omega (arith, p.below, c.if-s-pages.true))
+    refused (start c.before.before.before.before.before.before.before) (λ p. omega (arith, p.below, c.if-s-pages.true))
 
 pub returns-then-s-2 : goal.returns-then-s-2
 returns-then-s-2 c =
-    refused c.before.before.before.before.before.before.before.before.before.before.before.before.before.before.before.before.before.before.before.before
+    refused (start c.before.before.before.before.before.before.before.before.before)
     (λ p. omega (arith, p.base, c.if-s-2.true))
 
 pub returns-then-not-rises : goal.returns-then-not-rises
 returns-then-not-rises c =
     let k = c in
-    refused k.before.before.before.before.before.before.before.before.before.before.before.before.before.before.before.before.before.before.before.before.before.before.before
+    refused (start k.before.before.before.before.before.before.before.before.before.before.before.before)
     (λ p. false≢true (sym (c.if-not-rises.true) ∙ k.rises.ensures ∙ p.rises))
 
 -- and seen from behind the last test
 abbrev far : Else-not-rises → Start
-far c = c.before.before.before.before.before.before.before.before.before.before.before.before.before.before.before.before.before.before.before.before.before.before
+far c = start c.before.before.before.before.before.before.before.before.before.before.before
 
-tests : (c : Else-not-rises) → Tests c.before.before.before.before.before.before.before.before.before.before.before.before.before.before.before.before.before.before.before.before.before.before
+tests : (c : Else-not-rises) → Tests (far c)
 tests c =
     let k = c in
     let e8 = k in

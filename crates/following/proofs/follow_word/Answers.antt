@@ -30,32 +30,32 @@ overflow_sub-pages_left c = (live_of c.before.before.before.before.before).laid_
 
 pub returns-then-pages_left-pages : goal.returns-then-pages_left-pages
 returns-then-pages_left-pages c =
-    let s = c in
-    none_follow s.args.s (word s.before.before.before.before.before.before)
-    (follows_pages s.args.s (word s.before.before.before.before.before.before) (omega (arith, (live_of s.before.before.before.before.before.before).laid_le, c.if-pages_left-pages.true)))
+    let s = c.before.before.before.before.before.before in
+    none_follow s.args.s (word s)
+    (follows_pages s.args.s (word s) (omega (arith, (live_of s).laid_le, c.if-pages_left-pages.true)))
 
 pub overflow_sub-positions_left : goal.overflow_sub-positions_left
 overflow_sub-positions_left c = (live_of c.before.before.before.before.before.before.before).filled_le
 
 pub returns-then-positions_left-positions : goal.returns-then-positions_left-positions
 returns-then-positions_left-positions c =
-    let s = c in
-    none_follow s.args.s (word s.before.before.before.before.before.before.before.before)
-    (follows_positions s.args.s (word s.before.before.before.before.before.before.before.before) (omega (arith, (live_of s.before.before.before.before.before.before.before.before).filled_le, c.if-positions_left-positions.true)))
+    let s = c.before.before.before.before.before.before.before.before in
+    none_follow s.args.s (word s)
+    (follows_positions s.args.s (word s) (omega (arith, (live_of s).filled_le, c.if-positions_left-positions.true)))
 
 pub returns-then-not-word : goal.returns-then-not-word
 returns-then-not-word c =
     let k = c in
-    let s = k in
-    none_follow s.args.s (word s.before.before.before.before.before.before.before.before.before.before.before.before)
-    (follows_invalid s.args.s (word s.before.before.before.before.before.before.before.before.before.before.before.before)
+    let s = k.before.before.before.before.before.before.before.before.before.before.before.before in
+    none_follow s.args.s (word s)
+    (follows_invalid s.args.s (word s)
     (sym k.check_word-word.ensures.says ∙ not-true k.check_word-word.result.ok c.if-not-word.true))
 
 -- the word by itself is valid, seen from behind that test
 valid : (c : Else-not-word)
-    → let k = c in
+    → let k = c.before.before.before.before.before.before.before.before.before.before.before in
     let s = k in
-    valid_word s.args.s.n (word s.before.before.before.before.before.before.before.before.before.before.before) ≡ true
+    valid_word s.args.s.n (word s) ≡ true
 valid c =
     let k = c in
     sym k.check_word-word.ensures.says ∙ not-false k.check_word-word.result.ok c.if-not-word.false
@@ -63,10 +63,10 @@ valid c =
 pub returns-then-not-above : goal.returns-then-not-above
 returns-then-not-above c =
     let e = c in
-    let s = e in
+    let s = e.before.before.before.before.before.before.before.before.before.before.before.before.before.before.before in
     let k = c in
-    none_follow s.args.s (word s.before.before.before.before.before.before.before.before.before.before.before.before.before.before.before)
-    (follows_seam s.args.s (word s.before.before.before.before.before.before.before.before.before.before.before.before.before.before.before) (valid e.before.before.before.before)
+    none_follow s.args.s (word s)
+    (follows_seam s.args.s (word s) (valid e.before.before.before.before)
     (sym k.above.ensures ∙ c.if-not-above.true))
 
 pub overflow_add-next : goal.overflow_add-next
@@ -83,12 +83,12 @@ returns c =
     let b = f in
     let e = b in
     let k = e in
-    let s = k in
-    let l = live_of s.before.before.before.before.before.before.before.before.before.before.before.before.before.before.before.before.before.before in
+    let s = k.before.before.before.before.before.before.before.before.before.before.before.before.before.before.before.before.before.before in
+    let l = live_of s in
     let t = k.check_word-word in
     let ok = not-false t.result.ok e.if-not-word.false in
-    follow_told s.args.s (word s.before.before.before.before.before.before.before.before.before.before.before.before.before.before.before.before.before.before) l.announced.reach t.result.next (t.ensures.ends ok)
-    (follows_last s.args.s (word s.before.before.before.before.before.before.before.before.before.before.before.before.before.before.before.before.before.before) (valid e.before.before.before.before.before.before.before)
+    follow_told s.args.s (word s) l.announced.reach t.result.next (t.ensures.ends ok)
+    (follows_last s.args.s (word s) (valid e.before.before.before.before.before.before.before)
     (sym b.above.ensures ∙ f.if-not-above.false)
     (omega (arith, l.laid_le, k.if-pages_left-pages.false))
     (omega (arith, l.filled_le, k.if-positions_left-positions.false)))

@@ -35,10 +35,10 @@ abbrev from_start : After-shared_slice_known-4-1 → Start
 from_start c = c.before.before.before.before.before.before.before
 
 abbrev from-pages : After-slice_known-2-1 → Start
-from-pages c = c.before.before.before.before.before.before.before.before.before.before.before
+from-pages c = from_start c.before.before.before.before
 
 abbrev from-counts : After-slice_known-3-1 → Start
-from-counts c = c.before.before.before.before.before.before.before.before.before.before.before.before.before.before.before
+from-counts c = from-pages c.before.before.before.before
 
 -- the room behind the page and its sum
 abbrev paged : After-slice_known-2-1 → List ℕ

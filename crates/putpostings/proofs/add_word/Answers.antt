@@ -58,7 +58,7 @@ abbrev from-pages : After-slice_known-2-1 → After-layout_of-g
 from-pages c = c.before.before.before.before.before.before.before
 
 abbrev from-counts : After-slice_known-3-1 → After-layout_of-g
-from-counts c = c.before.before.before.before.before.before.before.before.before.before.before.before
+from-counts c = from-pages c.before.before.before.before.before
 
 -- the room behind the pages and the counts
 abbrev paged : After-slice_known-2-1 → List ℕ
@@ -85,11 +85,11 @@ form c =
 
 pub add_pages-requires : goal.add_pages-requires
 add_pages-requires c =
-    let k = c in
-    let p = laying k.before.before.before.before.before in
+    let k = from_first c.before.before.before in
+    let p = laying k in
     let a = ask_pages p in
     record {
-      form = form k.before.before.before.before.before;
+      form = form k;
       fitting = house_pages (laying_house p) _ (part_long 5 k.args.room.now);
       few = a.0;
       rises = a.1;
@@ -97,14 +97,14 @@ add_pages-requires c =
 
 pub slice_bounds-add_sums-count : goal.slice_bounds-add_sums-count
 slice_bounds-add_sums-count c =
-    let p = laying c.before.before.before.before.before.before.before.before in
+    let p = laying (from-pages c.before) in
     omega (arith, house_places (laying_house p), p.fits)
 
 pub add_sums-requires : goal.add_sums-requires
 add_sums-requires c =
     let b = c in
-    let k = b in
-    let p = laying k.before.before.before.before.before.before.before.before.before.before in
+    let k = from-pages b.before.before.before in
+    let p = laying k in
     let a = ask_counts p in (
       house_counts (laying_house p) _ (omega (arith, part_long k.layout_of-g.result.second (paged b.before.before.before))),
       a.0,
@@ -114,16 +114,16 @@ add_sums-requires c =
 
 pub slice_bounds-add_places-count : goal.slice_bounds-add_places-count
 slice_bounds-add_places-count c =
-    let p = laying c.before.before.before.before.before.before.before.before.before.before.before.before.before in
+    let p = laying (from-counts c.before) in
     omega (arith, house_places (laying_house p), p.fits)
 
 pub add_places-requires : goal.add_places-requires
 add_places-requires c =
-    let b = c in
-    let k = b in
-    let p = laying k.before.before.before.before.before.before.before.before.before.before.before.before.before.before.before.before in
+    let b = c.before.before.before.before in
+    let k = from-counts b in
+    let p = laying k in
     let a = ask_places p in (
-      house_positions (laying_house p) _ (omega (arith, part_long k.layout_of-g.result.third (counted b.before.before.before.before))),
+      house_positions (laying_house p) _ (omega (arith, part_long k.layout_of-g.result.third (counted b))),
       a.0,
       a.1,
       a.2,
@@ -142,16 +142,20 @@ returns c =
     let ps = s.args.pages.now in
     let cs = s.args.counts.now in
     let qs = s.args.positions.now in
-    let P : List ℕ → List ℕ = form_added (form k.before.before.before.before.before.before.before.before.before.before.before.before.before.before.before.before.before.before.before) g.pages.u g.pages.n x.laid ps in
+    let P : List ℕ → List ℕ = form_added (form (from-counts k.before.before.before.before.before.before.before))
+    g.pages.u g.pages.n x.laid ps in
     let C : List ℕ → List ℕ = added g.counts.u g.counts.n x.laid (sums x.filled cs) in
     let Q : List ℕ → List ℕ = added g.positions.u g.positions.n x.filled (placed x.base cs qs) in
     part_from g.third Q (counted b.before.before.before.before.before.before.before) c.add_places.new.block c.add_places.ensures
     ∙ ap (from g.third Q)
-    (part_from g.second C (paged d.before.before.before.before.before.before.before.before.before.before.before.before) b.add_sums.new.block b.add_sums.ensures
+    (part_from g.second C
+    (paged d.before.before.before.before.before.before.before.before.before.before.before.before)
+    b.add_sums.new.block b.add_sums.ensures
     ∙ ap (from g.second C)
     (part_from 5 P s.args.room.now d.add_pages.new.block
-    (d.add_pages.ensures (form k.before.before.before.before.before.before.before.before.before.before.before.before.before.before.before.before.before.before.before) (house_shapes (laying_house (laying k.before.before.before.before.before.before.before.before.before.before.before.before.before.before.before.before.before.before.before))).0)))
-    ∙ added_told (laying k.before.before.before.before.before.before.before.before.before.before.before.before.before.before.before.before.before.before.before)
+    (d.add_pages.ensures (form (from-counts k.before.before.before.before.before.before.before))
+    (house_shapes (laying_house (laying (from-counts k.before.before.before.before.before.before.before)))).0)))
+    ∙ added_told (laying (from-counts k.before.before.before.before.before.before.before))
 
 pub layout_of-g-requires : goal.layout_of-g-requires
 layout_of-g-requires c = c.requires.goes_on

@@ -58,10 +58,10 @@ from-test c = c.before.before.before.before.before
 pub returns-then-not-is_live : goal.returns-then-not-is_live
 returns-then-not-is_live c =
     let l = c in
-    let s = l in
+    let s = from-test l.before.before.before in
     let a = s.args in
     streamed_is c.ended.result a.room.now Lists 0 over a.room.now c.ended.ensures refl
-    ∙ sym (put_dead a.s (word s.before.before.before.before.before.before.before.before) a.room.now
+    ∙ sym (put_dead a.s (word s) a.room.now
     (sym l.is_live.ensures ∙ c.if-not-is_live.true))
 
 -- the session goes on, seen from behind that test
@@ -79,7 +79,7 @@ abbrev from_places : After-shape_of-last → After-shape_of-summed
 from_places c = c.before.before.before
 
 abbrev from-layout : After-layout-g → Else-not-is_live
-from-layout c = from-pages c.before.before.before.before.before.before.before
+from-layout c = from-pages (from-counts c.before.before.before.before)
 
 -- the layout is the session's
 layout_is : (c : After-layout-g)
@@ -101,7 +101,7 @@ long : (c : After-layout-g) → c.layout-g.result.size ≡ size_of c.args.s
 unfolding size_of
 long c =
     let s = c.args.s in
-    let a = bounds c.before.before.before.before.before.before.before.before.before.before in
+    let a = bounds (from-pages c.before.before.before.before.before.before.before) in
     size_is s.version s.n s.pages s.positions s.u a c.layout-g.result (layout_is c)
 
 pub pages_shape-first-requires : goal.pages_shape-first-requires
@@ -111,28 +111,29 @@ pages_shape-first-requires c =
 
 pub shape_of-summed-requires : goal.shape_of-summed-requires
 shape_of-summed-requires c =
-    let a = bounds c.before.before.before.before.before.before in
+    let a = bounds (from-pages c.before.before.before) in
     (a.counts, omega (arith, a.positions, a.reach))
 
 pub shape_of-last-requires : goal.shape_of-last-requires
 shape_of-last-requires c =
-    let a = bounds c.before.before.before.before.before.before.before.before.before in
+    let a = bounds (from-pages c.before.before.before.before.before.before) in
     (a.positions, a.reach)
 
 pub layout-g-requires : goal.layout-g-requires
 layout-g-requires c =
     let l = c in
     let k = l in
-    let e = k in
+    let e = from-pages k.before.before.before.before.before.before.before in
     let s = e.args.s in
-    announcing s.version s.n s.pages s.positions s.u (live_parts s (goes_on e.before.before.before.before.before.before.before.before.before.before)).accepts
+    announcing s.version s.n s.pages s.positions s.u (live_parts s (goes_on e)).accepts
     k.pages_shape-first.ensures l.shape_of-summed.ensures c.shape_of-last.ensures
 
 pub returns-then-room-size : goal.returns-then-room-size
 returns-then-room-size c =
     let l = c in
-    let s = l in
-    sym (put_short s.args.s (word s.before.before.before.before.before.before.before.before.before.before.before.before.before.before.before.before.before.before) s.args.room.now (goes_on l.before.before.before.before.before.before.before.before.before.before.before.before)
+    let s = from-test l.before.before.before.before.before.before.before.before.before.before.before.before.before in
+    sym (put_short s.args.s (word s) s.args.room.now
+    (goes_on (from-pages l.before.before.before.before.before.before.before.before.before))
     (omega (arith, long l.before.before, c.if-room-size.true)))
 
 -- the layout, seen from where the postings are tested
@@ -147,28 +148,33 @@ returns-then-not-word c =
     let k = c in
     let t = k in
     let d = t in
-    let s = d in
+    let s = from-test d.before.before.before.before.before.before.before.before.before.before.before.before.before.before.before.before.before.before.before.before.before in
     let a = s.args in
     streamed_is c.ended-then-not-word.result k.clear.new.room Lists 0 over (laid (replicate (size_of a.s) 0) a.room.now)
-    c.ended-then-not-word.ensures (k.clear.ensures ∙ ap (λ n. laid (replicate n 0) a.room.now) (long d.before.before.before.before.before.before.before.before.before.before))
-    ∙ sym (put_spoilt a.s (word s.before.before.before.before.before.before.before.before.before.before.before.before.before.before.before.before.before.before.before.before.before.before.before.before.before.before) a.room.now (goes_on d.before.before.before.before.before.before.before.before.before.before.before.before.before.before.before.before.before.before.before.before)
-    (omega (arith, long d.before.before.before.before.before.before.before.before.before.before, d.if-room-size.false))
+    c.ended-then-not-word.ensures
+    (k.clear.ensures ∙ ap (λ n. laid (replicate n 0) a.room.now)
+    (long (layout d.before.before.before.before.before.before.before.before)))
+    ∙ sym (put_spoilt a.s (word s) a.room.now
+    (goes_on (from-pages d.before.before.before.before.before.before.before.before.before.before.before.before.before.before.before.before.before))
+    (omega (arith, long (layout d.before.before.before.before.before.before.before.before), d.if-room-size.false))
     (sym d.follow-word.ensures.says ∙ not-true d.follow-word.result.ok t.if-not-word.true))
 
 -- the postings may follow, seen from behind their test
-may : (c : Else-not-word) → follows c.args.s (word c.before.before.before.before.before.before.before.before.before.before.before.before.before.before.before.before.before.before.before.before) ≡ true
+may : (c : Else-not-word) → follows c.args.s
+    (word (from-test c.before.before.before.before.before.before.before.before.before.before.before.before.before.before.before)) ≡ true
 may c =
     let d = c in
     sym d.follow-word.ensures.says ∙ not-false d.follow-word.result.ok c.if-not-word.false
 
 laying : (c : Else-not-word)
     → let d = c in
-    Laying d.layout-g.result d.args.s (word d.before.before.before.before.before.before.before.before.before.before.before.before.before.before.before.before.before.before.before.before) d.args.room.now
+    Laying d.layout-g.result d.args.s
+    (word (from-test d.before.before.before.before.before.before.before.before.before.before.before.before.before.before.before)) d.args.room.now
 laying c =
     let d = c in
     record {
       layout = layout_is d.before.before.before.before;
-      goes_on = goes_on d.before.before.before.before.before.before.before.before.before.before.before.before.before.before;
+      goes_on = goes_on (from-pages d.before.before.before.before.before.before.before.before.before.before.before);
       may = may c;
       fits = d.if-room-size.false;
     }
@@ -192,18 +198,20 @@ returns c =
     let k = c in
     let e = k in
     let d = e in
-    let s = d in
+    let s = from-test d.before.before.before.before.before.before.before.before.before.before.before.before.before.before.before.before.before.before.before.before.before in
     let a = s.args in
     let l = laying e.before.before.before.before.before.before in
     let n = d.follow-word.ensures.ends (not-false d.follow-word.result.ok e.if-not-word.false) in
     streamed_is (record { refusal = Accepted; size = 0; stream = c.advance.result }) k.add_run.new.room Accepted 0
-    (advanced a.s (word s.before.before.before.before.before.before.before.before.before.before.before.before.before.before.before.before.before.before.before.before.before.before.before.before.before.before)) (added_word a.s (word s.before.before.before.before.before.before.before.before.before.before.before.before.before.before.before.before.before.before.before.before.before.before.before.before.before.before) a.room.now)
+    (advanced a.s (word s)) (added_word a.s (word s) a.room.now)
     (refl, refl, c.advance.ensures ∙ advanced_told l d.follow-word.result.next n) k.add_run.ensures
-    ∙ sym (put_laid a.s (word s.before.before.before.before.before.before.before.before.before.before.before.before.before.before.before.before.before.before.before.before.before.before.before.before.before.before) a.room.now (goes_on d.before.before.before.before.before.before.before.before.before.before.before.before.before.before.before.before.before.before.before.before)
-    (omega (arith, long d.before.before.before.before.before.before.before.before.before.before, d.if-room-size.false)) (may e.before.before.before.before.before.before))
+    ∙ sym (put_laid a.s (word s) a.room.now
+    (goes_on (from-pages d.before.before.before.before.before.before.before.before.before.before.before.before.before.before.before.before.before))
+    (omega (arith, long (layout d.before.before.before.before.before.before.before.before), d.if-room-size.false))
+    (may e.before.before.before.before.before.before))
 
 pub follow-word-requires : goal.follow-word-requires
-follow-word-requires c = goes_on c.before.before.before.before.before.before.before.before.before.before.before.before
+follow-word-requires c = goes_on (from-pages c.before.before.before.before.before.before.before.before.before)
 
 pub add_run-requires : goal.add_run-requires
 add_run-requires c = laying c.before.before

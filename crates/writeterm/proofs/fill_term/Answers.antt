@@ -41,13 +41,13 @@ abbrev from-head : After-slice_known-2-1 → Start
 from-head c = c.before.before.before.before.before.before.before.before.before.before.before
 
 abbrev from-pages : After-slice_known-3-1 → Start
-from-pages c = c.before.before.before.before.before.before.before.before.before.before.before.before.before.before.before.before
+from-pages c = from-head c.before.before.before.before.before
 
 abbrev from-counts : After-slice_known-4-1 → Start
-from-counts c = c.before.before.before.before.before.before.before.before.before.before.before.before.before.before.before.before.before.before.before.before.before
+from-counts c = from-pages c.before.before.before.before.before
 
 abbrev from_places : After-slice_known-5-1 → Start
-from_places c = c.before.before.before.before.before.before.before.before.before.before.before.before.before.before.before.before.before.before.before.before.before.before.before.before.before.before
+from_places c = from-counts c.before.before.before.before.before
 
 -- the word is writable for an index of version v, as it is for some version
 abbrev Told : Start → ℕ → Type 0
@@ -105,7 +105,7 @@ filled c =
     put_mid u (length r - u) r c.fill_places.new.room
 
 -- it holds the pieces, each behind those before it
-head_laid : (c : After-slice_known-2-1) → headed c ≡ laid (head c.before.before.before.before.before.before.before.before.before.before.before) c.args.room.now
+head_laid : (c : After-slice_known-2-1) → headed c ≡ laid (head (from-head c)) c.args.room.now
 head_laid c =
     let s = c in
     let a = s.args in
@@ -113,64 +113,64 @@ head_laid c =
     ∙ header_laid (5 + a.g.pages.end + a.g.counts.end + a.g.positions.end) 1 a.room.now
     (omega (arith, s.requires.1))
 
-pages_laid : (c : After-slice_known-3-1) (v : ℕ) → Told c.before.before.before.before.before.before.before.before.before.before.before.before.before.before.before.before v
-    → paged c ≡ laid (front c.before.before.before.before.before.before.before.before.before.before.before.before.before.before.before.before v) c.args.room.now
+pages_laid : (c : After-slice_known-3-1) (v : ℕ) → Told (from-pages c) v
+    → paged c ≡ laid (front (from-pages c) v) c.args.room.now
 pages_laid c v t =
-    let s = c in
+    let s = from-pages c in
     let g = s.args.g.pages in
-    let b = c in
+    let b = c.before.before.before.before.before in
     let f = c.fill_pages in
-    piece_laid (head s.before.before.before.before.before.before.before.before.before.before.before.before.before.before.before.before) (pages s.before.before.before.before.before.before.before.before.before.before.before.before.before.before.before.before v) s.args.room.now 5 (headed b.before.before.before.before.before) f.new.room
-    (head_long t) (head_laid b.before.before.before.before.before)
-    (f.ensures (form s.before.before.before.before.before.before.before.before.before.before.before.before.before.before.before.before v) (shape_of_lem (form s.before.before.before.before.before.before.before.before.before.before.before.before.before.before.before.before v) g.u (length s.args.pages.now) g t.pages_are))
+    piece_laid (head s) (pages s v) s.args.room.now 5 (headed b) f.new.room
+    (head_long t) (head_laid b)
+    (f.ensures (form s v) (shape_of_lem (form s v) g.u (length s.args.pages.now) g t.pages_are))
 
 behind_pages : (s : Start) (v : ℕ) → Told s v → length (front s v) ≡ 5 + s.args.g.pages.end
 behind_pages s v t = length-append (head s) (pages s v) ∙ omega (arith, head_long t, pages_long t)
 
-counts_laid : (c : After-slice_known-4-1) (v : ℕ) → Told c.before.before.before.before.before.before.before.before.before.before.before.before.before.before.before.before.before.before.before.before.before v
-    → counted c ≡ laid (middle c.before.before.before.before.before.before.before.before.before.before.before.before.before.before.before.before.before.before.before.before.before v) c.args.room.now
+counts_laid : (c : After-slice_known-4-1) (v : ℕ) → Told (from-counts c) v
+    → counted c ≡ laid (middle (from-counts c) v) c.args.room.now
 counts_laid c v t =
-    let s = c in
-    let b = c in
-    piece_laid (front s.before.before.before.before.before.before.before.before.before.before.before.before.before.before.before.before.before.before.before.before.before v) (counts s.before.before.before.before.before.before.before.before.before.before.before.before.before.before.before.before.before.before.before.before.before) s.args.room.now (5 + s.args.g.pages.end) (paged b.before.before.before.before.before)
-    c.fill_sums.new.room (behind_pages s.before.before.before.before.before.before.before.before.before.before.before.before.before.before.before.before.before.before.before.before.before v t) (pages_laid b.before.before.before.before.before v t)
+    let s = from-counts c in
+    let b = c.before.before.before.before.before in
+    piece_laid (front s v) (counts s) s.args.room.now (5 + s.args.g.pages.end) (paged b)
+    c.fill_sums.new.room (behind_pages s v t) (pages_laid b v t)
     c.fill_sums.ensures
 
 behind_counts : (s : Start) (v : ℕ) → Told s v
     → length (middle s v) ≡ 5 + s.args.g.pages.end + s.args.g.counts.end
 behind_counts s v t = length-append (front s v) (counts s) ∙ omega (arith, behind_pages s v t, counts_long t)
 
-term_laid : (c : After-slice_known-5-1) (v : ℕ) → Told c.before.before.before.before.before.before.before.before.before.before.before.before.before.before.before.before.before.before.before.before.before.before.before.before.before.before v
-    → filled c ≡ laid (whole c.before.before.before.before.before.before.before.before.before.before.before.before.before.before.before.before.before.before.before.before.before.before.before.before.before.before v) c.args.room.now
+term_laid : (c : After-slice_known-5-1) (v : ℕ) → Told (from_places c) v
+    → filled c ≡ laid (whole (from_places c) v) c.args.room.now
 term_laid c v t =
-    let s = c in
+    let s = from_places c in
     let a = s.args in
-    let b = c in
-    piece_laid (middle s.before.before.before.before.before.before.before.before.before.before.before.before.before.before.before.before.before.before.before.before.before.before.before.before.before.before v) (places s.before.before.before.before.before.before.before.before.before.before.before.before.before.before.before.before.before.before.before.before.before.before.before.before.before.before) a.room.now (5 + a.g.pages.end + a.g.counts.end) (counted b.before.before.before.before.before)
-    c.fill_places.new.room (behind_counts s.before.before.before.before.before.before.before.before.before.before.before.before.before.before.before.before.before.before.before.before.before.before.before.before.before.before v t) (counts_laid b.before.before.before.before.before v t)
+    let b = c.before.before.before.before.before in
+    piece_laid (middle s v) (places s) a.room.now (5 + a.g.pages.end + a.g.counts.end) (counted b)
+    c.fill_places.new.room (behind_counts s v t) (counts_laid b v t)
     c.fill_places.ensures
     ∙ ap (λ l. laid l a.room.now) (pieces_are t)
 
 -- and keeps its length
 headed_long : (c : After-slice_known-2-1) → length (headed c) ≡ length c.args.room.now
 headed_long c =
-    let s = c in
+    let s = from-head c in
     ap length (head_laid c)
-    ∙ length_laid (head s.before.before.before.before.before.before.before.before.before.before.before) s.args.room.now (omega (arith, head_long (told s.before.before.before.before.before.before.before.before.before.before.before), s.requires.1))
+    ∙ length_laid (head s) s.args.room.now (omega (arith, head_long (told s), s.requires.1))
 
 paged_long : (c : After-slice_known-3-1) → length (paged c) ≡ length c.args.room.now
 paged_long c =
-    let s = c in
+    let s = from-pages c in
     let v = s.requires.0.0 in
-    ap length (pages_laid c v (told s.before.before.before.before.before.before.before.before.before.before.before.before.before.before.before.before))
-    ∙ length_laid (front s.before.before.before.before.before.before.before.before.before.before.before.before.before.before.before.before v) s.args.room.now (omega (arith, behind_pages s.before.before.before.before.before.before.before.before.before.before.before.before.before.before.before.before v (told s.before.before.before.before.before.before.before.before.before.before.before.before.before.before.before.before), s.requires.1))
+    ap length (pages_laid c v (told s))
+    ∙ length_laid (front s v) s.args.room.now (omega (arith, behind_pages s v (told s), s.requires.1))
 
 counted_long : (c : After-slice_known-4-1) → length (counted c) ≡ length c.args.room.now
 counted_long c =
-    let s = c in
+    let s = from-counts c in
     let v = s.requires.0.0 in
-    ap length (counts_laid c v (told s.before.before.before.before.before.before.before.before.before.before.before.before.before.before.before.before.before.before.before.before.before))
-    ∙ length_laid (middle s.before.before.before.before.before.before.before.before.before.before.before.before.before.before.before.before.before.before.before.before.before v) s.args.room.now (omega (arith, behind_counts s.before.before.before.before.before.before.before.before.before.before.before.before.before.before.before.before.before.before.before.before.before v (told s.before.before.before.before.before.before.before.before.before.before.before.before.before.before.before.before.before.before.before.before.before), s.requires.1))
+    ap length (counts_laid c v (told s))
+    ∙ length_laid (middle s v) s.args.room.now (omega (arith, behind_counts s v (told s), s.requires.1))
 
 pub slice_bounds-fill_pages-count : goal.slice_bounds-fill_pages-count
 slice_bounds-fill_pages-count c = omega (arith, headed_long c.before, c.requires.1)
@@ -186,8 +186,8 @@ pages_fit s r l = let a = pages_ask (told s) r l in ((form s s.requires.0.0, a.0
 
 pub fill_pages-requires : goal.fill_pages-requires
 fill_pages-requires c =
-    let s = c in
-    pages_fit s.before.before.before.before.before.before.before.before.before.before.before.before.before.before _ (omega (arith, part_long 5 (headed c.before.before.before), headed_long c.before.before.before, s.requires.1))
+    let s = from-head c.before.before.before in
+    pages_fit s _ (omega (arith, part_long 5 (headed c.before.before.before), headed_long c.before.before.before, s.requires.1))
 
 pub slice_bounds-fill_sums-count : goal.slice_bounds-fill_sums-count
 slice_bounds-fill_sums-count c = omega (arith, paged_long c.before, c.requires.1)
@@ -197,9 +197,15 @@ slice_bounds-fill_sums-start c = omega (arith, paged_long c.before, c.requires.1
 
 pub fill_sums-requires : goal.fill_sums-requires
 fill_sums-requires c =
-    let s = c in
-    counts_ask (told s.before.before.before.before.before.before.before.before.before.before.before.before.before.before.before.before.before.before.before) _
-    (omega (arith, part_long (5 + s.args.g.pages.end) (paged c.before.before.before), paged_long c.before.before.before, s.requires.1))
+    let s = from-pages c.before.before.before in
+    counts_ask (told s) _
+    (omega (
+      arith,
+      part_long (5 + s.args.g.pages.end) (paged c.before.before.before),
+      paged_long
+          c.before.before.before,
+      s.requires.1,
+    ))
 
 pub slice_bounds-fill_places-count : goal.slice_bounds-fill_places-count
 slice_bounds-fill_places-count c = omega (arith, counted_long c.before, c.requires.1)
@@ -209,17 +215,17 @@ slice_bounds-fill_places-start c = omega (arith, counted_long c.before, c.requir
 
 pub fill_places-requires : goal.fill_places-requires
 fill_places-requires c =
-    let s = c in
+    let s = from-counts c.before.before.before in
     let u = 5 + s.args.g.pages.end + s.args.g.counts.end in
-    places_ask (told s.before.before.before.before.before.before.before.before.before.before.before.before.before.before.before.before.before.before.before.before.before.before.before.before) _
+    places_ask (told s) _
     (omega (arith, part_long u (counted c.before.before.before), counted_long c.before.before.before, s.requires.1))
 
 pub shape_of-room : goal.shape_of-room
 shape_of-room c =
-    let s = c in
+    let s = c.before.before.before.before.before.before.before.before.before.before.before.before.before.before.before.before.before.before.before.before.before.before.before.before.before.before.before in
     let v = s.requires.0.0 in
-    ap length (term_laid c.before v (told s.before.before.before.before.before.before.before.before.before.before.before.before.before.before.before.before.before.before.before.before.before.before.before.before.before.before.before))
-    ∙ length_laid (whole s.before.before.before.before.before.before.before.before.before.before.before.before.before.before.before.before.before.before.before.before.before.before.before.before.before.before.before v) s.args.room.now (omega (arith, block_long (told s.before.before.before.before.before.before.before.before.before.before.before.before.before.before.before.before.before.before.before.before.before.before.before.before.before.before.before), s.requires.1))
+    ap length (term_laid c.before v (told s))
+    ∙ length_laid (whole s v) s.args.room.now (omega (arith, block_long (told s), s.requires.1))
 
 pub returns : goal.returns
 returns c v t = term_laid c.before v t

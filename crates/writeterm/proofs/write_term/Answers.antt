@@ -34,31 +34,32 @@ edition c = let k = c.known in sym k.ensures ∙ c.if-not-known.false
 pub returns-then-not-known : goal.returns-then-not-known
 returns-then-not-known c =
     let k = c.known in
-    let s = c in
-    sym (answer_version s.args.version s.args.n (word s.before.before.before.before.before.before.before) s.args.room.now
+    let s = told c.before.before in
+    sym (answer_version s.args.version s.args.n (word s) s.args.room.now
     (sym k.ensures ∙ c.if-not-known.true))
 
 pub returns-then-n-gt-LIMIT : goal.returns-then-n-gt-LIMIT
 returns-then-n-gt-LIMIT c =
     let e = c in
-    let s = e in
-    sym (answer_limit s.args.version s.args.n (word s.before.before.before.before.before.before.before.before) s.args.room.now (edition e.before.before) c.if-n-gt-LIMIT.true)
+    let s = told e.before.before.before in
+    sym (answer_limit s.args.version s.args.n (word s) s.args.room.now (edition e.before.before) c.if-n-gt-LIMIT.true)
 
 pub returns-then-not-word : goal.returns-then-not-word
 returns-then-not-word c =
     let k = c.check_word-word in
     let e = c in
-    let s = e in
-    sym (answer_lists s.args.version s.args.n (word s.before.before.before.before.before.before.before.before.before.before.before) s.args.room.now (edition e.before.before.before.before.before)
+    let s = told e.before.before.before.before.before.before in
+    sym (answer_lists s.args.version s.args.n (word s) s.args.room.now (edition e.before.before.before.before.before)
     c.if-n-gt-LIMIT.false (sym k.ensures.says ∙ not-true k.result.ok c.if-not-word.true))
 
 pub returns-then-word-gt-LIMIT : goal.returns-then-word-gt-LIMIT
 returns-then-word-gt-LIMIT c =
     let k = c.check_word-word in
     let e = c in
-    let s = e in
+    let s = told e.before.before.before.before.before.before.before.before in
     let ok = not-false k.result.ok c.if-not-word.false in
-    sym (answer_reach s.args.version s.args.n (word s.before.before.before.before.before.before.before.before.before.before.before.before.before) s.args.room.now (edition e.before.before.before.before.before.before.before)
+    sym (answer_reach s.args.version s.args.n (word s) s.args.room.now
+    (edition e.before.before.before.before.before.before.before)
     c.if-n-gt-LIMIT.false
     (sym k.ensures.says ∙ ok) (omega (arith, k.ensures.ends ok, c.if-word-gt-LIMIT.true)))
 

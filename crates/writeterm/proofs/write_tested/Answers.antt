@@ -65,28 +65,28 @@ pages_u c =
     c.pages_shape.ensures
 
 long : (c : After-shape_of-2)
-    → length (term_block c.args.version c.args.n (word c.before.before.before.before.before.before.before)) ≡ size c
+    → length (term_block c.args.version c.args.n (word (known c))) ≡ size c
 long c = rw (pages_u c) at (block_long (shaped c))
 
 short : (c : After-shape_of-2) → size c < 2 ^ 32
 short c =
-    let s = c in
-    omega (arith, long c, term_short s.args.version s.args.n (word s.before.before.before.before.before.before.before) s.requires.0)
+    let s = known c in
+    omega (arith, long c, term_short s.args.version s.args.n (word s) s.requires.0)
 
 pub pages_shape-requires : goal.pages_shape-requires
 pages_shape-requires c =
-    let s = c in
-    ((bounds s.before.before.before.before.before).pages, s.requires.0.within)
+    let s = c.before.before.before.before.before in
+    ((bounds s).pages, s.requires.0.within)
 
 pub shape_of-requires : goal.shape_of-requires
 shape_of-requires c =
-    let s = c in
-    ((bounds s.before.before.before.before.before.before).counts, omega (arith, (bounds s.before.before.before.before.before.before).positions, s.requires.0.reach))
+    let s = c.before.before.before.before.before.before in
+    ((bounds s).counts, omega (arith, (bounds s).positions, s.requires.0.reach))
 
 pub shape_of-requires-2 : goal.shape_of-requires-2
 shape_of-requires-2 c =
-    let s = c in
-    (omega (arith, (bounds s.before.before.before.before.before.before.before).positions, s.requires.1), omega (arith, s.requires.0.reach, s.requires.1))
+    let s = c.before.before.before.before.before.before.before in
+    (omega (arith, (bounds s).positions, s.requires.1), omega (arith, s.requires.0.reach, s.requires.1))
 
 pub overflow_add-size : goal.overflow_add-size
 overflow_add-size c = omega (arith, short c.before.before)
@@ -99,24 +99,24 @@ overflow_add-size-3 c = omega (arith, short c.before.before.before.before)
 
 pub returns-then-room-size : goal.returns-then-room-size
 returns-then-room-size c =
-    let g = c in
-    let s = g in
-    sym (answer_room s.args.version s.args.n (word s.before.before.before.before.before.before.before.before.before.before.before.before) s.args.room.now s.requires.0
-    (omega (arith, long g.before.before.before.before.before, c.if-room-size.true)))
+    let g = c.before.before.before.before.before in
+    let s = known g in
+    sym (answer_room s.args.version s.args.n (word s) s.args.room.now s.requires.0
+    (omega (arith, long g, c.if-room-size.true)))
 
 pub fill_term-requires : goal.fill_term-requires
 fill_term-requires c =
-    let g = c in
-    ((g.args.version, shaped g.before.before.before.before.before.before), omega (arith, c.if-room-size.false))
+    let g = c.before.before.before.before.before.before in
+    ((g.args.version, shaped g), omega (arith, c.if-room-size.false))
 
 pub returns : goal.returns
 returns c =
-    let g = c in
-    let s = g in
+    let g = c.before.before.before.before.before.before.before.before.before in
+    let s = known g in
     let a = s.args in
     let f = c.fill_term in
-    let room = subst (λ u. f.new.room ≡ laid (term_block a.version u (word s.before.before.before.before.before.before.before.before.before.before.before.before.before.before.before.before)) a.room.now) (pages_u g.before.before.before.before.before.before.before.before.before)
-    (f.ensures a.version (shaped g.before.before.before.before.before.before.before.before.before)) in
-    ap₂ {C = Made} (λ n l. record { refusal = Accepted; size = n; room = l }) (sym (long g.before.before.before.before.before.before.before.before.before)) room
-    ∙ sym (writes s.args.version s.args.n (word s.before.before.before.before.before.before.before.before.before.before.before.before.before.before.before.before) s.args.room.now s.requires.0
-    (omega (arith, long g.before.before.before.before.before.before.before.before.before, c.if-room-size.false)))
+    let room = subst (λ u. f.new.room ≡ laid (term_block a.version u (word s)) a.room.now) (pages_u g)
+    (f.ensures a.version (shaped g)) in
+    ap₂ {C = Made} (λ n l. record { refusal = Accepted; size = n; room = l }) (sym (long g)) room
+    ∙ sym (writes s.args.version s.args.n (word s) s.args.room.now s.requires.0
+    (omega (arith, long g, c.if-room-size.false)))
