@@ -2,7 +2,7 @@
 #![tactic(auto)]
 
 ghost use Rattle.std.specs.Prelude.{◌≡◌, ◌≤◌, length};
-ghost use Rattle.rules.specs.declared.Refusal.TheVariants.{Accepted};
+ghost use Rattle.rules.specs.Verdict.{Accepted};
 ghost use Rattle.rules.specs.ReadList.{decode, list_refusal};
 ghost use Rattle.rules.specs.Term.{next};
 ghost use Rattle.agreeing.specs.Agreeing.{disagreeing};

@@ -4,8 +4,8 @@ use mathlib.Core.Path.{◌≡◌}
 use mathlib.Core.List.{List}
 use Prim.Native.Nat.{ℕ}
 use lib.ListN.{length}
-use Rattle.rules.specs.declared.Refusal.{Refusal}
-use Rattle.rules.specs.declared.Refusal.TheVariants.{Question}
+use Rattle.rules.specs.Verdict.{Verdict}
+use Rattle.rules.specs.Verdict.{Question}
 use Rattle.rules.specs.Refusal.{accepted}
 use Rattle.rules.specs.Write.{laid}
 use Rattle.rules.specs.Index.{index_t, index_refusal}
@@ -14,7 +14,7 @@ use Rattle.questions.specs.Formed.{formed, answers_to}
 use Rattle.replies.specs.Running.{outcome}
 
 module _ (s qs room : List ℕ) where
-  pub ask_refused : (r : Refusal) → r ≡ index_refusal s → accepted r ≡ false → outcome r 0 0 room ≡ ask s qs room
+  pub ask_refused : (r : Verdict) → r ≡ index_refusal s → accepted r ≡ false → outcome r 0 0 room ≡ ask s qs room
   unfolding ask put reply joined laid
   ask_refused r e a = rw (← e, a)
 

@@ -7,8 +7,8 @@ use native.Mathlib.Omega.{arith}
 use borrow.Author.Tests.{not-true, lt-ltb, le-ltb, le-leb, lt-leb}
 use lib.ListN.{length, take, drop, set, length-append}
 use lib.Seq.{sets}
-use Rattle.rules.specs.declared.Refusal.{Refusal}
-use Rattle.rules.specs.declared.Refusal.TheVariants.{Accepted, Short, Version, Limit, Room}
+use Rattle.rules.specs.Verdict.{Verdict}
+use Rattle.rules.specs.Verdict.{Accepted, Short, Version, Limit, Room}
 use Rattle.rules.specs.Refusal.{accepted}
 use Rattle.rules.specs.Limits.{last_edition, up_to, index_header, four_bytes}
 use Rattle.rules.specs.Bytes.{be}
@@ -75,7 +75,7 @@ front_stored d a b c e used ver N T h p q r s =
 
 -- ---- the answer
 
-module _ (buffer : List ℕ) (used ver N T : ℕ) (r : Refusal) (is : r ≡ close_refusal buffer used ver N T) where
+module _ (buffer : List ℕ) (used ver N T : ℕ) (r : Verdict) (is : r ≡ close_refusal buffer used ver N T) where
   -- what a test b of the refusal tells
   pub close_refused : (b : Bool) → b ≡ accepted r → b ≡ false → refused r buffer ≡ close_index buffer used ver N T
   unfolding close_index

@@ -7,8 +7,8 @@ use borrow.Author.Tests.{le-ltb, lt-ltb, ltb-false, ltb-true, le-leb, lt-leb, le
 use borrow.Author.Tests.{not-false}
 use lib.Dec.{ltb, leb, lit<}
 use lib.ListN.{length, take, drop}
-use Rattle.rules.specs.declared.Refusal.{Refusal}
-use Rattle.rules.specs.declared.Refusal.TheVariants.{Accepted, Short, Version, Limit, Room}
+use Rattle.rules.specs.Verdict.{Verdict}
+use Rattle.rules.specs.Verdict.{Accepted, Short, Version, Limit, Room}
 use Rattle.rules.specs.Limits.{limit, term_limit, last_edition, up_to, index_header, four_bytes}
 use Rattle.rules.specs.Term.{Word}
 use Rattle.rules.specs.Index.{terms, valid_words, valid_card, index_v, index_n, index_t, terms_refusal, index_refusal}
@@ -46,7 +46,7 @@ module _ (ver N : ℕ) (ts : List Word) where
 
 module _ (s : List ℕ) where
   -- the tests behind the first three
-  abbrev tests : Refusal
+  abbrev tests : Verdict
   tests = cond (ltb limit (index_n s) || ltb term_limit (index_t s)) Limit
       (terms_refusal (index_v s) (index_t s) (index_n s) (drop index_header s))
 
@@ -88,10 +88,10 @@ module _ (buffer : List ℕ) (used ver N T : ℕ) where
   pub accepted_closable : close_refusal buffer used ver N T ≡ Accepted → Closable buffer used ver N T
   unfolding close_refusal
   accepted_closable e =
-      let t3 : Refusal = terms_refusal ver T N (drop index_header (take used buffer)) in
-      let t2 : Refusal = cond (leb four_bytes used || (ltb limit N || ltb term_limit T)) Limit t3 in
-      let k2 : Refusal = cond (not (up_to last_edition ver)) Version t2 in
-      let t1 : Refusal = cond (ltb used index_header) Short k2 in
+      let t3 : Verdict = terms_refusal ver T N (drop index_header (take used buffer)) in
+      let t2 : Verdict = cond (leb four_bytes used || (ltb limit N || ltb term_limit T)) Limit t3 in
+      let k2 : Verdict = cond (not (up_to last_edition ver)) Version t2 in
+      let t1 : Verdict = cond (ltb used index_header) Short k2 in
       let a = test_passed (ltb (length buffer) used) Room t1 (lit< tt) e in
       let b = test_passed (ltb used index_header) Short k2 (lit< tt) a.1 in
       let k = test_passed (not (up_to last_edition ver)) Version t2 (lit< tt) b.1 in

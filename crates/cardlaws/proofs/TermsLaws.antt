@@ -7,8 +7,8 @@ use native.Mathlib.Omega.{arith}
 use borrow.Author.Tests.{ltb-false, le-leb, leb-true, eq-eqb, eqb-true}
 use lib.Dec.{ltb, leb, eqb, lit<}
 use lib.ListN.{length, get_or, take, drop, drop_of_length-le}
-use Rattle.rules.specs.declared.Refusal.{Refusal}
-use Rattle.rules.specs.declared.Refusal.TheVariants.{Accepted, Layout, Parts}
+use Rattle.rules.specs.Verdict.{Verdict}
+use Rattle.rules.specs.Verdict.{Accepted, Layout, Parts}
 use Rattle.rules.specs.Refusal.{number, accepted}
 use Rattle.rules.specs.Limits.{limit, last_edition, up_to, term_header}
 use Rattle.rules.specs.ReadList.{stated, list_u}
@@ -25,7 +25,7 @@ use Rattle.termlaws.proofs.BlockLaws.{term_whole, term_header_lem, term_accepted
 -- ---- each answer
 
 -- the answer of the first of the blocks, and the N of its pages
-abbrev first : ℕ → List ℕ → Refusal
+abbrev first : ℕ → List ℕ → Verdict
 first ver s = inside term_header (term_refusal ver) s
 
 abbrev first_N : List ℕ → ℕ

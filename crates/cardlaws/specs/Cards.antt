@@ -7,7 +7,7 @@
 --   Closable buffer used v N T  closeRefusal's tests, by name
 --   Closed buffer used v N T    what closing leaves: an accepted index of that version, N and T with the terms that lay there
 use Rattle.std.specs.Prelude.{true, ◌≡◌, List, ℕ, ◌+◌, ◌≤◌, ◌<◌, length, take, drop}
-use Rattle.rules.specs.declared.Refusal.TheVariants.{Accepted}
+use Rattle.rules.specs.Verdict.{Accepted}
 use Rattle.rules.specs.Limits.{limit, term_limit, last_edition, up_to, term_header, index_header, four_bytes}
 use Rattle.rules.specs.ReadList.{list_u}
 use Rattle.rules.specs.Term.{Word}

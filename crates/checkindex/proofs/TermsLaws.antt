@@ -6,8 +6,8 @@ use Prim.Native.Nat.{ℕ, suc, ◌≤◌, ◌<◌}
 use borrow.Author.Tests.{lt-ltb, le-ltb}
 use lib.Dec.{eqb}
 use lib.ListN.{length, take, drop}
-use Rattle.rules.specs.declared.Refusal.{Refusal}
-use Rattle.rules.specs.declared.Refusal.TheVariants.{Accepted, Limit, Layout, Parts}
+use Rattle.rules.specs.Verdict.{Verdict}
+use Rattle.rules.specs.Verdict.{Accepted, Limit, Layout, Parts}
 use Rattle.rules.specs.Refusal.{accepted, and_then}
 use Rattle.rules.specs.Limits.{limit, term_limit, last_edition, term_header, index_header}
 use Rattle.rules.specs.ReadList.{stated, list_u}
@@ -26,22 +26,22 @@ word_then : (v N : ℕ) (s : List ℕ) → word_inside v N s ≡ and_then (insid
     (cond (not (eqb (list_u (pages_of (take (stated s) s))) N)) Parts Accepted)
 word_then v N s =
     let b : List ℕ = take (stated s) s in
-    let f : Refusal = inside term_header (λ _. Accepted) s in
-    let r : Refusal = cond (not (eqb (list_u (pages_of b)) N)) Parts Accepted in
+    let f : Verdict = inside term_header (λ _. Accepted) s in
+    let r : Verdict = cond (not (eqb (list_u (pages_of b)) N)) Parts Accepted in
     inside_then term_header (word_refusal v N) s
     ∙ sym (and_then_assoc f (term_refusal v b) r)
-    ∙ ap (λ (q : Refusal). and_then q r) (sym (inside_then term_header (term_refusal v) s))
+    ∙ ap (λ (q : Verdict). and_then q r) (sym (inside_then term_header (term_refusal v) s))
 
 -- ---- one term more, and none
 
 module _ (v M N : ℕ) (s : List ℕ) where
-  abbrev first : Refusal
+  abbrev first : Verdict
   first = inside term_header (term_refusal v) s
 
   abbrev b : List ℕ
   b = take (stated s) s
 
-  abbrev rest : Refusal
+  abbrev rest : Verdict
   rest = terms_refusal v M N (drop (stated s) s)
 
   -- by the tests of the first term: its own refusal, and its N
@@ -57,7 +57,7 @@ pub terms_more : (v T M N : ℕ) (s : List ℕ) → T ≡ suc M
 terms_more v T M N s e =
     rw e (by_tests v M N s (accepted (inside term_header (term_refusal v) s))
     (eqb (list_u (pages_of (take (stated s) s))) N) refl refl)
-    ∙ ap (λ (q : Refusal). and_then q (terms_refusal v M N (drop (stated s) s))) (sym (word_then v N s))
+    ∙ ap (λ (q : Verdict). and_then q (terms_refusal v M N (drop (stated s) s))) (sym (word_then v N s))
 
 -- bytes are left behind the last, or none
 module _ (v T N : ℕ) (s : List ℕ) (none : T ≡ 0) where

@@ -8,8 +8,8 @@ use native.Mathlib.Omega.{arith}
 use borrow.Author.Tests.{lt-ltb, le-ltb}
 use lib.Dec.{lit<}
 use lib.ListN.{length, drop, length-append}
-use Rattle.rules.specs.declared.Refusal.{Refusal}
-use Rattle.rules.specs.declared.Refusal.TheVariants.{Accepted, Version, Layout, Parts}
+use Rattle.rules.specs.Verdict.{Verdict}
+use Rattle.rules.specs.Verdict.{Accepted, Version, Layout, Parts}
 use Rattle.rules.specs.Refusal.{and_then}
 use Rattle.rules.specs.Limits.{version, last_edition, up_to, list_header, term_header}
 use Rattle.rules.specs.ReadList.{stated, list_u, list_n, list_refusal, part_refusal}
@@ -90,20 +90,20 @@ module _ (s : List ℕ) where
   rest_none h = rw (le-ltb 0 (length (after 3 (lists_of s))) (omega (arith, left_over)))
 
 -- the lists one after the other, and then r
-abbrev lists_then : (v n : ℕ) (s : List ℕ) (r : Refusal) → Refusal
+abbrev lists_then : (v n : ℕ) (s : List ℕ) (r : Verdict) → Verdict
 lists_then v zero s r = r
 lists_then v (suc n) s r = and_then (inside list_header (part_refusal v) s) (lists_then version n (drop (stated s) s) r)
 
-then_lists : (v n : ℕ) (s : List ℕ) (r : Refusal) → lists_then v n s r ≡ and_then (lists_refusal v n s) r
+then_lists : (v n : ℕ) (s : List ℕ) (r : Verdict) → lists_then v n s r ≡ and_then (lists_refusal v n s) r
 unfolding lists_refusal
 then_lists v zero s r = sym (and_then_next Accepted r refl)
 then_lists v (suc n) s r =
-    let q : Refusal = inside list_header (part_refusal v) s in
+    let q : Verdict = inside list_header (part_refusal v) s in
     ap (and_then q) (then_lists version n (drop (stated s) s) r)
     ∙ sym (and_then_assoc q (lists_refusal version n (drop (stated s) s)) r)
 
 -- the tests behind the version that is told
-abbrev pub told : ℕ → List ℕ → Refusal
+abbrev pub told : ℕ → List ℕ → Verdict
 told v s = and_then (lists_refusal v 3 (lists_of s)) (rest_refusal s)
 
 pub term_then : (v : ℕ) (s : List ℕ) → term_refusal v s
@@ -112,5 +112,5 @@ unfolding term_refusal after
 term_then v s =
     head_then term_header version s
     (cond (not (up_to last_edition v)) Version (lists_then v 3 (lists_of s) (rest_refusal s)))
-    ∙ ap (λ (r : Refusal). and_then (head_refusal term_header version s) (cond (not (up_to last_edition v)) Version r))
+    ∙ ap (λ (r : Verdict). and_then (head_refusal term_header version s) (cond (not (up_to last_edition v)) Version r))
     (then_lists v 3 (lists_of s) (rest_refusal s))

@@ -6,8 +6,8 @@
 --   ListIn v k s      list number k of the term s is accepted, and where it lies
 --   ListsIn v s       so are all three
 use Rattle.std.specs.Prelude.{cond, ◌≡◌, List, ℕ, zero, suc, ◌<◌, ltb, length, drop}
-use Rattle.rules.specs.declared.Refusal.{Refusal}
-use Rattle.rules.specs.declared.Refusal.TheVariants.{Accepted, Layout, Parts}
+use Rattle.rules.specs.Verdict.{Verdict}
+use Rattle.rules.specs.Verdict.{Accepted, Layout, Parts}
 use Rattle.rules.specs.Refusal.{and_then}
 use Rattle.rules.specs.Limits.{version, list_header}
 use Rattle.rules.specs.ReadList.{stated, part_refusal}
@@ -19,11 +19,11 @@ abbrev pub list_version : ℕ → ℕ → ℕ
 list_version v zero = v
 list_version v (suc k) = version
 
-unfoldable pub lists_refusal : ℕ → ℕ → List ℕ → Refusal
+unfoldable pub lists_refusal : ℕ → ℕ → List ℕ → Verdict
 lists_refusal v zero s = Accepted
 lists_refusal v (suc k) s = and_then (inside list_header (part_refusal v) s) (lists_refusal version k (drop (stated s) s))
 
-abbrev pub rest_refusal : List ℕ → Refusal
+abbrev pub rest_refusal : List ℕ → Verdict
 rest_refusal s = cond (ltb 0 (length (after 3 (lists_of s)))) Layout (cond (disagree s) Parts Accepted)
 
 pub record ListIn (v k : ℕ) (s : List ℕ) : Type 0 where

@@ -10,7 +10,7 @@ use borrow.Author.Tests.{le-leb, lt-leb, ltb-true, ltb-false, le-ltb}
 use lib.Dec.{ltb}
 use lib.ListN.{length, take, length-append}
 use lib.Seq.{take_all, take-append_seam, drop-append_seam}
-use Rattle.rules.specs.declared.Refusal.TheVariants.{Accepted, Question, Room}
+use Rattle.rules.specs.Verdict.{Accepted, Question, Room}
 use Rattle.rules.specs.Refusal.{number, accepted, and_then}
 use Rattle.rules.specs.Index.{index_t, index_refusal}
 use Rattle.rules.specs.Write.{laid}

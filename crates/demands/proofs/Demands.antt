@@ -9,7 +9,7 @@ use Prim.Native.Nat.{ℕ, ◌+◌, ◌*◌, ◌^◌, ◌≤◌, ◌<◌}
 use native.Mathlib.Omega.{arith}
 use borrow.Author.Tests.{lt-ltb}
 use lib.ListN.{length, get_or, take, drop, replicate, length-append}
-use Rattle.rules.specs.declared.Refusal.TheVariants.{Accepted, Room}
+use Rattle.rules.specs.Verdict.{Accepted, Room}
 use Rattle.rules.specs.Bytes.{Bytes}
 use Rattle.rules.specs.Refusal.{number}
 use Rattle.rules.specs.Limits.{offset_limit, index_header}

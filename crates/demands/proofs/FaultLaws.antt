@@ -11,8 +11,8 @@ use borrow.Author.Tests.{ltb-true, ltb-false, leb-false, not-true, not-false}
 use lib.Dec.{ltb, leb, eqb}
 use lib.ListN.{length, get_or, take, drop}
 use lib.Seq.{drop-drop}
-use Rattle.rules.specs.declared.Refusal.{Refusal}
-use Rattle.rules.specs.declared.Refusal.TheVariants.{Room}
+use Rattle.rules.specs.Verdict.{Verdict}
+use Rattle.rules.specs.Verdict.{Room}
 use Rattle.rules.specs.Refusal.{number}
 use Rattle.rules.specs.Limits.{limit, last_edition, up_to}
 use Rattle.rules.specs.List.{rising, valid_list, block}
@@ -195,11 +195,11 @@ gives m = number m.refusal
 
 module _ (room : List ℕ) where
   -- a test of a writer, and what follows it
-  made : (b : Bool) (R : Refusal) (m : Made) (P : Type 0) (ps : List Sentence) → Tests b P
+  made : (b : Bool) (R : Verdict) (m : Made) (P : Type 0) (ps : List Sentence) → Tests b P
       → (b ≡ false → First (gives m) ps) → First (gives (cond b (refused R room) m)) (R when P ∷ ps)
   made b R m P ps t g = first_test Made gives (refused R room) m R P ps refl b t g
 
-  both : (a b : Bool) (R : Refusal) (m : Made) (P : Type 0) (ps : List Sentence) → Tests (not a) P
+  both : (a b : Bool) (R : Verdict) (m : Made) (P : Type 0) (ps : List Sentence) → Tests (not a) P
       → (a ≡ true → First (gives (cond (not b) (refused R room) m)) ps)
       → First (gives (cond (not (a && b)) (refused R room) m)) (R when P ∷ ps)
   both a b R m P ps t g = first_and Made gives (refused R room) m R P ps refl a b t g

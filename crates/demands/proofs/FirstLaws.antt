@@ -7,8 +7,8 @@ use Prim.Native.Nat.{ℕ, ◌≤◌, ◌<◌}
 use native.Mathlib.Omega.{arith}
 use borrow.Author.Tests.{ltb-true, ltb-false, leb-true, leb-false, eqb-true, eqb-false, not-true, not-false}
 use lib.Dec.{ltb, leb, eqb}
-use Rattle.rules.specs.declared.Refusal.{Refusal}
-use Rattle.rules.specs.declared.Refusal.TheVariants.{Accepted}
+use Rattle.rules.specs.Verdict.{Verdict}
+use Rattle.rules.specs.Verdict.{Accepted}
 use Rattle.rules.specs.Refusal.{number, accepted, and_then}
 use Rattle.laws.proofs.RefusalLaws.{number_inj, accepted_true, true_accepted, and_then_next, and_then_stop}
 use Rattle.demands.specs.Sentences.{Sentence, ◌when◌, First}
@@ -150,7 +150,7 @@ tests_le m n = (leb-true m n, λ e h. omega (arith, leb-false m n e))
 pub tests_differ : (m n : ℕ) → Tests (not (eqb m n)) (m ≡ n → ⊥)
 tests_differ m n = (λ e. eqb-false m n (not-true (eqb m n) e), λ e h. h (eqb-true m n (not-false (eqb m n) e)))
 
-module _ (A : Type 0) (f : A → ℕ) (x y : A) (R : Refusal) (P : Type 0) (ps : List Sentence) (is : f x ≡ number R) where
+module _ (A : Type 0) (f : A → ℕ) (x y : A) (R : Verdict) (P : Type 0) (ps : List Sentence) (is : f x ≡ number R) where
   -- a test, and what follows it
   pub first_test : (b : Bool) → Tests b P → (b ≡ false → First (f y) ps) → First (f (cond b x y)) (R when P ∷ ps)
   unfolding First
@@ -172,7 +172,7 @@ module _ (A : Type 0) (f : A → ℕ) (x y : A) (R : Refusal) (P : Type 0) (ps :
   first_and true b t g = inr (t.1 refl, g refl)
 
 -- one refusal, and then another
-pub first_then : (n : ℕ) (r q : Refusal) (ps qs : List Sentence) → Refuses n ps → First (number r) ps
+pub first_then : (n : ℕ) (r q : Verdict) (ps qs : List Sentence) → Refuses n ps → First (number r) ps
     → (r ≡ Accepted → First (number q) qs) → First (number (and_then r q)) (ps ++ qs)
 first_then n r q ps qs p f g = go (accepted r) refl
   where

@@ -11,7 +11,7 @@ use mathlib.Core.List.{List, [], ◌∷◌, ◌++◌}
 use Prim.Native.Nat.{ℕ, ◌≤◌, ◌<◌}
 use native.Mathlib.Omega.{arith}
 use lib.ListN.{length}
-use Rattle.rules.specs.declared.Refusal.TheVariants.{Question, Room}
+use Rattle.rules.specs.Verdict.{Question, Room}
 use Rattle.rules.specs.Refusal.{number}
 use Rattle.rules.specs.Limits.{limit}
 use Rattle.rules.specs.List.{valid_list}

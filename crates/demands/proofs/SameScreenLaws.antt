@@ -5,7 +5,7 @@ use mathlib.Core.List.{List, [], ◌∷◌}
 use Prim.Native.Nat.{ℕ, zero, suc, ◌≤◌, ◌<◌}
 use lib.Dec.{ltb, leb}
 use lib.ListN.{length, get_or}
-use Rattle.rules.specs.declared.Refusal.TheVariants.{Question, Room}
+use Rattle.rules.specs.Verdict.{Question, Room}
 use Rattle.rules.specs.Limits.{screen_limit}
 use Rattle.rules.specs.Write.{laid}
 use Rattle.rules.specs.Term.{Word}

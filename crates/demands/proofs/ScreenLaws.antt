@@ -9,8 +9,8 @@ use borrow.Author.Tests.{ltb-false, leb-true, leb-false, le-ltb, le-leb}
 use lib.Dec.{ltb, leb}
 use lib.ListN.{length, get_or, take, drop, length-take, take-append-drop}
 use lib.Seq.{get_or-take, take_all}
-use Rattle.rules.specs.declared.Refusal.{Refusal}
-use Rattle.rules.specs.declared.Refusal.TheVariants.{Accepted, Question, Room}
+use Rattle.rules.specs.Verdict.{Verdict}
+use Rattle.rules.specs.Verdict.{Accepted, Question, Room}
 use Rattle.rules.specs.Refusal.{number, accepted, and_then}
 use Rattle.rules.specs.Limits.{phrase_limit, screen_limit}
 use Rattle.rules.specs.List.{rising}
@@ -66,13 +66,13 @@ module _ (s : List ℕ) (b r : ℕ) (ts pages counts : List ℕ) where
       (λ f. both (leb 1 (length ts)) _ _ _ _ (tests_least 1 (length ts))
       (λ g. both (leb (length ts) phrase_limit) _ _ _ _ (tests_least (length ts) phrase_limit)
       (λ h. test (not (all_below (index_t s) ts)) _ _ _ _ (tests_below (index_t s) ts)
-      (λ i. first_or Refusal number Room Accepted Room _ _ refl _ _ (tests_lt (length pages) (length ps))
+      (λ i. first_or Verdict number Room Accepted Room _ _ refl _ _ (tests_lt (length pages) (length ps))
       (λ j. test (ltb (length counts) 2) _ _ _ _ (tests_lt (length counts) 2) (λ k. first_end)))))))))
     where
-      both : (x y : Bool) (q : Refusal) (P : Type 0) (rest : List Sentence) → Tests (not x) P
+      both : (x y : Bool) (q : Verdict) (P : Type 0) (rest : List Sentence) → Tests (not x) P
           → (x ≡ true → First (number (cond (not y) Question q)) rest)
           → First (number (cond (not (x && y)) Question q)) (Question when P ∷ rest)
-      both x y q P rest t g = first_and Refusal number Question q Question P rest refl x y t g
+      both x y q P rest t g = first_and Verdict number Question q Question P rest refl x y t g
 
   -- ---- the ways that it ends
 
@@ -99,7 +99,7 @@ module _ (s : List ℕ) (b r : ℕ) (ts pages counts : List ℕ) where
 
   -- it was refused, or all pages were shown
   pub by_end : (P : Screening → Type 0)
-      → ((q : Refusal) → (q ≡ Accepted → ⊥) → P (unshown q pages counts)) → (Passes → P whole)
+      → ((q : Verdict) → (q ≡ Accepted → ⊥) → P (unshown q pages counts)) → (Passes → P whole)
       → P (screen s b r ts pages counts)
   by_end P a c =
       go (accepted (index_refusal s)) refl (screen_good (index_t s) r ts) refl (ltb (length pages) (length ps)) refl

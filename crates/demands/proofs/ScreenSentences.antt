@@ -10,7 +10,7 @@ use native.Mathlib.Omega.{arith}
 use borrow.Author.Tests.{eqb-true, eqb-false}
 use lib.ListN.{length, get_or, take, drop, length-append, length-take}
 use lib.Seq.{take_at, take-nil}
-use Rattle.rules.specs.declared.Refusal.TheVariants.{Accepted}
+use Rattle.rules.specs.Verdict.{Accepted}
 use Rattle.rules.specs.Refusal.{number}
 use Rattle.rules.specs.Limits.{screen_limit}
 use Rattle.rules.specs.List.{rising}

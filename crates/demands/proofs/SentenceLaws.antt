@@ -9,8 +9,8 @@ use native.Mathlib.Omega.{arith}
 use borrow.Author.Tests.{ltb-false, le-ltb, eq-eqb, eqb-true, not-true, not-false}
 use lib.Dec.{ltb, leb, eqb}
 use lib.ListN.{length, get_or, take, drop, length-take, take-append-drop}
-use Rattle.rules.specs.declared.Refusal.{Refusal}
-use Rattle.rules.specs.declared.Refusal.TheVariants.{Accepted, Short, Length, Version, Limit, Layout, Runs, Parts}
+use Rattle.rules.specs.Verdict.{Verdict}
+use Rattle.rules.specs.Verdict.{Accepted, Short, Length, Version, Limit, Layout, Runs, Parts}
 use Rattle.rules.specs.Refusal.{number, accepted, and_then}
 use Rattle.rules.specs.Limits.{limit, term_limit, version, map_version, last_edition, up_to, list_header, term_header}
 use Rattle.rules.specs.Limits.{index_header, four_bytes}
@@ -40,22 +40,22 @@ use Rattle.demands.proofs.FaultLaws.{tests_unknown}
 use Rattle.demands.proofs.FormLaws.{tests_form}
 
 -- a test of bytes, and what follows it
-pub test : (b : Bool) (R q : Refusal) (P : Type 0) (ps : List Sentence) → Tests b P → (b ≡ false → First (number q) ps)
+pub test : (b : Bool) (R q : Verdict) (P : Type 0) (ps : List Sentence) → Tests b P → (b ≡ false → First (number q) ps)
     → First (number (cond b R q)) (R when P ∷ ps)
-test b R q P ps t g = first_test Refusal number R q R P ps refl b t g
+test b R q P ps t g = first_test Verdict number R q R P ps refl b t g
 
 -- one of two tests with the same refusal
-either : (a b : Bool) (R q : Refusal) (P : Type 0) (ps : List Sentence) → Tests a P
+either : (a b : Bool) (R q : Verdict) (P : Type 0) (ps : List Sentence) → Tests a P
     → (a ≡ false → First (number (cond b R q)) ps) → First (number (cond (a || b) R q)) (R when P ∷ ps)
-either a b R q P ps t g = first_or Refusal number R q R P ps refl a b t g
+either a b R q P ps t g = first_or Verdict number R q R P ps refl a b t g
 
 -- ---- by themselves, and inside a container
 
 -- the refusal of bytes by themselves: 1, 2, and then what their own tests say
-abbrev by_itself : ℕ → (List ℕ → Refusal) → List ℕ → Refusal
+abbrev by_itself : ℕ → (List ℕ → Verdict) → List ℕ → Verdict
 by_itself h own s = cond (ltb (length s) h) Short (cond (not (eqb (stated s) (length s))) Length (own s))
 
-module _ (h : ℕ) (own : List ℕ → Refusal) (ps : List ℕ → List Sentence)
+module _ (h : ℕ) (own : List ℕ → Verdict) (ps : List ℕ → List Sentence)
     (first : (s : List ℕ) → First (number (own s)) (ps s)) where
   alone_first : (s : List ℕ) → First (number (by_itself h own s)) (alone h ps s)
   alone_first s =
@@ -79,7 +79,7 @@ module _ (h : ℕ) (own : List ℕ → Refusal) (ps : List ℕ → List Sentence
 -- ---- a list
 
 -- what its own tests say, behind 1 and 2, where the versions of a list are 1 to last
-abbrev list_tests : ℕ → ℕ → List ℕ → Refusal
+abbrev list_tests : ℕ → ℕ → List ℕ → Verdict
 list_tests last v s =
     let f : Form = form_of v (list_u s) (list_n s) in
     cond (not (up_to last (get_or s 4 0))) Version
@@ -170,7 +170,7 @@ module _ (v : ℕ) where
 
 -- ---- a term
 
-abbrev term_tests : ℕ → List ℕ → Refusal
+abbrev term_tests : ℕ → List ℕ → Verdict
 term_tests v s =
     cond (not (up_to version (get_or s 4 0))) Version
     (cond (not (up_to last_edition v)) Version
@@ -284,7 +284,7 @@ terms_refuse v (suc T) N s =
 
 -- ---- an index and its closing
 
-abbrev index_tests : List ℕ → Refusal
+abbrev index_tests : List ℕ → Verdict
 index_tests s =
     cond (not (up_to last_edition (index_v s))) Version
     (cond (ltb limit (index_n s) || ltb term_limit (index_t s)) Limit

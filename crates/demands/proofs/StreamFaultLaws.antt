@@ -8,7 +8,7 @@ use native.Mathlib.Omega.{arith}
 use borrow.Author.Tests.{leb-true, leb-false, eqb-true, eqb-false}
 use lib.Dec.{ltb, leb, eqb}
 use lib.ListN.{length}
-use Rattle.rules.specs.declared.Refusal.TheVariants.{Accepted, Version, Limit, Lists}
+use Rattle.rules.specs.Verdict.{Accepted, Version, Limit, Lists}
 use Rattle.rules.specs.declared.Stream.{Stream}
 use Rattle.rules.specs.Refusal.{number, accepted}
 use Rattle.rules.specs.Limits.{limit, last_edition, up_to}

@@ -9,8 +9,8 @@ use native.Mathlib.Decide.{dec_lt}
 use native.Mathlib.Omega.{arith}
 use borrow.Author.Tests.{le-ltb, lt-ltb}
 use lib.ListN.{length}
-use Rattle.rules.specs.declared.Refusal.{Refusal}
-use Rattle.rules.specs.declared.Refusal.TheVariants.{Accepted, Room, Lists}
+use Rattle.rules.specs.Verdict.{Verdict}
+use Rattle.rules.specs.Verdict.{Accepted, Room, Lists}
 use Rattle.rules.specs.declared.Stream.{Stream}
 use Rattle.rules.specs.Refusal.{number}
 use Rattle.rules.specs.Stream.{Streaming, over, live, goes, size_of, spoilt, going}
@@ -42,7 +42,7 @@ module _ (m : Streaming) (r : HostStreamed) (after : List ℕ) (p : told_stream_
   passed_told a = told_refusal ∙ ap number a
 
   -- a result without a length
-  pub told_goes : (R : Refusal) (s : Stream) (room : List ℕ) → m ≡ goes R s room
+  pub told_goes : (R : Verdict) (s : Stream) (room : List ℕ) → m ≡ goes R s room
       → (r.refusal ≡ number R) × Leaves r after s room
   told_goes R s room e = (
     told_refusal ∙ ap (λ (x : Streaming). number x.refusal) e,

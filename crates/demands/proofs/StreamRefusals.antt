@@ -11,8 +11,8 @@ use Prim.Native.Nat.{ℕ}
 use native.Mathlib.Omega.{arith}
 use lib.Dec.{ltb}
 use lib.ListN.{length}
-use Rattle.rules.specs.declared.Refusal.{Refusal}
-use Rattle.rules.specs.declared.Refusal.TheVariants.{Accepted, Room}
+use Rattle.rules.specs.Verdict.{Verdict}
+use Rattle.rules.specs.Verdict.{Accepted, Room}
 use Rattle.rules.specs.declared.Stream.{Stream}
 use Rattle.rules.specs.Refusal.{accepted, and_then}
 use Rattle.rules.specs.Write.{laid}
@@ -39,7 +39,7 @@ use Rattle.demands.proofs.LedLaws.{led_underway, led_on, tests_run, tests_close}
 module _ (v N P Q U : ℕ) (room : List ℕ) (r : HostStreamed) (after : List ℕ)
     (p : HostTermBegun v N P Q U room r after) where
   -- its own refusal, and whether the room is short
-  abbrev asked : Refusal
+  abbrev asked : Verdict
   asked = announce_refusal v N P Q U
 
   abbrev short : Bool

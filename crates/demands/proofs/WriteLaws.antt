@@ -8,9 +8,9 @@ use native.Mathlib.Omega.{arith}
 use borrow.Author.Tests.{le-ltb, ltb-false, not-false}
 use lib.Dec.{ltb, lit<}
 use lib.ListN.{length}
-use Rattle.rules.specs.declared.Refusal.{Refusal}
-use Rattle.rules.specs.declared.Refusal.TheVariants.{Accepted, Short, Length, Version, Limit, Layout, Runs, Parts}
-use Rattle.rules.specs.declared.Refusal.TheVariants.{Question, Room, Lists}
+use Rattle.rules.specs.Verdict.{Verdict}
+use Rattle.rules.specs.Verdict.{Accepted, Short, Length, Version, Limit, Layout, Runs, Parts}
+use Rattle.rules.specs.Verdict.{Question, Room, Lists}
 use Rattle.rules.specs.Limits.{limit, last_edition, up_to}
 use Rattle.rules.specs.Refusal.{number, accepted}
 use Rattle.rules.specs.List.{rising, valid_list, block}
@@ -29,7 +29,7 @@ use Rattle.demands.specs.Asking.{Known, ValidWord}
 
 -- ---- numbers of refusal
 
-pub number_le : (r : Refusal) → number r ≤ 10
+pub number_le : (r : Verdict) → number r ≤ 10
 number_le Accepted = omega arith
 number_le Short = omega arith
 number_le Length = omega arith
@@ -48,7 +48,7 @@ number_le Lists = omega arith
 abbrev Keeps : List ℕ → Made → Type 0
 Keeps room m = (m.refusal ≡ Accepted → ⊥) → (m.room ≡ room) × (m.size ≡ 0)
 
-keeps_refused : (room : List ℕ) (r : Refusal) → Keeps room (refused r room)
+keeps_refused : (room : List ℕ) (r : Verdict) → Keeps room (refused r room)
 keeps_refused room r n = (refl, refl)
 
 keeps_cond : (room : List ℕ) (b : Bool) (m k : Made) → Keeps room m → Keeps room k → Keeps room (cond b m k)

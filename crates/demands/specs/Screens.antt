@@ -12,7 +12,7 @@
 --                        the one before it gave, and each is full; the last gave the bound c
 --   shown xs             their pages, one after the other
 use Rattle.std.specs.Prelude.{◌≡◌, List, [], ◌∷◌, ◌++◌, ℕ, ◌+◌, ◌-◌, ◌<◌, length, get_or, take}
-use Rattle.rules.specs.declared.Refusal.TheVariants.{Question, Room}
+use Rattle.rules.specs.Verdict.{Question, Room}
 use Rattle.rules.specs.Limits.{phrase_limit, screen_limit}
 use Rattle.rules.specs.Index.{index_t}
 use Rattle.rules.specs.Questions.{lists_in}

@@ -22,9 +22,9 @@
 --   closing buffer used v N T  "Closing an index": 9, 1, 3 [02 f], 4, "then the terms as in reading"
 --   asking s qs room  "The card is checked first, then all questions", then the answers' room
 use Rattle.std.specs.Prelude.{◌⊎◌, ◌≡◌, List, [], ◌∷◌, ◌++◌, ℕ, zero, suc, ◌≤◌, ◌<◌, length, get_or, take, drop}
-use Rattle.rules.specs.declared.Refusal.{Refusal}
-use Rattle.rules.specs.declared.Refusal.TheVariants.{Short, Length, Version, Limit, Layout, Runs, Parts}
-use Rattle.rules.specs.declared.Refusal.TheVariants.{Question, Room, Lists}
+use Rattle.rules.specs.Verdict.{Verdict}
+use Rattle.rules.specs.Verdict.{Short, Length, Version, Limit, Layout, Runs, Parts}
+use Rattle.rules.specs.Verdict.{Question, Room, Lists}
 use Rattle.rules.specs.Refusal.{number}
 use Rattle.rules.specs.Limits.{limit, term_limit, version, map_version, last_edition, list_header, term_header}
 use Rattle.rules.specs.Limits.{index_header, four_bytes}
@@ -44,10 +44,10 @@ use Rattle.demands.specs.BadQuestions.{SomeBad}
 
 infix 70 ◌when◌
 pub record Sentence : Type 1 where
-  pub refusal : Refusal
+  pub refusal : Verdict
   pub holds : Type 0
 
-abbrev pub ◌when◌ : Refusal → Type 0 → Sentence
+abbrev pub ◌when◌ : Verdict → Type 0 → Sentence
 r when P = record { refusal = r; holds = P }
 
 unfoldable pub First : ℕ → List Sentence → Type 0

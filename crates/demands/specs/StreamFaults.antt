@@ -25,7 +25,7 @@
 --   Past P Q U t      it goes "past the announcement"
 --   OtherTotals P Q U t  it is not all that was announced
 use Rattle.std.specs.Prelude.{◌↔◌, ◌⊎◌, ◌≡◌, List, [], ◌∷◌, ℕ, ◌+◌, ◌≤◌, ◌<◌, length, get_or, replicate}
-use Rattle.rules.specs.declared.Refusal.TheVariants.{Version, Limit, Room, Lists}
+use Rattle.rules.specs.Verdict.{Version, Limit, Room, Lists}
 use Rattle.rules.specs.declared.Stream.{Stream}
 use Rattle.rules.specs.Limits.{limit, last_edition}
 use Rattle.rules.specs.Term.{Word, next, placed, places}

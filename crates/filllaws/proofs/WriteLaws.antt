@@ -6,7 +6,7 @@ use Prim.Native.Nat.{ℕ, ◌≤◌, ◌<◌}
 use native.Mathlib.Omega.{arith}
 use borrow.Author.Tests.{lt-ltb, le-ltb}
 use lib.ListN.{length}
-use Rattle.rules.specs.declared.Refusal.TheVariants.{Accepted, Limit, Room, Lists}
+use Rattle.rules.specs.Verdict.{Accepted, Limit, Room, Lists}
 use Rattle.rules.specs.Limits.{limit}
 use Rattle.rules.specs.List.{rising, size, block, Form, two_runs, bitmap, form_size}
 use Rattle.rules.specs.Write.{refused, laid, stored, write_list}

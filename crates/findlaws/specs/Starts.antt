@@ -11,7 +11,7 @@
 --   PutOf ts n t at ps after  `after` is ps with `at` as the number of each of the first n terms of ts that is t
 --   Put ts t at ps after  so it is of all of ts
 use Rattle.std.specs.Prelude.{◌≡◌, List, ℕ, ◌^◌, ◌≤◌, ◌<◌, length, get_or}
-use Rattle.rules.specs.declared.Refusal.TheVariants.{Accepted}
+use Rattle.rules.specs.Verdict.{Accepted}
 use Rattle.rules.specs.ReadTerm.{term_refusal}
 use Rattle.rules.specs.Index.{index_t, term_part}
 use Rattle.laws.specs.Blocks.{block_at}

@@ -2,7 +2,7 @@
 #![tactic(auto)]
 
 ghost use Rattle.std.specs.Prelude.{◌≡◌, ◌<◌};
-ghost use Rattle.rules.specs.declared.Refusal.TheVariants.{Accepted};
+ghost use Rattle.rules.specs.Verdict.{Accepted};
 ghost use Rattle.rules.specs.Parts.{after};
 ghost use Rattle.rules.specs.ReadTerm.{lists_of, pages_of};
 ghost use Rattle.rules.specs.Index.{index_t, term_part, index_refusal};

@@ -9,8 +9,8 @@ use native.Mathlib.Omega.{arith}
 use borrow.Author.Tests.{le-ltb, lt-ltb, ltb-false, eq-eqb, ne_eqb, not-false, le-leb, lt-leb}
 use lib.Dec.{ltb, leb, eqb, lit<}
 use lib.ListN.{length, get_or}
-use Rattle.rules.specs.declared.Refusal.{Refusal}
-use Rattle.rules.specs.declared.Refusal.TheVariants.{Accepted, Short, Length, Version}
+use Rattle.rules.specs.Verdict.{Verdict}
+use Rattle.rules.specs.Verdict.{Accepted, Short, Length, Version}
 use Rattle.rules.specs.Refusal.{accepted, and_then}
 use Rattle.rules.specs.Limits.{up_to}
 use Rattle.rules.specs.ReadList.{stated}
@@ -53,7 +53,7 @@ up_to_one v e = omega (arith, up_to_parts 1 v e)
 
 -- ---- the three tests
 
-module _ (h last : ℕ) (s : List ℕ) (r : Refusal) where
+module _ (h last : ℕ) (s : List ℕ) (r : Verdict) where
   pub head_short : length s < h → head_tests h last s r ≡ Short
   head_short l = rw (lt-ltb (length s) h l)
 
@@ -84,8 +84,8 @@ module _ (h last : ℕ) (s : List ℕ) (r : Refusal) where
 
   pub head_passed : head_tests h last s r ≡ Accepted → Headed h last s × (r ≡ Accepted)
   head_passed e =
-      let t2 : Refusal = cond (not (up_to last (get_or s 4 0))) Version r in
-      let t1 : Refusal = cond (not (eqb (stated s) (length s))) Length t2 in
+      let t2 : Verdict = cond (not (up_to last (get_or s 4 0))) Version r in
+      let t1 : Verdict = cond (not (eqb (stated s) (length s))) Length t2 in
       let a = test_passed (ltb (length s) h) Short t1 (lit< tt) e in
       let b = test_passed (not (eqb (stated s) (length s))) Length t2 (lit< tt) a.1 in
       let c = test_passed (not (up_to last (get_or s 4 0))) Version r (lit< tt) b.1 in (

@@ -10,8 +10,8 @@ use borrow.Author.Tests.{le-ltb, lt-ltb, ltb-false}
 use lib.Dec.{ltb, lit<}
 use lib.ListN.{length, get_or, take, drop, length-append, length-drop, take-append-drop}
 use lib.Seq.{take_at, drop_at, get_or-append-add, drop-drop}
-use Rattle.rules.specs.declared.Refusal.{Refusal}
-use Rattle.rules.specs.declared.Refusal.TheVariants.{Accepted, Short, Length}
+use Rattle.rules.specs.Verdict.{Verdict}
+use Rattle.rules.specs.Verdict.{Accepted, Short, Length}
 use Rattle.rules.specs.Refusal.{accepted, and_then}
 use Rattle.rules.specs.Bytes.{Bytes, be, be_at, sized}
 use Rattle.rules.specs.ReadList.{stated}
@@ -128,7 +128,7 @@ module _ (h : ℕ) (s : List ℕ) where
 
 -- ---- a block at the front of what remains
 
-module _ (h : ℕ) (f : List ℕ → Refusal) (s : List ℕ) where
+module _ (h : ℕ) (f : List ℕ → Verdict) (s : List ℕ) where
   pub inside_parts : inside h f s ≡ Accepted → Inside h f s
   unfolding inside
   inside_parts e =
@@ -172,7 +172,7 @@ module _ (h : ℕ) (f : List ℕ → Refusal) (s : List ℕ) where
       go false true = refl
       go false false = refl
 
-pub inside_append : (h : ℕ) (f : List ℕ → Refusal) (b t : List ℕ) → Whole b → h ≤ length b → inside h f (b ++ t) ≡ f b
+pub inside_append : (h : ℕ) (f : List ℕ → Verdict) (b t : List ℕ) → Whole b → h ≤ length b → inside h f (b ++ t) ≡ f b
 inside_append h f b t w l =
     let e = stated_whole b t w in
     inside_is h f (b ++ t) (omega arith) (rw length-append (omega arith)) ∙ ap f (rw e (take_at b t (length b) refl))
@@ -182,7 +182,7 @@ inside_append h f b t w l =
 ends_within : (n p q : ℕ) → 0 < q → q ≤ n - p → p + q ≤ n
 ends_within n p q h g = omega arith
 
-pub inside_lies : (h : ℕ) (f : List ℕ → Refusal) (from : ℕ) (s : List ℕ) (k : ℕ) → 0 < h
+pub inside_lies : (h : ℕ) (f : List ℕ → Verdict) (from : ℕ) (s : List ℕ) (k : ℕ) → 0 < h
     → Inside h f (after k (drop from s)) → Lies h (block_at from k s) s (part k (drop from s))
 inside_lies h f from s k l i =
     let p : ℕ = block_at from k s in

@@ -7,64 +7,66 @@ use native.Mathlib.Omega.{arith}
 use lib.Dec.{eqb}
 use lib.ListN.{get_or}
 use borrow.Author.Tests.{eqb-true, not-true, not-false}
-use Rattle.rules.specs.declared.Refusal.{Refusal}
-use Rattle.rules.specs.declared.Refusal.TheVariants.{Accepted, Short, Length, Version, Limit}
-use Rattle.rules.specs.declared.Refusal.TheVariants.{Layout, Runs, Parts, Question, Room, Lists}
+use Rattle.std.specs.Prelude.{Ok, Err}
+use Rattle.rules.specs.declared.Refusal.TheVariants as Named
+use Rattle.rules.specs.Verdict.{Verdict}
+use Rattle.rules.specs.Verdict.{Accepted, Short, Length, Version, Limit}
+use Rattle.rules.specs.Verdict.{Layout, Runs, Parts, Question, Room, Lists}
 use Rattle.rules.specs.Refusal.{number, accepted, and_then}
 
 -- ---- numbers
 
 -- number k + 1 of a list of refusals, Accepted past its end
-abbrev named : ℕ → Refusal
+abbrev named : ℕ → Verdict
 named zero = Accepted
 named (suc k) =
     get_or (Short ∷ Length ∷ Version ∷ Limit ∷ Layout ∷ Runs ∷ Parts ∷ Question ∷ Room ∷ Lists ∷ []) k Accepted
 
-named_number : (r : Refusal) → named (number r) ≡ r
-named_number Accepted = refl
-named_number Short = refl
-named_number Length = refl
-named_number Version = refl
-named_number Limit = refl
-named_number Layout = refl
-named_number Runs = refl
-named_number Parts = refl
-named_number Question = refl
-named_number Room = refl
-named_number Lists = refl
+named_number : (r : Verdict) → named (number r) ≡ r
+named_number (Ok _) = refl
+named_number (Err Named.Short) = refl
+named_number (Err Named.Length) = refl
+named_number (Err Named.Version) = refl
+named_number (Err Named.Limit) = refl
+named_number (Err Named.Layout) = refl
+named_number (Err Named.Runs) = refl
+named_number (Err Named.Parts) = refl
+named_number (Err Named.Question) = refl
+named_number (Err Named.Room) = refl
+named_number (Err Named.Lists) = refl
 
-pub number_inj : (r q : Refusal) → number r ≡ number q → r ≡ q
+pub number_inj : (r q : Verdict) → number r ≡ number q → r ≡ q
 number_inj r q e = sym (named_number r) ∙ ap named e ∙ named_number q
 
 -- ---- accepted
 
-pub accepted_true : (r : Refusal) → accepted r ≡ true → r ≡ Accepted
+pub accepted_true : (r : Verdict) → accepted r ≡ true → r ≡ Accepted
 unfolding accepted
 accepted_true r e = number_inj r Accepted (eqb-true (number r) 0 e)
 
-pub true_accepted : (r : Refusal) → r ≡ Accepted → accepted r ≡ true
+pub true_accepted : (r : Verdict) → r ≡ Accepted → accepted r ≡ true
 unfolding accepted
 true_accepted r e = rw e
 
 -- ---- the first of two
 
-pub and_then_next : (r q : Refusal) → r ≡ Accepted → and_then r q ≡ q
+pub and_then_next : (r q : Verdict) → r ≡ Accepted → and_then r q ≡ q
 unfolding and_then
 and_then_next r q e = rw (true_accepted r e)
 
-pub and_then_stop : (r q : Refusal) → accepted r ≡ false → and_then r q ≡ r
+pub and_then_stop : (r q : Verdict) → accepted r ≡ false → and_then r q ≡ r
 unfolding and_then
 and_then_stop r q e = rw e
 
 -- what a test b of the refusal r tells, where r is q: the answer of q and then x, or that q has passed
-module _ (b : Bool) (r q : Refusal) (told : b ≡ accepted r) (is : r ≡ q) where
-  pub told_stop : (x : Refusal) → b ≡ false → r ≡ and_then q x
+module _ (b : Bool) (r q : Verdict) (told : b ≡ accepted r) (is : r ≡ q) where
+  pub told_stop : (x : Verdict) → b ≡ false → r ≡ and_then q x
   told_stop x h = is ∙ sym (and_then_stop q x (ap accepted (sym is) ∙ sym told ∙ h))
 
   pub told_passed : b ≡ true → q ≡ Accepted
   told_passed h = sym is ∙ accepted_true r (sym told ∙ h)
 
-pub and_then_assoc : (a b q : Refusal) → and_then (and_then a b) q ≡ and_then a (and_then b q)
+pub and_then_assoc : (a b q : Verdict) → and_then (and_then a b) q ≡ and_then a (and_then b q)
 unfolding and_then
 and_then_assoc a b q = go (accepted a) refl
   where
@@ -72,7 +74,7 @@ and_then_assoc a b q = go (accepted a) refl
     go true e = refl
     go false e = rw e
 
-pub and_then_both : (r q : Refusal) → and_then r q ≡ Accepted → (r ≡ Accepted) × (q ≡ Accepted)
+pub and_then_both : (r q : Verdict) → and_then r q ≡ Accepted → (r ≡ Accepted) × (q ≡ Accepted)
 unfolding and_then
 and_then_both r q = go (accepted r) refl
   where
@@ -82,11 +84,11 @@ and_then_both r q = go (accepted r) refl
 
 -- ---- a test and what follows it
 
-refused_not : (r : Refusal) → 0 < number r → r ≡ Accepted → ⊥
+refused_not : (r : Verdict) → 0 < number r → r ≡ Accepted → ⊥
 refused_not r h e = omega (arith, ap number e)
 
 -- where the answer is Accepted, a test that leads to a refusal has failed
-pub test_passed : (b : Bool) (r q : Refusal) → 0 < number r → cond b r q ≡ Accepted → (b ≡ false) × (q ≡ Accepted)
+pub test_passed : (b : Bool) (r q : Verdict) → 0 < number r → cond b r q ≡ Accepted → (b ≡ false) × (q ≡ Accepted)
 test_passed true r q h e = absurd (refused_not r h e)
 test_passed false r q h e = (refl, e)
 

@@ -9,8 +9,8 @@ use borrow.Author.Tests.{le-ltb, ltb-false}
 use lib.Dec.{ltb, lit<}
 use lib.ListN.{length, take, drop, length-append, length-drop, take-append-drop}
 use lib.Seq.{sets, sets-eq, take_at, drop_at}
-use Rattle.rules.specs.declared.Refusal.{Refusal}
-use Rattle.rules.specs.declared.Refusal.TheVariants.{Accepted, Room}
+use Rattle.rules.specs.Verdict.{Verdict}
+use Rattle.rules.specs.Verdict.{Accepted, Room}
 use Rattle.rules.specs.Refusal.{number}
 use Rattle.rules.specs.Write.{Made, refused, laid, stored}
 
@@ -46,7 +46,7 @@ laid_same n room b l e = rw (l, e) (take-append-drop n room)
 -- ---- a writer's result
 
 -- what a test that leads to a refusal leaves of a writer's success
-pub made_passed : (t : Bool) (r : Refusal) (room : List ℕ) (m : Made) → 0 < number r
+pub made_passed : (t : Bool) (r : Verdict) (room : List ℕ) (m : Made) → 0 < number r
     → (cond t (refused r room) m).refusal ≡ Accepted → (t ≡ false) × (m.refusal ≡ Accepted)
 made_passed true r room m h e = absurd (omega (arith, ap number e))
 made_passed false r room m h e = (refl, e)

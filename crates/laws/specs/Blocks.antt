@@ -8,8 +8,8 @@
 --   Inside h f s    inside, its tests by name
 --   Lies h p s b    b are the bytes of s at place p, as many as stated there, h at the least and all within s
 use Rattle.std.specs.Prelude.{true, cond, not, ◌≡◌, List, ℕ, zero, suc, ◌+◌, ◌≤◌, ltb, eqb, length, get_or, take, drop}
-use Rattle.rules.specs.declared.Refusal.{Refusal}
-use Rattle.rules.specs.declared.Refusal.TheVariants.{Accepted, Short, Length, Version}
+use Rattle.rules.specs.Verdict.{Verdict}
+use Rattle.rules.specs.Verdict.{Accepted, Short, Length, Version}
 use Rattle.rules.specs.Limits.{up_to}
 use Rattle.rules.specs.Bytes.{be_at}
 use Rattle.rules.specs.ReadList.{stated}
@@ -19,7 +19,7 @@ pub record Headed (h last : ℕ) (s : List ℕ) : Type 0 where
   pub states : stated s ≡ length s
   pub known : up_to last (get_or s 4 0) ≡ true
 
-abbrev pub head_tests : ℕ → ℕ → List ℕ → Refusal → Refusal
+abbrev pub head_tests : ℕ → ℕ → List ℕ → Verdict → Verdict
 head_tests h last s r =
     cond (ltb (length s) h) Short
     (cond (not (eqb (stated s) (length s))) Length
@@ -34,7 +34,7 @@ unfoldable pub block_at : ℕ → ℕ → List ℕ → ℕ
 block_at h zero s = h
 block_at h (suc k) s = block_at h k s + be_at 4 s (block_at h k s)
 
-pub record Inside (h : ℕ) (f : List ℕ → Refusal) (s : List ℕ) : Type 0 where
+pub record Inside (h : ℕ) (f : List ℕ → Verdict) (s : List ℕ) : Type 0 where
   pub header : h ≤ length s
   pub holds : h ≤ stated s
   pub within : stated s ≤ length s

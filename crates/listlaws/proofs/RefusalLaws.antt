@@ -7,8 +7,8 @@ use Prim.Native.Nat.{ℕ, ◌≤◌, ◌<◌}
 use borrow.Author.Tests.{le-ltb, lt-ltb, eq-eqb, ne_eqb, ltb-false, not-false}
 use lib.Dec.{ltb, eqb, lit<}
 use lib.ListN.{length, get_or}
-use Rattle.rules.specs.declared.Refusal.{Refusal}
-use Rattle.rules.specs.declared.Refusal.TheVariants.{Accepted, Version, Limit, Layout, Runs}
+use Rattle.rules.specs.Verdict.{Verdict}
+use Rattle.rules.specs.Verdict.{Accepted, Version, Limit, Layout, Runs}
 use Rattle.rules.specs.Refusal.{and_then}
 use Rattle.rules.specs.Limits.{limit, version, map_version, list_header, up_to}
 use Rattle.rules.specs.List.{Form, two_runs, bitmap, form_of, form_version, form_size}
@@ -54,20 +54,20 @@ module _ (last v : ℕ) (s : List ℕ) where
   form = form_of v (list_u s) (list_n s)
 
   -- the tests behind the length and the limit
-  abbrev last_test : Refusal
+  abbrev last_test : Verdict
   last_test = cond (not (is_block form s (list_u s) (decode s))) Runs Accepted
 
-  abbrev sized_test : Refusal
+  abbrev sized_test : Verdict
   sized_test = cond (not (eqb (length s) (form_size form (list_u s) (list_n s)))) Layout last_test
 
-  abbrev formed_test : Refusal
+  abbrev formed_test : Verdict
   formed_test = cond (not (eqb (get_or s 4 0) (form_version form))) Version sized_test
 
-  abbrev left : Refusal
+  abbrev left : Verdict
   left = cond (ltb (list_u s) (list_n s)) Layout formed_test
 
   -- the tests behind the first three
-  abbrev pub tests : Refusal
+  abbrev pub tests : Verdict
   tests = cond (ltb limit (list_u s)) Limit left
 
   -- the first three tests, and then the others

@@ -7,7 +7,7 @@ use native.Mathlib.Omega.{arith}
 use borrow.Author.Tests.{ltb-false}
 use lib.Dec.{ltb}
 use lib.ListN.{length}
-use Rattle.rules.specs.declared.Refusal.TheVariants.{Question, Room}
+use Rattle.rules.specs.Verdict.{Question, Room}
 use Rattle.rules.specs.Refusal.{accepted, and_then}
 use Rattle.rules.specs.Index.{index_refusal}
 use Rattle.rules.specs.Write.{laid}

@@ -8,7 +8,7 @@ use native.Mathlib.Omega.{arith}
 use borrow.Author.Tests.{eq-eqb, ne_eqb, le-leb, lt-leb}
 use lib.Dec.{eqb, ltb}
 use lib.ListN.{length, get_or, length-append}
-use Rattle.rules.specs.declared.Refusal.TheVariants.{Question}
+use Rattle.rules.specs.Verdict.{Question}
 use Rattle.rules.specs.Refusal.{accepted}
 use Rattle.rules.specs.Index.{index_v, index_n, index_t, index_refusal}
 use Rattle.rules.specs.Seek.{Found, none, page}

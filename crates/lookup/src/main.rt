@@ -2,7 +2,7 @@
 #![tactic(auto)]
 
 ghost use Rattle.std.specs.Prelude.{◌≡◌, ◌≤◌, length};
-ghost use Rattle.rules.specs.declared.Refusal.TheVariants.{Question};
+ghost use Rattle.rules.specs.Verdict.{Question};
 ghost use Rattle.rules.specs.Refusal.{and_then};
 ghost use Rattle.rules.specs.Index.{index_refusal};
 ghost use Rattle.rules.specs.Ask.{reply};

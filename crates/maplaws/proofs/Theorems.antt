@@ -9,7 +9,7 @@ use native.Mathlib.Omega.{arith}
 use borrow.Author.Tests.{le-ltb}
 use lib.Dec.{leb}
 use lib.ListN.{length}
-use Rattle.rules.specs.declared.Refusal.TheVariants.{Accepted}
+use Rattle.rules.specs.Verdict.{Accepted}
 use Rattle.rules.specs.Limits.{limit, map_edition}
 use Rattle.rules.specs.Bytes.{Bytes, same}
 use Rattle.rules.specs.List.{rising, valid_list, Form, two_runs, bitmap, dense, form_of, form_block}

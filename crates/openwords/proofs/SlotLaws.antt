@@ -6,7 +6,7 @@ use native.Mathlib.Decide.{ℕ_discrete}
 use native.Mathlib.Omega.{arith}
 use lib.ListN.{length, get_or, drop, length-drop}
 use lib.Seq.{paste, length-paste, length-take-le}
-use Rattle.rules.specs.declared.Refusal.TheVariants.{Accepted}
+use Rattle.rules.specs.Verdict.{Accepted}
 use Rattle.rules.specs.ReadList.{list_u, list_n, form_at, list_refusal}
 use Rattle.rules.specs.ReadTerm.{counts_of, positions_of}
 use Rattle.rules.specs.Index.{index_v, index_t, term_part, index_refusal}

@@ -7,7 +7,7 @@ use native.Mathlib.Omega.{arith}
 use borrow.Rule.Slice.PartMut.{mid_of, post_of, put_mid, mid_len}
 use lib.ListN.{length, get_or, take, drop, length-take}
 use lib.Seq.{get_or-take, take-append_seam}
-use Rattle.rules.specs.declared.Refusal.TheVariants.{Accepted}
+use Rattle.rules.specs.Verdict.{Accepted}
 use Rattle.rules.specs.Write.{laid}
 use Rattle.rules.specs.Index.{index_v, index_n, index_refusal}
 use Rattle.rules.specs.Common.{Tally, common_from}

@@ -7,8 +7,8 @@ use native.Mathlib.Decide.{dec_lt}
 use native.Mathlib.Omega.{arith}
 use borrow.Author.Tests.{lt-ltb, le-ltb, leb-true, le-leb, lt-leb, eq-eqb, ne_eqb}
 use lib.ListN.{length, take}
-use Rattle.rules.specs.declared.Refusal.{Refusal}
-use Rattle.rules.specs.declared.Refusal.TheVariants.{Question, Room}
+use Rattle.rules.specs.Verdict.{Verdict}
+use Rattle.rules.specs.Verdict.{Question, Room}
 use Rattle.rules.specs.declared.Screened.{Screened}
 use Rattle.rules.specs.Refusal.{accepted}
 use Rattle.rules.specs.Limits.{screen_limit}
@@ -45,7 +45,7 @@ module _ (T r : ℕ) (ts : List ℕ) where
 -- ---- the card, then r and the words
 
 module _ (s : List ℕ) (b n : ℕ) (ts pages counts : List ℕ) where
-  pub screen_card : (r : Refusal) → r ≡ index_refusal s → accepted r ≡ false
+  pub screen_card : (r : Verdict) → r ≡ index_refusal s → accepted r ≡ false
       → unshown r pages counts ≡ screen s b n ts pages counts
   unfolding screen
   screen_card r e a = rw (← e, a)

@@ -4,7 +4,7 @@
 --                 words ts from b on of the card s, and these are its counts
 --   Shows n ps x  x says how many the pages ps are, whether they fill a screen of n, and what bound the next one has
 use Rattle.std.specs.Prelude.{cond, ◌≡◌, List, [], ◌∷◌, ℕ, ◌+◌, ◌-◌, ◌≤◌, length, get_or, take}
-use Rattle.rules.specs.declared.Refusal.TheVariants.{Accepted}
+use Rattle.rules.specs.Verdict.{Accepted}
 use Rattle.rules.specs.declared.Screened.{Screened}
 use Rattle.rules.specs.Limits.{limit}
 use Rattle.rules.specs.Index.{index_v, index_n}

@@ -9,8 +9,8 @@ use native.Mathlib.Nat.{add-zero, zero-add}
 use native.Mathlib.Omega.{arith}
 use lib.ListN.{length, take, drop, length-take, length-drop}
 use lib.Seq.{take-length, get_or-take, get_or-drop, drop-drop, ext_get_or}
-use Rattle.rules.specs.declared.Refusal.{Refusal}
-use Rattle.rules.specs.declared.Refusal.TheVariants.{Accepted}
+use Rattle.rules.specs.Verdict.{Verdict}
+use Rattle.rules.specs.Verdict.{Accepted}
 use Rattle.rules.specs.Refusal.{accepted, and_then}
 use Rattle.rules.specs.Bytes.{be_at}
 use Rattle.rules.specs.ReadList.{stated}
@@ -77,7 +77,7 @@ part_front k s = refl
 
 -- ---- a block at a byte of the bytes that hold it
 
-module _ (h : ℕ) (f : List ℕ → Refusal) (at : ℕ) (s : List ℕ) where
+module _ (h : ℕ) (f : List ℕ → Verdict) (at : ℕ) (s : List ℕ) where
   -- the test of its length, and then that of the part that it states
   front_then : inside h f (drop at s) ≡ and_then (front_refusal h (drop at s)) (f (take (be_at 4 s at) (drop at s)))
   front_then =
@@ -92,7 +92,7 @@ module _ (h : ℕ) (f : List ℕ → Refusal) (at : ℕ) (s : List ℕ) where
       (omega (arith, i.holds), omega (arith, i.within))
 
 -- what a test b of the answer r of `check_front` tells
-module _ (h at : ℕ) (s : List ℕ) (b : Bool) (r : Refusal) (told : b ≡ accepted r)
+module _ (h at : ℕ) (s : List ℕ) (b : Bool) (r : Verdict) (told : b ≡ accepted r)
     (is : r ≡ front_refusal h (drop at s)) where
   passed_front : b ≡ true → front_refusal h (drop at s) ≡ Accepted
   passed_front = told_passed b r (front_refusal h (drop at s)) told is
@@ -100,13 +100,13 @@ module _ (h at : ℕ) (s : List ℕ) (b : Bool) (r : Refusal) (told : b ≡ acce
   pub front_held : 4 ≤ h → at ≤ length s → b ≡ true → Held at s
   front_held k l e = inside_held h (λ _. Accepted) at s k l (passed_front e)
 
-  module _ (f : List ℕ → Refusal) where
+  module _ (f : List ℕ → Verdict) where
     pub front_refused : b ≡ false → r ≡ inside h f (drop at s)
     front_refused e = told_stop b r (front_refusal h (drop at s)) told is (f (take (be_at 4 s at) (drop at s))) e
         ∙ sym (front_then h f at s)
 
     -- x is the refusal of the part p
-    pub front_answers : (p : List ℕ) (x : Refusal) → b ≡ true → p ≡ take (be_at 4 s at) (drop at s) → x ≡ f p
+    pub front_answers : (p : List ℕ) (x : Verdict) → b ≡ true → p ≡ take (be_at 4 s at) (drop at s) → x ≡ f p
         → x ≡ inside h f (drop at s)
     front_answers p x e part_is answer =
         answer ∙ ap f part_is

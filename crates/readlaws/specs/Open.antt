@@ -22,7 +22,7 @@
 --   SomeOne run        they have one at least
 --   LastOne run p      the last of them stands at place p
 use Rattle.std.specs.Prelude.{◌≡◌, List, ℕ, zero, suc, ◌+◌, ◌-◌, ◌*◌, ◌/◌, ◌^◌, ◌≤◌, ◌<◌, length}
-use Rattle.rules.specs.declared.Refusal.TheVariants.{Accepted}
+use Rattle.rules.specs.Verdict.{Accepted}
 use Rattle.rules.specs.Limits.{limit}
 use Rattle.rules.specs.Bytes.{be_at}
 use Rattle.rules.specs.Runs.{run_bit}

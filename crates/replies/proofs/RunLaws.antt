@@ -8,14 +8,14 @@ use borrow.Author.Tests.{le-leb, lt-leb, lt-ltb}
 use lib.Dec.{ltb, leb-suc-suc}
 use lib.ListN.{length, take, drop, length-append, length-take, length-drop, take-append-drop}
 use lib.Seq.{take_at, drop_at, drop-drop}
-use Rattle.rules.specs.declared.Refusal.{Refusal}
-use Rattle.rules.specs.declared.Refusal.TheVariants.{Accepted, Room}
+use Rattle.rules.specs.Verdict.{Verdict}
+use Rattle.rules.specs.Verdict.{Accepted, Room}
 use Rattle.rules.specs.Write.{laid}
 use Rattle.rules.specs.Ask.{fitting, fitted, joined, put}
 use Rattle.replies.specs.Running.{outcome, halted, running}
 
 -- two outcomes are one where their parts are
-same_outcome : (r q : Refusal) (n m u v : ℕ) (s t : List ℕ) → r ≡ q → n ≡ m → u ≡ v → s ≡ t → outcome r n u s
+same_outcome : (r q : Verdict) (n m u v : ℕ) (s t : List ℕ) → r ≡ q → n ≡ m → u ≡ v → s ≡ t → outcome r n u s
     ≡ outcome q m v t
 same_outcome r q n m u v s t a b c d = cc
 

@@ -7,7 +7,7 @@ use native.Mathlib.Omega.{arith}
 use borrow.Rule.Slice.PartMut.{mid_of, put_mid}
 use lib.ListN.{length, get_or, take, drop, length-append, length-take, length-drop, take-append-drop}
 use lib.Seq.{drop-length}
-use Rattle.rules.specs.declared.Refusal.TheVariants.{Accepted, Room}
+use Rattle.rules.specs.Verdict.{Accepted, Room}
 use Rattle.rules.specs.Write.{laid}
 use Rattle.rules.specs.Index.{index_t}
 use Rattle.rules.specs.Questions.{good_question, count_of, answer, replies}

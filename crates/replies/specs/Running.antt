@@ -10,8 +10,8 @@
 --   Stopped run r                where a turn at `run` wrote nothing, r is the outcome of the whole
 --   Ended run r                  where `run` is behind the last question, r is the outcome of the whole
 use Rattle.std.specs.Prelude.{true, cond, ◌≡◌, List, ◌++◌, ℕ, ◌+◌, ◌-◌, ◌≤◌, ◌<◌, ltb, length, take, drop}
-use Rattle.rules.specs.declared.Refusal.{Refusal}
-use Rattle.rules.specs.declared.Refusal.TheVariants.{Accepted, Room}
+use Rattle.rules.specs.Verdict.{Verdict}
+use Rattle.rules.specs.Verdict.{Accepted, Room}
 use Rattle.rules.specs.declared.Outcome.{Outcome}
 use Rattle.rules.specs.Write.{laid}
 use Rattle.rules.specs.Index.{index_t}
@@ -19,7 +19,7 @@ use Rattle.rules.specs.Ask.{fitting, fitted, joined, Asked, asked, put}
 use Rattle.questions.specs.Formed.{formed, answers_to}
 use Rattle.replies.specs.declared.Run.{Run}
 
-abbrev pub outcome : Refusal → ℕ → ℕ → List ℕ → Asked
+abbrev pub outcome : Verdict → ℕ → ℕ → List ℕ → Asked
 outcome r n u room = record { refusal = r; answered = n; used = u; room = room }
 
 unfoldable pub halted : ℕ → ℕ → ℕ → List (List ℕ) → List ℕ → List ℕ → Asked

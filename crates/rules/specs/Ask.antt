@@ -10,8 +10,8 @@
 --   put r room          the same, of a reply whose answers are laid into the room
 --   ask s qs room       the call
 use Rattle.std.specs.Prelude.{true, false, cond, not, List, [], ◌∷◌, ◌++◌, ℕ, ◌-◌, ltb, leb, length}
-use Rattle.rules.specs.declared.Refusal.{Refusal}
-use Rattle.rules.specs.declared.Refusal.TheVariants.{Accepted, Question, Room}
+use Rattle.rules.specs.Verdict.{Verdict}
+use Rattle.rules.specs.Verdict.{Accepted, Question, Room}
 use Rattle.rules.specs.declared.Outcome.{Outcome}
 use Rattle.rules.specs.Refusal.{accepted}
 use Rattle.rules.specs.Write.{laid}
@@ -19,7 +19,7 @@ use Rattle.rules.specs.Index.{index_t, index_refusal}
 use Rattle.rules.specs.Questions.{well_formed, replies}
 
 pub record Replied : Type 0 where
-  pub refusal : Refusal
+  pub refusal : Verdict
   pub answers : List (List ℕ)
 
 unfoldable pub fitting : ℕ → List (List ℕ) → List (List ℕ)
@@ -43,13 +43,13 @@ joined [] = []
 joined (a ∷ rest) = a ++ joined rest
 
 pub record Asked : Type 0 where
-  pub refusal : Refusal
+  pub refusal : Verdict
   pub answered : ℕ
   pub used : ℕ
   pub room : List ℕ
 
 abbrev pub asked : Outcome → List ℕ → Asked
-asked r room = record { refusal = r.refusal; answered = r.answered; used = r.used; room = room }
+asked r room = record { refusal = r.verdict; answered = r.answered; used = r.used; room = room }
 
 unfoldable pub put : Replied → List ℕ → Asked
 put r room = record {

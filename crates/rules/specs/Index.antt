@@ -11,9 +11,9 @@
 --
 --   block, in bytes: 0 length (4) | 4 version (1) | 5 N (4) | 9 T (2) | 11 terms
 use Rattle.std.specs.Prelude.{Bool, true, false, cond, not, ◌&&◌, ◌||◌, List, [], ◌∷◌, ◌++◌, ℕ, zero, suc, ◌+◌, ltb, leb, eqb, length, get_or, take, drop}
-use Rattle.rules.specs.declared.Refusal.{Refusal}
-use Rattle.rules.specs.declared.Refusal.TheVariants.{Accepted, Short, Length, Version, Limit, Layout, Parts}
-use Rattle.rules.specs.declared.Refusal.TheVariants.{Room}
+use Rattle.rules.specs.Verdict.{Verdict}
+use Rattle.rules.specs.Verdict.{Accepted, Short, Length, Version, Limit, Layout, Parts}
+use Rattle.rules.specs.Verdict.{Room}
 use Rattle.rules.specs.Refusal.{accepted}
 use Rattle.rules.specs.Limits.{limit, term_limit, last_edition, up_to, term_header, index_header, four_bytes}
 use Rattle.rules.specs.Bytes.{be, be_at}
@@ -70,7 +70,7 @@ unfoldable pub words_of : List ℕ → List Word
 words_of s = words_from (index_t s) 0 s
 
 -- the refusal of T term blocks of an index of version v, and of what is left behind them
-unfoldable pub terms_refusal : ℕ → ℕ → ℕ → List ℕ → Refusal
+unfoldable pub terms_refusal : ℕ → ℕ → ℕ → List ℕ → Verdict
 terms_refusal v zero N s = cond (ltb 0 (length s)) Layout Accepted
 terms_refusal v (suc T) N s =
     elim (accepted (inside term_header (term_refusal v) s)) [
@@ -81,7 +81,7 @@ terms_refusal v (suc T) N s =
       ]
     ]
 
-unfoldable pub index_refusal : List ℕ → Refusal
+unfoldable pub index_refusal : List ℕ → Verdict
 index_refusal s =
     cond (ltb (length s) index_header) Short
     (cond (not (eqb (stated s) (length s))) Length
@@ -90,7 +90,7 @@ index_refusal s =
     (terms_refusal (index_v s) (index_t s) (index_n s) (drop index_header s)))))
 
 -- the refusal of closing, before anything is written
-unfoldable pub close_refusal : List ℕ → ℕ → ℕ → ℕ → ℕ → Refusal
+unfoldable pub close_refusal : List ℕ → ℕ → ℕ → ℕ → ℕ → Verdict
 close_refusal buffer used v N T =
     cond (ltb (length buffer) used) Room
     (cond (ltb used index_header) Short

@@ -7,8 +7,8 @@
 --   numbers_of f qs          the whole four-byte numbers of the bytes qs, at most f
 --   printed s qs            the program's text for the card file s and the question file qs
 use Rattle.std.specs.Prelude.{true, false, cond, ◌&&◌, ◌||◌, List, [], ◌∷◌, ◌++◌, ℕ, zero, suc, ◌+◌, ◌/◌, ◌%◌, ltb, length, drop}
-use Rattle.rules.specs.declared.Refusal.{Refusal}
-use Rattle.rules.specs.declared.Refusal.TheVariants.{Question, Room}
+use Rattle.rules.specs.Verdict.{Verdict}
+use Rattle.rules.specs.Verdict.{Question, Room}
 use Rattle.rules.specs.Refusal.{number, accepted}
 use Rattle.rules.specs.Bytes.{be_at}
 use Rattle.rules.specs.Index.{index_refusal}
@@ -42,7 +42,7 @@ lines (a ∷ rest) = line a ++ lines rest
 unfoldable pub refused_word : List ℕ
 refused_word = 114 ∷ (101 ∷ (102 ∷ (117 ∷ (115 ∷ (101 ∷ (100 ∷ (32 ∷ [])))))))
 
-unfoldable pub refused_line : Refusal → List ℕ
+unfoldable pub refused_line : Verdict → List ℕ
 refused_line r = cond (accepted r) [] (refused_word ++ line (number r ∷ []))
 
 unfoldable pub numbers_of : ℕ → List ℕ → List ℕ

@@ -16,9 +16,9 @@
 --   ScreenShown s b n ts pages counts r pages' counts'  r answers a screen of n pages of the words ts from b on of the
 --                                   card s, and leaves the rooms as `pages'` and `counts'`
 --   Printed s qs text r after       r is the length of what the program prints for two files, laid into the text
-use Rattle.std.specs.Prelude.{◌≡◌, List, ℕ, length}
+use Rattle.std.specs.Prelude.{◌≡◌, List, ℕ, length, Result}
 use Rattle.rules.specs.declared.Refusal.{Refusal}
-use Rattle.rules.specs.declared.Written.{Written}
+use Rattle.rules.specs.Verdict.{Verdict}
 use Rattle.rules.specs.declared.Outcome.{Outcome}
 use Rattle.rules.specs.declared.Screened.{Screened}
 use Rattle.rules.specs.declared.Stream.{Stream}
@@ -36,16 +36,16 @@ use Rattle.rules.specs.Program.{printed}
 abbrev pub Determined : {A : Type 0} → (A → Type 0) → Type 0
 Determined P = (p q : _) → P p → P q → p ≡ q
 
-abbrev pub ListChecked : List ℕ → Refusal → Type 0
+abbrev pub ListChecked : List ℕ → Verdict → Type 0
 ListChecked s r = r ≡ list_refusal s
 
-abbrev pub ListWritten : ℕ → List ℕ → List ℕ → Written → List ℕ → Type 0
+abbrev pub ListWritten : ℕ → List ℕ → List ℕ → Result ℕ Refusal → List ℕ → Type 0
 ListWritten U xs room r after = made r after ≡ write_list U xs room
 
-abbrev pub TermChecked : ℕ → List ℕ → Refusal → Type 0
+abbrev pub TermChecked : ℕ → List ℕ → Verdict → Type 0
 TermChecked v s r = r ≡ term_refusal v s
 
-abbrev pub TermWritten : ℕ → ℕ → Word → List ℕ → Written → List ℕ → Type 0
+abbrev pub TermWritten : ℕ → ℕ → Word → List ℕ → Result ℕ Refusal → List ℕ → Type 0
 TermWritten v N t room r after = made r after ≡ write_term v N t room
 
 abbrev pub TermBegun : ℕ → ℕ → ℕ → ℕ → ℕ → List ℕ → Streamed → List ℕ → Type 0
@@ -57,16 +57,16 @@ PostingsPut s t room r after = streaming r after ≡ put_postings s t room
 abbrev pub TermEnded : Stream → List ℕ → Streamed → List ℕ → Type 0
 TermEnded s room r after = streaming r after ≡ end_term s room
 
-abbrev pub IndexChecked : List ℕ → Refusal → Type 0
+abbrev pub IndexChecked : List ℕ → Verdict → Type 0
 IndexChecked s r = r ≡ index_refusal s
 
-abbrev pub IndexClosed : List ℕ → ℕ → ℕ → ℕ → ℕ → Written → List ℕ → Type 0
+abbrev pub IndexClosed : List ℕ → ℕ → ℕ → ℕ → ℕ → Result ℕ Refusal → List ℕ → Type 0
 IndexClosed buffer used v N T r after = made r after ≡ close_index buffer used v N T
 
 abbrev pub Answered : List ℕ → List ℕ → List ℕ → Outcome → List ℕ → Type 0
 Answered s qs room r after = asked r after ≡ ask s qs room
 
-abbrev pub ScreenShown : List ℕ → ℕ → ℕ → List ℕ → List ℕ → List ℕ → Screened → List ℕ → List ℕ → Type 0
+abbrev pub ScreenShown : List ℕ → ℕ → ℕ → List ℕ → List ℕ → List ℕ → Result Screened Refusal → List ℕ → List ℕ → Type 0
 ScreenShown s b n ts pages counts r pages' counts' = screening r pages' counts' ≡ screen s b n ts pages counts
 
 abbrev pub Printed : List ℕ → List ℕ → List ℕ → ℕ → List ℕ → Type 0

@@ -11,8 +11,8 @@
 --   part_refusal v s that of a list in a term: of pages, v is the version of the index; of counts and positions 1, since
 --                   they are never bitmaps
 use Rattle.std.specs.Prelude.{Bool, cond, not, ◌&&◌, List, [], ◌∷◌, ℕ, zero, suc, ◌+◌, ◌*◌, ◌^◌, ltb, eqb, length, get_or}
-use Rattle.rules.specs.declared.Refusal.{Refusal}
-use Rattle.rules.specs.declared.Refusal.TheVariants.{Accepted, Short, Length, Version, Limit, Layout, Runs}
+use Rattle.rules.specs.Verdict.{Verdict}
+use Rattle.rules.specs.Verdict.{Accepted, Short, Length, Version, Limit, Layout, Runs}
 use Rattle.rules.specs.Limits.{limit, version, map_version, list_header, up_to}
 use Rattle.rules.specs.Bytes.{be_at, same}
 use Rattle.rules.specs.Runs.{run_bit, field}
@@ -66,7 +66,7 @@ decode s = form_read (form_at s) s
 unfoldable pub is_block : Form → List ℕ → ℕ → List ℕ → Bool
 is_block f s U xs = rising 0 U xs && same s (form_block f U xs)
 
-unfoldable pub refusal_in : ℕ → ℕ → List ℕ → Refusal
+unfoldable pub refusal_in : ℕ → ℕ → List ℕ → Verdict
 refusal_in last v s =
     let f : Form = form_of v (list_u s) (list_n s) in
     cond (ltb (length s) list_header) Short
@@ -78,8 +78,8 @@ refusal_in last v s =
     (cond (not (eqb (length s) (form_size f (list_u s) (list_n s)))) Layout
     (cond (not (is_block f s (list_u s) (decode s))) Runs Accepted)))))))
 
-unfoldable pub list_refusal : List ℕ → Refusal
+unfoldable pub list_refusal : List ℕ → Verdict
 list_refusal s = refusal_in version version s
 
-unfoldable pub part_refusal : ℕ → List ℕ → Refusal
+unfoldable pub part_refusal : ℕ → List ℕ → Verdict
 part_refusal v s = refusal_in map_version v s

@@ -7,8 +7,8 @@
 --   disagree s       whether its parts disagree, refusal 7
 --   term_refusal v s  the refusal as a word of an index of version v, the first one found
 use Rattle.std.specs.Prelude.{Bool, cond, not, ◌||◌, List, [], ◌∷◌, ◌++◌, ℕ, ◌+◌, ◌-◌, ltb, eqb, length, get_or, take, drop}
-use Rattle.rules.specs.declared.Refusal.{Refusal}
-use Rattle.rules.specs.declared.Refusal.TheVariants.{Accepted, Short, Length, Version, Layout, Parts}
+use Rattle.rules.specs.Verdict.{Verdict}
+use Rattle.rules.specs.Verdict.{Accepted, Short, Length, Version, Layout, Parts}
 use Rattle.rules.specs.Refusal.{and_then}
 use Rattle.rules.specs.Limits.{version, last_edition, list_header, term_header, up_to}
 use Rattle.rules.specs.ReadList.{stated, list_u, list_n, decode, part_refusal}
@@ -55,7 +55,7 @@ disagree s =
     || (not (eqb (list_n (positions_of s)) (list_u (counts_of s)))
     || not (eqb (list_u (positions_of s)) (next 0 (decode (positions_of s))))))
 
-unfoldable pub term_refusal : ℕ → List ℕ → Refusal
+unfoldable pub term_refusal : ℕ → List ℕ → Verdict
 term_refusal v s =
     cond (ltb (length s) term_header) Short
     (cond (not (eqb (stated s) (length s))) Length

@@ -4,8 +4,8 @@
 --   holds r   whether the definitions give what the row says
 --   every rs  whether they do so for all of the rows
 use Rattle.std.specs.Prelude.{Bool, true, false, cond, not, ◌&&◌, ◌||◌, List, [], ◌∷◌, ℕ, ltb, eqb, length, take, replicate}
-use Rattle.rules.specs.declared.Refusal.TheVariants.{Accepted}
-use Rattle.rules.specs.declared.Refusal.{Refusal}
+use Rattle.rules.specs.Verdict.{Accepted}
+use Rattle.rules.specs.Verdict.{Verdict}
 use Rattle.rules.specs.Refusal.{number, accepted}
 use Rattle.rules.specs.Bytes.{same}
 use Rattle.rules.specs.List.{valid_list, block, Form}
@@ -32,12 +32,12 @@ pub data Row : Type 0 where
   -- the block of the list xs below U, which is valid and reads back
   listed : List ℕ → ℕ → List ℕ → Row
   -- bytes that are refused as a list, and as an index
-  not_list : List ℕ → Refusal → Row
-  not_index : List ℕ → Refusal → Row
+  not_list : List ℕ → Verdict → Row
+  not_index : List ℕ → Verdict → Row
   -- the block of a word of N pages in an index of version v, which is accepted and reads back
   termed : List ℕ → ℕ → ℕ → Word → Row
   -- bytes that are refused as a word of an index of version v
-  not_term : ℕ → List ℕ → Refusal → Row
+  not_term : ℕ → List ℕ → Verdict → Row
   -- seeks on the list xs below U, stored in a form
   sought : Form → ℕ → List ℕ → List Step → Row
   -- seeks, looks and pages of the rule on lists below U in an index of version v
@@ -45,20 +45,20 @@ pub data Row : Type 0 where
   -- the card of version v of N and words
   indexed : List ℕ → ℕ → ℕ → List Word → Row
   -- a list below U written into so much room, and the refusal
-  written : ℕ → List ℕ → ℕ → Refusal → Row
+  written : ℕ → List ℕ → ℕ → Verdict → Row
   -- a version, N, pages, positions and U announced, the size of the room, and the refusal
-  begun : ℕ → ℕ → ℕ → ℕ → ℕ → ℕ → Refusal → Row
+  begun : ℕ → ℕ → ℕ → ℕ → ℕ → ℕ → Verdict → Row
   -- the same with runs and the close, and its refusal; a finished block is the one that the writer of a term gives
-  streamed : ℕ → ℕ → ℕ → ℕ → ℕ → List Word → ℕ → Refusal → Row
+  streamed : ℕ → ℕ → ℕ → ℕ → ℕ → List Word → ℕ → Verdict → Row
   -- a card, questions, the size of the room, the refusal, the number answered and all answers
-  asked : List ℕ → List ℕ → ℕ → Refusal → ℕ → List ℕ → Row
+  asked : List ℕ → List ℕ → ℕ → Verdict → ℕ → List ℕ → Row
   -- a card, the bound, r and the words of a screen, the sizes of the rooms for pages and for counts, the refusal, the
   -- pages, the next bound of a full screen, else 0, and the counts
-  screened : List ℕ → ℕ → ℕ → List ℕ → ℕ → ℕ → Refusal → List ℕ → ℕ → List ℕ → Row
+  screened : List ℕ → ℕ → ℕ → List ℕ → ℕ → ℕ → Verdict → List ℕ → ℕ → List ℕ → Row
   -- a card file, a question file and the program's text
   shown : List ℕ → List ℕ → List ℕ → Row
 
-unfoldable pub same_refusal : Refusal → Refusal → Bool
+unfoldable pub same_refusal : Verdict → Verdict → Bool
 same_refusal r q = eqb (number r) (number q)
 
 unfoldable pub same_found : Found → Found → Bool

@@ -12,8 +12,11 @@
 --   showing r ps cs pages counts  that, or refused as 9 where pages or counts do not fit
 --   screen s b r ts pages counts  the call
 use Rattle.std.specs.Prelude.{Bool, cond, not, ◌&&◌, ◌||◌, List, [], ◌∷◌, ℕ, ◌+◌, ◌-◌, ltb, leb, eqb, length, get_or, take}
+use Rattle.std.specs.Prelude.{Result, Ok, Err, is_some}
+use Rattle.std.specs.Option.{unwrap_or}
 use Rattle.rules.specs.declared.Refusal.{Refusal}
-use Rattle.rules.specs.declared.Refusal.TheVariants.{Accepted, Question, Room}
+use Rattle.rules.specs.Verdict.{Verdict}
+use Rattle.rules.specs.Verdict.{Accepted, Question, Room}
 use Rattle.rules.specs.declared.Screened.{Screened}
 use Rattle.rules.specs.Refusal.{accepted}
 use Rattle.rules.specs.Limits.{screen_limit}
@@ -36,24 +39,32 @@ unfoldable pub is_full : ℕ → List ℕ → Bool
 is_full r ps = eqb (length ps) r
 
 pub record Screening : Type 0 where
-  pub refusal : Refusal
+  pub refusal : Verdict
   pub found : ℕ
   pub full : ℕ
   pub next : ℕ
   pub pages : List ℕ
   pub counts : List ℕ
 
-abbrev pub screening : Screened → List ℕ → List ℕ → Screening
-screening r pages counts = record {
-  refusal = r.refusal;
-  found = r.found;
-  full = r.full;
-  next = r.next;
+abbrev pub screening : Result Screened Refusal → List ℕ → List ℕ → Screening
+screening (Ok x) pages counts = record {
+  refusal = Accepted;
+  found = x.found;
+  full = cond (is_some x.next) 1 0;
+  next = unwrap_or x.next 0;
+  pages = pages;
+  counts = counts;
+}
+screening (Err r) pages counts = record {
+  refusal = Err r;
+  found = 0;
+  full = 0;
+  next = 0;
   pages = pages;
   counts = counts;
 }
 
-unfoldable pub unshown : Refusal → List ℕ → List ℕ → Screening
+unfoldable pub unshown : Verdict → List ℕ → List ℕ → Screening
 unshown r pages counts = record { refusal = r; found = 0; full = 0; next = 0; pages = pages; counts = counts }
 
 -- the next screen starts behind the last page

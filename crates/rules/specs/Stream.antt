@@ -20,8 +20,9 @@
 --   together ts               the word that runs are together
 --   stream_word v N P Q U ts room  a whole session with the runs ts: each call gets the room as the last one left it
 use Rattle.std.specs.Prelude.{Bool, cond, not, ◌&&◌, ◌||◌, List, [], ◌∷◌, ◌++◌, ℕ, ◌+◌, ltb, leb, eqb, length, replicate}
-use Rattle.rules.specs.declared.Refusal.{Refusal}
-use Rattle.rules.specs.declared.Refusal.TheVariants.{Accepted, Version, Limit, Room, Lists}
+use Rattle.std.specs.Result.{result_unwrap_or}
+use Rattle.rules.specs.Verdict.{Verdict, verdict}
+use Rattle.rules.specs.Verdict.{Accepted, Version, Limit, Room, Lists}
 use Rattle.rules.specs.declared.Stream.{Stream}
 use Rattle.rules.specs.declared.Streamed.{Streamed}
 use Rattle.rules.specs.Refusal.{accepted}
@@ -32,7 +33,7 @@ use Rattle.rules.specs.Write.{laid}
 use Rattle.rules.specs.InPlace.{emptied, from, added, pointed, form_emptied, form_added, form_pointed}
 use Rattle.rules.specs.Term.{Word, lent_word, sums, next, placed, valid_word}
 
-unfoldable pub announce_refusal : ℕ → ℕ → ℕ → ℕ → ℕ → Refusal
+unfoldable pub announce_refusal : ℕ → ℕ → ℕ → ℕ → ℕ → Verdict
 announce_refusal v N P Q U =
     cond (not (up_to last_edition v)) Version
     (cond (ltb limit N || ltb limit U) Limit
@@ -118,15 +119,15 @@ complete s = eqb s.laid s.pages && (eqb s.filled s.positions && eqb s.base s.u)
 
 -- a call's result: refusal, length of a finished block, the session and the room after it
 pub record Streaming : Type 0 where
-  pub refusal : Refusal
+  pub refusal : Verdict
   pub size : ℕ
   pub stream : Stream
   pub room : List ℕ
 
 abbrev pub streaming : Streamed → List ℕ → Streaming
-streaming r room = record { refusal = r.refusal; size = r.size; stream = r.stream; room = room }
+streaming r room = record { refusal = verdict r.size; size = result_unwrap_or r.size 0; stream = r.stream; room = room }
 
-abbrev pub goes : Refusal → Stream → List ℕ → Streaming
+abbrev pub goes : Verdict → Stream → List ℕ → Streaming
 goes r s room = record { refusal = r; size = 0; stream = s; room = room }
 
 unfoldable pub size_of : Stream → ℕ

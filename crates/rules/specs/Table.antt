@@ -6,8 +6,8 @@
 --   s256, map_term    the block of all numbers below 256, and terms of bitmaps [02 f]
 --   samples          the table; that every row of it holds is the theorem of proofs/SamplesHold.antt
 use Rattle.std.specs.Prelude.{List, [], ◌∷◌, ◌++◌, ℕ, zero, suc, ◌+◌, set, take, replicate}
-use Rattle.rules.specs.declared.Refusal.TheVariants.{Accepted, Short, Length, Version, Limit, Layout, Runs}
-use Rattle.rules.specs.declared.Refusal.TheVariants.{Parts, Question, Room, Lists}
+use Rattle.rules.specs.Verdict.{Accepted, Short, Length, Version, Limit, Layout, Runs}
+use Rattle.rules.specs.Verdict.{Parts, Question, Room, Lists}
 use Rattle.rules.specs.Bytes.{be, sized}
 use Rattle.rules.specs.List.{two_runs, bitmap}
 use Rattle.rules.specs.Term.{Word, term_block}

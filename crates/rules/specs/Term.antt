@@ -15,7 +15,7 @@
 --
 --   block, in bytes: 0 length (4) | 4 version (1) | 5 pages | counts | positions
 use Rattle.std.specs.Prelude.{Bool, true, false, cond, not, ◌&&◌, List, [], ◌∷◌, ◌++◌, ℕ, ◌+◌, ◌-◌, ltb, leb, eqb, length, take, drop}
-use Rattle.rules.specs.declared.Refusal.TheVariants.{Version, Limit, Lists}
+use Rattle.rules.specs.Verdict.{Version, Limit, Lists}
 use Rattle.rules.specs.Limits.{limit, version, last_edition, up_to}
 use Rattle.rules.specs.Bytes.{sized}
 use Rattle.rules.specs.List.{rising, block, Form, form_of, form_block}

@@ -6,22 +6,23 @@
 --   laid b room        the bytes b at the room's front, and behind them what was there
 --   stored b room      b laid into the room, or refused as 9 where it does not fit
 --   write_list U xs room  the writer of a list
-use Rattle.std.specs.Prelude.{cond, not, List, ◌++◌, ℕ, ltb, length, drop}
+use Rattle.std.specs.Prelude.{cond, not, List, ◌++◌, ℕ, ltb, length, drop, Result}
+use Rattle.std.specs.Result.{result_unwrap_or}
 use Rattle.rules.specs.declared.Refusal.{Refusal}
-use Rattle.rules.specs.declared.Refusal.TheVariants.{Accepted, Limit, Room, Lists}
-use Rattle.rules.specs.declared.Written.{Written}
+use Rattle.rules.specs.Verdict.{Verdict, verdict}
+use Rattle.rules.specs.Verdict.{Accepted, Limit, Room, Lists}
 use Rattle.rules.specs.Limits.{limit}
 use Rattle.rules.specs.List.{rising, block}
 
 pub record Made : Type 0 where
-  pub refusal : Refusal
+  pub refusal : Verdict
   pub size : ℕ
   pub room : List ℕ
 
-abbrev pub made : Written → List ℕ → Made
-made r room = record { refusal = r.refusal; size = r.size; room = room }
+abbrev pub made : Result ℕ Refusal → List ℕ → Made
+made r room = record { refusal = verdict r; size = result_unwrap_or r 0; room = room }
 
-abbrev pub refused : Refusal → List ℕ → Made
+abbrev pub refused : Verdict → List ℕ → Made
 refused r room = record { refusal = r; size = 0; room = room }
 
 unfoldable pub laid : List ℕ → List ℕ → List ℕ

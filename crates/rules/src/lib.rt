@@ -1,6 +1,9 @@
-// The numbers and the types of document 01 that the code names. All else of the document is in specs/; this crate has no
-// function.
+// The numbers and the types of document 01 that the code names, and the number of each refusal. All else of the document
+// is in specs/.
 #![tactic(auto)]
+
+ghost use Rattle.std.specs.Prelude.{◌≡◌, Err};
+ghost use Rattle.rules.specs.Refusal.{number};
 
 // U and N at most.
 pub const LIMIT: usize = 16777216;
@@ -66,9 +69,8 @@ pub const INDEX_N_AT: usize = 5;
 pub const INDEX_T_AT: usize = 9;
 
 // Why bytes, lists or questions are refused; `number` of specs/Refusal.antt gives document 01's number.
-#[derive(Clone, Copy)]
+#[derive(Clone, Copy, Debug, PartialEq, Eq)]
 pub enum Refusal {
-    Accepted,
     Short,
     Length,
     Version,
@@ -81,28 +83,19 @@ pub enum Refusal {
     Lists,
 }
 
-// What a writer, or closing an index, answers: the length of what stands in the room, 0 where it refused.
-#[derive(Clone, Copy)]
-pub struct Written {
-    pub refusal: Refusal,
-    pub size: usize,
-}
-
 // What a run of questions answers: how many it answered, and how many numbers of the room that took.
 #[derive(Clone, Copy)]
 pub struct Outcome {
-    pub refusal: Refusal,
+    pub verdict: Result<(), Refusal>,
     pub answered: usize,
     pub used: usize,
 }
 
-// What a screen answers: how many pages it found, 1 where it is full, and then the bound of the next one [02 e].
+// A screen that is shown: how many pages it has, and where it is full the bound of the next one [02 e].
 #[derive(Clone, Copy)]
 pub struct Screened {
-    pub refusal: Refusal,
     pub found: usize,
-    pub full: u32,
-    pub next: u32,
+    pub next: Option<u32>,
 }
 
 // Where the writing of a word in runs stands: what was announced, `version` being that of the index, and how far it is
@@ -122,10 +115,29 @@ pub struct Stream {
     pub base: u32,
 }
 
-// What a call of such a session answers: the length of the finished block, else 0, and the session after it.
+// What a call of such a session answers: the length of the finished block, else 0, and the session after it, which a
+// refusal has too.
 #[derive(Clone, Copy)]
 pub struct Streamed {
-    pub refusal: Refusal,
-    pub size: usize,
+    pub size: Result<usize, Refusal>,
     pub stream: Stream,
+}
+
+impl From<Refusal> for u32 {
+    ghost from_gives = { λ r n. n ≡ number (Err r) };
+
+    fn from(r: Refusal) -> u32 {
+        match r {
+            Refusal::Short => 1,
+            Refusal::Length => 2,
+            Refusal::Version => 3,
+            Refusal::Limit => 4,
+            Refusal::Layout => 5,
+            Refusal::Runs => 6,
+            Refusal::Parts => 7,
+            Refusal::Question => 8,
+            Refusal::Room => 9,
+            Refusal::Lists => 10,
+        }
+    }
 }

@@ -5,7 +5,7 @@ use Prim.Native.Nat.{ℕ, zero, suc, ◌≤◌, ◌<◌}
 use native.Mathlib.Omega.{arith}
 use borrow.Author.Tests.{lt-ltb, le-ltb, ltb-false, ne_eqb}
 use lib.Dec.{ltb, eqb, lit<}
-use Rattle.rules.specs.declared.Refusal.TheVariants.{Accepted, Version, Limit, Lists}
+use Rattle.rules.specs.Verdict.{Accepted, Version, Limit, Lists}
 use Rattle.rules.specs.Limits.{limit, last_edition, up_to}
 use Rattle.rules.specs.Stream.{announce_refusal}
 use Rattle.laws.proofs.RefusalLaws.{test_passed, or_parts}

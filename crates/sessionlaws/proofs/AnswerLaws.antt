@@ -6,8 +6,8 @@ use Prim.Native.Nat.{ℕ, ◌≤◌, ◌<◌}
 use borrow.Author.Tests.{lt-ltb, le-ltb, eq-eqb, ne_eqb}
 use lib.Dec.{eqb}
 use lib.ListN.{length, replicate}
-use Rattle.rules.specs.declared.Refusal.{Refusal}
-use Rattle.rules.specs.declared.Refusal.TheVariants.{Accepted, Room, Lists}
+use Rattle.rules.specs.Verdict.{Verdict}
+use Rattle.rules.specs.Verdict.{Accepted, Room, Lists}
 use Rattle.rules.specs.declared.Stream.{Stream}
 use Rattle.rules.specs.declared.Streamed.{Streamed}
 use Rattle.rules.specs.Refusal.{accepted}
@@ -25,7 +25,7 @@ use Rattle.sessionlaws.proofs.LiveLaws.{going_dead, going_short, going_on}
 use Rattle.sessionlaws.proofs.LayoutLaws.{counts_tell, layout_tells, second_is, third_is}
 
 -- a result by its fields, and the room after it
-pub streamed_is : (r : Streamed) (after : List ℕ) (q : Refusal) (n : ℕ) (s : Stream) (room : List ℕ)
+pub streamed_is : (r : Streamed) (after : List ℕ) (q : Verdict) (n : ℕ) (s : Stream) (room : List ℕ)
     → (r.refusal ≡ q) × (r.size ≡ n) × (r.stream ≡ s) → after ≡ room
     → streaming r after ≡ record { refusal = q; size = n; stream = s; room = room }
 streamed_is r after q n s room (a, b, c) e = rw (a, b, c, e)

@@ -4,7 +4,7 @@ use mathlib.Core.List.{List}
 use Prim.Native.Nat.{ℕ, ◌+◌, ◌-◌, ◌^◌, ◌≤◌, ◌<◌}
 use native.Mathlib.Omega.{arith}
 use lib.ListN.{length, replicate, length-replicate}
-use Rattle.rules.specs.declared.Refusal.TheVariants.{Accepted}
+use Rattle.rules.specs.Verdict.{Accepted}
 use Rattle.rules.specs.Limits.{limit}
 use Rattle.rules.specs.Runs.{words_for}
 use Rattle.rules.specs.List.{map_at, map_size, Form, two_runs, bitmap, form_of, form_size}

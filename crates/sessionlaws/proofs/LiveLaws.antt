@@ -7,8 +7,8 @@ use Prim.Native.Nat.{ℕ, ◌≤◌, ◌<◌}
 use borrow.Author.Tests.{lt-ltb, le-ltb, le-leb, lt-leb, leb-true, eqb-true, eq-eqb, ne_eqb}
 use lib.Dec.{leb, eqb}
 use lib.ListN.{length}
-use Rattle.rules.specs.declared.Refusal.{Refusal}
-use Rattle.rules.specs.declared.Refusal.TheVariants.{Room, Lists}
+use Rattle.rules.specs.Verdict.{Verdict}
+use Rattle.rules.specs.Verdict.{Room, Lists}
 use Rattle.rules.specs.declared.Stream.{Stream}
 use Rattle.rules.specs.Refusal.{accepted}
 use Rattle.rules.specs.Stream.{announce_refusal, over, live, Streaming, goes, size_of, going}
@@ -27,7 +27,7 @@ and_true false = refl
 
 module _ (s : Stream) where
   -- the refusal of what was announced
-  abbrev refusal : Refusal
+  abbrev refusal : Verdict
   refusal = announce_refusal s.version s.n s.pages s.positions s.u
 
   pub live_parts : live s ≡ true → Live s

@@ -8,7 +8,7 @@ use native.Mathlib.Omega.{arith}
 use borrow.Author.Tests.{leb-true}
 use lib.Dec.{leb}
 use lib.ListN.{length, get_or, replicate}
-use Rattle.rules.specs.declared.Refusal.TheVariants.{Accepted, Room, Lists}
+use Rattle.rules.specs.Verdict.{Accepted, Room, Lists}
 use Rattle.rules.specs.declared.Stream.{Stream}
 use Rattle.rules.specs.Limits.{limit}
 use Rattle.rules.specs.List.{rising, Form, form_of}

@@ -9,7 +9,7 @@
 --   FramesPut g d e   e is d with the block of which no element is laid, whatever the version
 --   ListsPointed g d e  e is d with the pointers of the three lists, or a bitmap's numbers, whatever the version
 use Rattle.std.specs.Prelude.{◌≡◌, List, ℕ, ◌≤◌, length}
-use Rattle.rules.specs.declared.Refusal.TheVariants.{Accepted}
+use Rattle.rules.specs.Verdict.{Accepted}
 use Rattle.rules.specs.List.{form_of}
 use Rattle.rules.specs.Write.{laid}
 use Rattle.rules.specs.InPlace.{from, pointed, form_pointed}

@@ -3,7 +3,7 @@
 --   Announced N P Q U  P pages below N and Q positions whose elements end at U: within the limits, and none for no page
 --   Live s             session s goes on: what was announced is accepted, and no more is laid
 use Rattle.std.specs.Prelude.{◌≡◌, ℕ, ◌≤◌}
-use Rattle.rules.specs.declared.Refusal.TheVariants.{Accepted}
+use Rattle.rules.specs.Verdict.{Accepted}
 use Rattle.rules.specs.declared.Stream.{Stream}
 use Rattle.rules.specs.Limits.{limit}
 use Rattle.rules.specs.Stream.{announce_refusal}

@@ -9,8 +9,8 @@ use native.Mathlib.Omega.{arith}
 use borrow.Author.Tests.{le-ltb, lt-ltb, ltb-false, eq-eqb, eqb-false, ne_eqb, not-false}
 use lib.Dec.{ltb, eqb, lit<}
 use lib.ListN.{length, drop_of_length-le}
-use Rattle.rules.specs.declared.Refusal.{Refusal}
-use Rattle.rules.specs.declared.Refusal.TheVariants.{Accepted, Version, Limit, Room, Lists}
+use Rattle.rules.specs.Verdict.{Verdict}
+use Rattle.rules.specs.Verdict.{Accepted, Version, Limit, Room, Lists}
 use Rattle.rules.specs.Refusal.{number, accepted}
 use Rattle.rules.specs.Limits.{limit, last_edition, up_to}
 use Rattle.rules.specs.List.{rising}
@@ -39,7 +39,7 @@ outcome_accepted v N P Q U ts before r (inr p) e = absurd (omega (arith, p.0, ap
 
 -- ---- the announcement
 
-refused_number : (r : Refusal) → accepted r ≡ false → 0 < number r
+refused_number : (r : Verdict) → accepted r ≡ false → 0 < number r
 unfolding accepted
 refused_number r e =
     let n = eqb-false (number r) 0 e in

@@ -7,7 +7,7 @@ use native.Mathlib.Omega.{arith}
 use borrow.Author.Tests.{le-leb, leb-true}
 use lib.Dec.{leb}
 use lib.ListN.{length, length-append}
-use Rattle.rules.specs.declared.Refusal.TheVariants.{Accepted}
+use Rattle.rules.specs.Verdict.{Accepted}
 use Rattle.rules.specs.List.{rising}
 use Rattle.rules.specs.Term.{Word, total, next, placed, places, valid_word}
 use Rattle.rules.specs.Stream.{announce_refusal, live, follows, advanced}

@@ -9,7 +9,7 @@
 --   as_made r              a call's result as that of a writer of whole lists: all of it but the session
 --   Cut ts                each run is cut at a page boundary: a count for each page, and a position for each counted
 use Rattle.std.specs.Prelude.{◌≡◌, List, [], ◌∷◌, ◌++◌, ℕ, ◌≤◌, length}
-use Rattle.rules.specs.declared.Refusal.TheVariants.{Accepted}
+use Rattle.rules.specs.Verdict.{Accepted}
 use Rattle.rules.specs.declared.Stream.{Stream}
 use Rattle.rules.specs.Limits.{version}
 use Rattle.rules.specs.Bytes.{sized}

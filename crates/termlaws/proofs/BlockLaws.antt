@@ -7,7 +7,7 @@ use native.Mathlib.Omega.{arith}
 use lib.Dec.{lit<}
 use lib.ListN.{length, get_or, drop, length-append}
 use lib.Seq.{drop-drop}
-use Rattle.rules.specs.declared.Refusal.TheVariants.{Accepted}
+use Rattle.rules.specs.Verdict.{Accepted}
 use Rattle.rules.specs.Limits.{version, list_header, term_header}
 use Rattle.rules.specs.Bytes.{sized}
 use Rattle.rules.specs.List.{valid_list, block, Form, form_of, form_block}

@@ -6,8 +6,8 @@ use Prim.Native.Nat.{ℕ}
 use borrow.Author.Tests.{ltb-false, eq-eqb, not-false}
 use lib.Dec.{ltb, eqb, lit<}
 use lib.ListN.{length, drop_of_length-le}
-use Rattle.rules.specs.declared.Refusal.{Refusal}
-use Rattle.rules.specs.declared.Refusal.TheVariants.{Accepted, Version, Layout, Parts}
+use Rattle.rules.specs.Verdict.{Verdict}
+use Rattle.rules.specs.Verdict.{Accepted, Version, Layout, Parts}
 use Rattle.rules.specs.Refusal.{and_then}
 use Rattle.rules.specs.Limits.{version, last_edition, up_to, list_header, term_header}
 use Rattle.rules.specs.ReadList.{list_u, list_n, decode, part_refusal}
@@ -20,7 +20,7 @@ use Rattle.termlaws.specs.Words.{Passed}
 
 module _ (v : ℕ) (s : List ℕ) where
   -- the tests behind the version that is told
-  abbrev parts_tests : Refusal
+  abbrev parts_tests : Verdict
   parts_tests =
       and_then (inside list_header (part_refusal v) (lists_of s))
       (and_then (inside list_header (part_refusal version) (after 1 (lists_of s)))
@@ -29,7 +29,7 @@ module _ (v : ℕ) (s : List ℕ) where
       (cond (disagree s) Parts Accepted))))
 
   -- the tests behind the first three
-  abbrev tests : Refusal
+  abbrev tests : Verdict
   tests = cond (not (up_to last_edition v)) Version parts_tests
 
   pub passed_accepted : Passed v s → term_refusal v s ≡ Accepted
@@ -58,11 +58,11 @@ module _ (v : ℕ) (s : List ℕ) where
       let d3 : Bool = not (eqb (list_n (positions_of s)) (list_u (counts_of s))) in
       let d2 : Bool = not (eqb (list_u (counts_of s)) (next 0 (decode (counts_of s)))) in
       let d1 : Bool = not (eqb (list_n (counts_of s)) (list_n (pages_of s))) in
-      let t8 : Refusal = cond (d1 || (d2 || (d3 || d4))) Parts Accepted in
-      let t7 : Refusal = cond (ltb 0 (length (after 3 l))) Layout t8 in
-      let t6 : Refusal = and_then (inside list_header (part_refusal version) (after 2 l)) t7 in
-      let t5 : Refusal = and_then (inside list_header (part_refusal version) (after 1 l)) t6 in
-      let t4 : Refusal = and_then (inside list_header (part_refusal v) l) t5 in
+      let t8 : Verdict = cond (d1 || (d2 || (d3 || d4))) Parts Accepted in
+      let t7 : Verdict = cond (ltb 0 (length (after 3 l))) Layout t8 in
+      let t6 : Verdict = and_then (inside list_header (part_refusal version) (after 2 l)) t7 in
+      let t5 : Verdict = and_then (inside list_header (part_refusal version) (after 1 l)) t6 in
+      let t4 : Verdict = and_then (inside list_header (part_refusal v) l) t5 in
       let c = head_passed term_header version s (cond (not (up_to last_edition v)) Version t4) e in
       let k = test_passed (not (up_to last_edition v)) Version t4 (lit< tt) c.1 in
       let f = and_then_both (inside list_header (part_refusal v) l) t5 k.1 in

@@ -7,7 +7,7 @@ use Prim.Native.Nat.{ℕ, ◌≤◌}
 use borrow.Author.Tests.{le-ltb, ltb-false, not-false}
 use lib.Dec.{ltb, lit<}
 use lib.ListN.{length, take}
-use Rattle.rules.specs.declared.Refusal.TheVariants.{Accepted, Version, Limit, Lists}
+use Rattle.rules.specs.Verdict.{Accepted, Version, Limit, Lists}
 use Rattle.rules.specs.Bytes.{Bytes}
 use Rattle.rules.specs.Limits.{limit, last_edition, up_to}
 use Rattle.rules.specs.ReadList.{list_u}

@@ -9,7 +9,7 @@
 --   ListsPass v s  the three lists of a term are accepted as lists, the pages in an index of version v, and where they lie
 --   Written v N t room  what a success of the writer of a term leaves
 use Rattle.std.specs.Prelude.{true, ◌≡◌, List, [], ℕ, ◌≤◌, ◌<◌, length, take, drop}
-use Rattle.rules.specs.declared.Refusal.TheVariants.{Accepted}
+use Rattle.rules.specs.Verdict.{Accepted}
 use Rattle.rules.specs.Limits.{limit, version, last_edition, up_to, list_header, term_header, four_bytes}
 use Rattle.rules.specs.List.{rising}
 use Rattle.rules.specs.ReadList.{stated, list_u, list_n, decode, list_refusal, part_refusal}

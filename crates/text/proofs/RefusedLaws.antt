@@ -7,7 +7,7 @@ use native.Mathlib.Omega.{arith}
 use borrow.Author.Tests.{eq-eqb, ne_eqb}
 use lib.ListN.{length, length-append}
 use lib.Seq.{sets}
-use Rattle.rules.specs.declared.Refusal.{Refusal}
+use Rattle.rules.specs.Verdict.{Verdict}
 use Rattle.rules.specs.Refusal.{number, accepted}
 use Rattle.rules.specs.Bytes.{be}
 use Rattle.rules.specs.Program.{line, refused_word, refused_line}
@@ -24,7 +24,7 @@ word_length : length refused_word ≡ 8
 unfolding refused_word
 word_length = refl
 
-module _ (r : Refusal) where
+module _ (r : Verdict) where
   pub refused_none : number r ≡ 0 → refused_line r ≡ []
   unfolding refused_line accepted
   refused_none e = rw (eq-eqb (number r) 0 e)

@@ -8,7 +8,7 @@ use borrow.Rule.Slice.PartMut.{post_of, put_mid, same_len_mid, drop_put}
 use lib.ListN.{length, get_or, take, drop, set, length-set, length-drop, take-append-drop, drop_of_length-le}
 use lib.Seq.{length-take-le, take-append-le, drop-append-le, take_at, drop_at}
 use lib.Seq.{take-set-le, drop-set-lt, get_or-set_same, drop-drop, get_or-take}
-use Rattle.rules.specs.declared.Refusal.TheVariants.{Accepted}
+use Rattle.rules.specs.Verdict.{Accepted}
 use Rattle.rules.specs.Common.{lead_of}
 use Rattle.rules.specs.Index.{index_t, index_refusal}
 use Rattle.rules.specs.Questions.{lists_in, numbered, by_phrase, terms_of, phrase_in, words_good, phrase_good}

@@ -12,7 +12,7 @@ use lib.ListN.{length, get_or, take, drop}
 use lib.Seq.{slice, drop_at, drop-drop, take-add}
 use Rattle.rules.specs.List.{rising}
 use Rattle.rules.specs.Term.{total, next, in_order}
-use Rattle.rules.specs.declared.Refusal.TheVariants.{Accepted}
+use Rattle.rules.specs.Verdict.{Accepted}
 use Rattle.rules.specs.ReadList.{list_u, decode}
 use Rattle.rules.specs.ReadTerm.{pages_of, counts_of, positions_of, gaps, less, lowered, read_word, term_refusal}
 use Rattle.rules.specs.Plain.{positions_among, positions_on}

@@ -25,7 +25,7 @@
 --                       turned to the page and the others have it ahead, some stand, and the starts before are counted
 --   TryingIn s ts ls p at ws  so it is by the row ls
 use Rattle.std.specs.Prelude.{true, ◌≡◌, List, ℕ, ◌+◌, ◌-◌, ◌^◌, ◌≤◌, ◌<◌, length, get_or, take, drop, replicate}
-use Rattle.rules.specs.declared.Refusal.TheVariants.{Accepted}
+use Rattle.rules.specs.Verdict.{Accepted}
 use Rattle.rules.specs.Limits.{limit}
 use Rattle.rules.specs.ReadList.{decode}
 use Rattle.rules.specs.ReadTerm.{pages_of, read_word, term_refusal}

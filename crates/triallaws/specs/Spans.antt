@@ -4,7 +4,7 @@
 --   PageIn s r           where those on page number r of the term s lie
 --   TermAt s sh ws p i t  list i has the positions of the accepted term t, which has page p, and span i is that page's
 use Rattle.std.specs.Prelude.{◌≡◌, List, ℕ, ◌+◌, ◌≤◌, ◌<◌, length, get_or}
-use Rattle.rules.specs.declared.Refusal.TheVariants.{Accepted}
+use Rattle.rules.specs.Verdict.{Accepted}
 use Rattle.rules.specs.ReadList.{decode}
 use Rattle.rules.specs.ReadTerm.{pages_of, counts_of, positions_of, read_word, term_refusal}
 use Rattle.rules.specs.Index.{index_v}

@@ -9,7 +9,7 @@ use borrow.Author.Tests.{ltb-true}
 use lib.Dec.{ltb}
 use lib.ListN.{set, length-set, length, get_or, take, drop, length-drop}
 use lib.Seq.{get_or-set_same, get_or-set_other, length-take-le, take-take, drop-drop, take-nil}
-use Rattle.rules.specs.declared.Refusal.TheVariants.{Accepted}
+use Rattle.rules.specs.Verdict.{Accepted}
 use Rattle.rules.specs.Bytes.{Bytes, be_at}
 use Rattle.rules.specs.Parts.{after, part}
 use Rattle.rules.specs.ReadTerm.{lists_of}

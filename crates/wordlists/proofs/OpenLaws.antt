@@ -6,7 +6,7 @@ use Prim.Native.Nat.{ℕ, suc, ◌+◌, ◌<◌}
 use native.Mathlib.Nat.{add-zero}
 use native.Mathlib.Omega.{arith}
 use lib.ListN.{length, get_or}
-use Rattle.rules.specs.declared.Refusal.TheVariants.{Accepted}
+use Rattle.rules.specs.Verdict.{Accepted}
 use Rattle.rules.specs.ReadList.{list_u, decode, part_refusal}
 use Rattle.rules.specs.ReadTerm.{pages_of, read_word}
 use Rattle.rules.specs.Index.{index_v, index_n, index_t, term_part, word_of, index_refusal}

@@ -2,7 +2,7 @@
 #![tactic(auto)]
 
 ghost use Rattle.std.specs.Prelude.{◌≡◌, true, ◌<◌, length};
-ghost use Rattle.rules.specs.declared.Refusal.TheVariants.{Accepted};
+ghost use Rattle.rules.specs.Verdict.{Accepted};
 ghost use Rattle.rules.specs.Index.{index_t, index_refusal};
 ghost use Rattle.rules.specs.Common.{lead_of};
 ghost use Rattle.rules.specs.Questions.{lists_in, words_good};

@@ -7,8 +7,8 @@ use native.Mathlib.Decide.{dec_lt}
 use native.Mathlib.Omega.{arith}
 use lib.ListN.{length, take, drop}
 use lib.Seq.{take_at}
-use Rattle.rules.specs.declared.Refusal.{Refusal}
-use Rattle.rules.specs.declared.Refusal.TheVariants.{Accepted, Limit, Room, Lists}
+use Rattle.rules.specs.Verdict.{Verdict}
+use Rattle.rules.specs.Verdict.{Accepted, Limit, Room, Lists}
 use Rattle.rules.specs.declared.Written.{Written}
 use Rattle.rules.specs.Limits.{limit}
 use Rattle.rules.specs.Refusal.{number}
@@ -27,7 +27,7 @@ record Wrote (U : ℕ) (xs room : List ℕ) : Type 0 where
   fits : size U (length xs) ≤ length room
 
 module _ (U : ℕ) (xs room : List ℕ) (a : (write_list U xs room).refusal ≡ Accepted) where
-  refuted : (r : Refusal) → (write_list U xs room).refusal ≡ r → 0 < number r → ⊥
+  refuted : (r : Verdict) → (write_list U xs room).refusal ≡ r → 0 < number r → ⊥
   refuted r e l = omega (arith, ap number (sym a ∙ e))
 
   wrote : Wrote U xs room

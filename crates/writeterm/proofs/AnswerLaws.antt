@@ -5,7 +5,7 @@ use mathlib.Core.List.{List}
 use Prim.Native.Nat.{ℕ, ◌≤◌, ◌<◌}
 use borrow.Author.Tests.{lt-ltb, le-ltb}
 use lib.ListN.{length}
-use Rattle.rules.specs.declared.Refusal.TheVariants.{Version, Limit, Room, Lists}
+use Rattle.rules.specs.Verdict.{Version, Limit, Room, Lists}
 use Rattle.rules.specs.Limits.{limit, last_edition, up_to}
 use Rattle.rules.specs.Write.{refused, stored}
 use Rattle.rules.specs.Term.{Word, next, places, valid_word, term_block, write_term}

@@ -6,7 +6,7 @@ use Prim.Native.Nat.{ℕ, ◌≤◌}
 use native.Mathlib.Omega.{arith}
 use lib.Dec.{eqb}
 use lib.ListN.{length}
-use Rattle.rules.specs.declared.Refusal.TheVariants.{Accepted}
+use Rattle.rules.specs.Verdict.{Accepted}
 use Rattle.rules.specs.ReadList.{list_u, list_n, decode, list_refusal}
 use Rattle.rules.specs.Term.{next}
 use Rattle.listlaws.proofs.RefusalLaws.{alone_framed}

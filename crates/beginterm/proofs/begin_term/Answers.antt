@@ -4,8 +4,8 @@ use mathlib.Core.Path.{◌≡◌, refl, sym, ap, ap₂, ◌∙◌}
 use mathlib.Core.List.{List}
 use Prim.Native.Nat.{ℕ}
 use native.Mathlib.Omega.{arith}
-use Rattle.rules.specs.declared.Refusal.{Refusal}
-use Rattle.rules.specs.declared.Refusal.TheVariants.{Accepted, Room}
+use Rattle.rules.specs.Verdict.{Verdict}
+use Rattle.rules.specs.Verdict.{Accepted, Room}
 use Rattle.rules.specs.Refusal.{accepted}
 use Rattle.rules.specs.Write.{laid}
 use Rattle.rules.specs.Stream.{announce_refusal, over, goes}
@@ -33,7 +33,7 @@ After-layout-g = Lts.After-layout Tie.the-claims Reads.Pre Reads.Post
 abbrev Else-room-g : Type 0
 Else-room-g = Lts.Else2 Tie.the-claims Reads.Pre Reads.Post
 
-abbrev refusal : Start → Refusal
+abbrev refusal : Start → Verdict
 refusal s = announce_refusal s.args.version s.args.n s.args.pages s.args.positions s.args.u
 
 pub returns-then-not-passed : goal.returns-then-not-passed

@@ -4,8 +4,8 @@ use mathlib.Core.List.{List}
 use Prim.Native.Nat.{ℕ, ◌≤◌}
 use native.Mathlib.Omega.{arith}
 use lib.ListN.{length, get_or, drop}
-use Rattle.rules.specs.declared.Refusal.{Refusal}
-use Rattle.rules.specs.declared.Refusal.TheVariants.{Accepted}
+use Rattle.rules.specs.Verdict.{Verdict}
+use Rattle.rules.specs.Verdict.{Accepted}
 use Rattle.rules.specs.Limits.{last_edition, index_header}
 use Rattle.rules.specs.Index.{index_v, index_n, index_t}
 use Rattle.laws.proofs.RefusalLaws.{told_stop, told_passed, and_then_next}
@@ -29,7 +29,7 @@ abbrev After-read_u16-t : Type 0
 After-read_u16-t = Lts.After-read_u16 Tie.the-claims Reads.Pre Reads.Post
 
 -- the refusal behind the header
-abbrev inner : List ℕ → Refusal
+abbrev inner : List ℕ → Verdict
 inner s = body_refusal (index_v s) (index_t s) (index_n s) (drop index_header s)
 
 pub returns-then-not-passed : goal.returns-then-not-passed

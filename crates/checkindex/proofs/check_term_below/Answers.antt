@@ -5,7 +5,7 @@ use native.Mathlib.Omega.{arith}
 use borrow.Author.Tests.{eq-eqb, ne_eqb}
 use lib.Dec.{eqb}
 use lib.ListN.{length}
-use Rattle.rules.specs.declared.Refusal.TheVariants.{Accepted, Parts}
+use Rattle.rules.specs.Verdict.{Accepted, Parts}
 use Rattle.rules.specs.ReadList.{list_u}
 use Rattle.rules.specs.ReadTerm.{pages_of, term_refusal}
 use Rattle.laws.proofs.RefusalLaws.{told_stop, told_passed, and_then_next}

@@ -8,7 +8,7 @@ use native.Mathlib.Omega.{arith}
 use borrow.Author.Tests.{not-true, eqb-false}
 use lib.Dec.{eqb}
 use lib.ListN.{get_or}
-use Rattle.rules.specs.declared.Refusal.TheVariants.{Accepted}
+use Rattle.rules.specs.Verdict.{Accepted}
 use Rattle.rules.specs.Limits.{limit, map_version, list_header, up_to}
 use Rattle.rules.specs.List.{Form, form_of, form_version, form_size}
 use Rattle.rules.specs.ReadList.{list_u, list_n, decode, is_block}

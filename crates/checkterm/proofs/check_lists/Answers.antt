@@ -4,7 +4,7 @@ use Prim.Native.Nat.{suc, ◌-◌, ◌≤◌}
 use native.Mathlib.Omega.{arith}
 use lib.Dec.{lit≤}
 use lib.ListN.{drop}
-use Rattle.rules.specs.declared.Refusal.TheVariants.{Accepted}
+use Rattle.rules.specs.Verdict.{Accepted}
 use Rattle.rules.specs.Refusal.{and_then}
 use Rattle.rules.specs.Limits.{version, list_header}
 use Rattle.rules.specs.ReadList.{stated, part_refusal}

@@ -2,7 +2,7 @@
 use mathlib.Core.Bool.{Bool, cond}
 use mathlib.Core.Path.{◌≡◌, sym, ap, ◌∙◌}
 use lib.Dec.{lit<}
-use Rattle.rules.specs.declared.Refusal.TheVariants.{Accepted, Parts}
+use Rattle.rules.specs.Verdict.{Accepted, Parts}
 use Rattle.rules.specs.Parts.{after, part}
 use Rattle.rules.specs.ReadTerm.{lists_of, disagree}
 use Rattle.listlaws.proofs.RefusalLaws.{part_framed}

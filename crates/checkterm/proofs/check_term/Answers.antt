@@ -4,8 +4,8 @@ use mathlib.Core.Path.{◌≡◌, sym, ap, ◌∙◌}
 use mathlib.Core.List.{List}
 use Prim.Native.Nat.{ℕ}
 use native.Mathlib.Omega.{arith}
-use Rattle.rules.specs.declared.Refusal.{Refusal}
-use Rattle.rules.specs.declared.Refusal.TheVariants.{Accepted, Version}
+use Rattle.rules.specs.Verdict.{Verdict}
+use Rattle.rules.specs.Verdict.{Accepted, Version}
 use Rattle.rules.specs.Limits.{version, last_edition, up_to, term_header}
 use Rattle.rules.specs.ReadTerm.{lists_of, term_refusal}
 use Rattle.laws.proofs.RefusalLaws.{told_stop, told_passed, and_then_next}
@@ -28,7 +28,7 @@ abbrev Else-not-passed-2 : Type 0
 Else-not-passed-2 = Lts.Else3 Tie.the-claims Reads.Pre Reads.Post
 
 -- what the refusal is behind the header
-abbrev behind : ℕ → List ℕ → Refusal
+abbrev behind : ℕ → List ℕ → Verdict
 behind v s = cond (not (up_to last_edition v)) Version (told v s)
 
 pub returns-then-not-passed : goal.returns-then-not-passed

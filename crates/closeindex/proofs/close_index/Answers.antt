@@ -5,7 +5,7 @@ use Prim.Native.Nat.{ℕ}
 use native.Mathlib.Omega.{arith}
 use Rattle.rules.specs.Limits.{last_edition}
 use Rattle.laws.proofs.HeadLaws.{up_to_parts}
-use Rattle.rules.specs.declared.Refusal.TheVariants.{Accepted}
+use Rattle.rules.specs.Verdict.{Accepted}
 use Rattle.cardlaws.specs.Cards.{Closable}
 use Rattle.cardlaws.proofs.CloseLaws.{closed_made}
 use Rattle.cardlaws.proofs.ClosingLaws.{close_refused, close_passed}

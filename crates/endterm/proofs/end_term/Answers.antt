@@ -3,7 +3,7 @@ use mathlib.Core.Path.{◌≡◌, refl, sym, ap, ◌∙◌}
 use mathlib.Core.Bool.{true}
 use native.Mathlib.Omega.{arith}
 use lib.ListN.{replicate}
-use Rattle.rules.specs.declared.Refusal.TheVariants.{Accepted, Lists}
+use Rattle.rules.specs.Verdict.{Accepted, Lists}
 use Rattle.rules.specs.Write.{laid}
 use Rattle.rules.specs.Stream.{over, live, size_of, pointed_word}
 use Rattle.sessionlaws.specs.Layout.{Housed}

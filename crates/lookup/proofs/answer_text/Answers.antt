@@ -1,7 +1,7 @@
 -- `answer_text` lays what the program prints, by its three cases.
 use mathlib.Core.Path.{sym, ap, ◌∙◌}
 use native.Mathlib.Omega.{arith}
-use Rattle.rules.specs.declared.Refusal.TheVariants.{Room}
+use Rattle.rules.specs.Verdict.{Room}
 use Rattle.rules.specs.Ask.{reply}
 use Rattle.rules.specs.Program.{answer_room, refused_line}
 use Rattle.files.specs.Laid.{words_of}

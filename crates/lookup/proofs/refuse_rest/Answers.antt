@@ -1,6 +1,6 @@
 -- `refuse_rest` gives the card's refusal, or the one of the questions where the card has none.
 use mathlib.Core.Path.{sym}
-use Rattle.rules.specs.declared.Refusal.TheVariants.{Question}
+use Rattle.rules.specs.Verdict.{Question}
 use Rattle.rules.specs.Index.{index_refusal}
 use Rattle.laws.proofs.RefusalLaws.{and_then_next, told_stop, told_passed}
 use Rattle.lookup.proofs.refuse_rest.Goals as goal

@@ -2,7 +2,7 @@
 use mathlib.Core.Path.{◌≡◌, sym, ◌∙◌}
 use native.Mathlib.Omega.{arith}
 use lib.ListN.{drop, length-drop}
-use Rattle.rules.specs.declared.Refusal.TheVariants.{Accepted}
+use Rattle.rules.specs.Verdict.{Accepted}
 use Rattle.rules.specs.ReadList.{stated}
 use Rattle.laws.proofs.PartLaws.{stated_drop, inside_short, inside_less, inside_more, inside_is}
 use Rattle.parts.proofs.check_front.Lts

@@ -1,7 +1,7 @@
 -- `check_head` gives the refusal of the first three tests: each is that of its number.
 use mathlib.Core.Path.{◌≡◌, sym, ◌∙◌}
 use native.Mathlib.Omega.{arith}
-use Rattle.rules.specs.declared.Refusal.TheVariants.{Accepted}
+use Rattle.rules.specs.Verdict.{Accepted}
 use Rattle.rules.specs.ReadList.{stated}
 use lib.ListN.{length, get_or}
 use Rattle.laws.proofs.HeadLaws.{head_short, head_length, head_version, head_next, up_to_known, up_to_below, up_to_above}

@@ -1,9 +1,9 @@
 -- `passed` tells the variant Accepted from the others.
 use mathlib.Core.Bool.{false}
 use mathlib.Core.Path.{◌≡◌, refl, sym}
-use Rattle.rules.specs.declared.Refusal.{Refusal}
-use Rattle.rules.specs.declared.Refusal.TheVariants.{Accepted, Short, Length, Version, Limit}
-use Rattle.rules.specs.declared.Refusal.TheVariants.{Layout, Runs, Parts, Question, Room, Lists}
+use Rattle.rules.specs.Verdict.{Verdict}
+use Rattle.rules.specs.Verdict.{Accepted, Short, Length, Version, Limit}
+use Rattle.rules.specs.Verdict.{Layout, Runs, Parts, Question, Room, Lists}
 use Rattle.rules.specs.Refusal.{accepted}
 use Rattle.laws.proofs.RefusalLaws.{true_accepted}
 use Rattle.parts.proofs.passed.Goals as goal
@@ -11,7 +11,7 @@ use Rattle.parts.proofs.passed.Goals as goal
 pub returns-in-Accepted : goal.returns-in-Accepted
 returns-in-Accepted c = sym (true_accepted c.args.r c.in-Accepted.is)
 
-other : (r : Refusal) → (r ≡ Accepted → ⊥) → false ≡ accepted r
+other : (r : Verdict) → (r ≡ Accepted → ⊥) → false ≡ accepted r
 unfolding accepted
 other Accepted k = absurd (k refl)
 other Short k = refl

@@ -4,7 +4,7 @@ use mathlib.Core.Path.{◌≡◌, refl, sym, ap, ◌∙◌}
 use native.Mathlib.Omega.{arith}
 use borrow.Author.Tests.{not-true, not-false}
 use lib.ListN.{replicate}
-use Rattle.rules.specs.declared.Refusal.TheVariants.{Accepted, Lists}
+use Rattle.rules.specs.Verdict.{Accepted, Lists}
 use Rattle.rules.specs.Write.{laid}
 use Rattle.rules.specs.Term.{Word, lent_word}
 use Rattle.rules.specs.Stream.{over, live, follows, added_word, advanced, size_of}

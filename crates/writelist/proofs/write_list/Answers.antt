@@ -1,7 +1,7 @@
 use mathlib.Core.Path.{sym, ap₂, ◌∙◌}
 use native.Mathlib.Omega.{arith}
 use lib.ListN.{length}
-use Rattle.rules.specs.declared.Refusal.TheVariants.{Accepted}
+use Rattle.rules.specs.Verdict.{Accepted}
 use Rattle.rules.specs.List.{two_runs}
 use Rattle.rules.specs.Write.{Made}
 use Rattle.listlaws.proofs.RisingLaws.{rising_length}

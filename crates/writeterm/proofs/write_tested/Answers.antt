@@ -3,7 +3,7 @@ use mathlib.Core.Path.{◌≡◌, sym, ap₂, ◌∙◌, subst}
 use Prim.Native.Nat.{ℕ, ◌+◌, ◌^◌, ◌<◌}
 use native.Mathlib.Omega.{arith}
 use lib.ListN.{length}
-use Rattle.rules.specs.declared.Refusal.TheVariants.{Accepted}
+use Rattle.rules.specs.Verdict.{Accepted}
 use Rattle.rules.specs.List.{form_of}
 use Rattle.rules.specs.Write.{Made, laid}
 use Rattle.rules.specs.Term.{Word, lent_word, term_block}
