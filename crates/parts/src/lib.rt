@@ -2,7 +2,6 @@
 #![tactic(auto)]
 
 ghost use Rattle.std.specs.Prelude.{◌≡◌, ◌≤◌, length, take, drop};
-ghost use Rattle.rules.specs.Refusal.{accepted};
 ghost use Rattle.rules.specs.Limits.{last_edition, up_to};
 ghost use Rattle.rules.specs.Bytes.{be_at};
 ghost use Rattle.rules.specs.Parts.{after, part};
@@ -10,16 +9,6 @@ ghost use Rattle.laws.specs.Blocks.{block_at};
 ghost use Rattle.parts.specs.Places.{head_refusal, front_refusal, Held, Walkable};
 
 use rules::{LAST_EDITION, Refusal, VERSION_AT};
-
-// Whether nothing is refused.
-pub fn passed(r: Refusal) -> bool
-    ensures { result ≡ accepted r }
-{
-    match r {
-        Refusal::Accepted => true,
-        _ => false,
-    }
-}
 
 // Whether an index may have that version.
 pub fn known(version: u32) -> bool
@@ -33,42 +22,42 @@ pub fn known(version: u32) -> bool
 
 // The first three tests of a block whose header has h bytes: bytes enough, their number stated, and a version of 1 to
 // `last`.
-pub fn check_head(block: &[u8], h: usize, last: u8) -> Refusal
+pub fn check_head(block: &[u8], h: usize, last: u8) -> Result<(), Refusal>
     requires { 5 ≤ h }
     ensures { result ≡ head_refusal h last block.now }
 {
     if block.len() < h {
-        return Refusal::Short;
+        return Err(Refusal::Short);
     }
     if numbers::read_u32(block, 0) as usize != block.len() {
-        return Refusal::Length;
+        return Err(Refusal::Length);
     }
     if block[VERSION_AT] == 0 {
-        return Refusal::Version;
+        return Err(Refusal::Version);
     }
     if last < block[VERSION_AT] {
-        return Refusal::Version;
+        return Err(Refusal::Version);
     }
-    Refusal::Accepted
+    Ok(())
 }
 
 // Whether the block at byte `at`, whose header has h bytes, lies within the bytes.
-pub fn check_front(s: &[u8], at: usize, h: usize) -> Refusal
+pub fn check_front(s: &[u8], at: usize, h: usize) -> Result<(), Refusal>
     requires { (at ≤ length s.now) × (4 ≤ h) }
     ensures { result ≡ front_refusal h (drop at s.now) }
 {
     let left = s.len() - at;
     if left < h {
-        return Refusal::Short;
+        return Err(Refusal::Short);
     }
     let size = numbers::read_u32(s, at) as usize;
     if size < h {
-        return Refusal::Length;
+        return Err(Refusal::Length);
     }
     if left < size {
-        return Refusal::Length;
+        return Err(Refusal::Length);
     }
-    Refusal::Accepted
+    Ok(())
 }
 
 // The block at byte `at`.
