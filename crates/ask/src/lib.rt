@@ -45,10 +45,10 @@ fn answer_all(table: &Table, card: &[u8], questions: &[u32], room: &mut [u32]) -
 pub fn ask(card: &[u8], questions: &[u32], room: &mut [u32]) -> Outcome
     ensures { Answered card.now questions.now room.old result room.new }
 {
-    let refusal = checkindex::check_index(card);
-    if !parts::passed(refusal) {
+    let verdict = checkindex::check_index(card);
+    if verdict.is_err() {
         return Outcome {
-            refusal,
+            verdict,
             answered: 0,
             used: 0,
         };
@@ -56,7 +56,7 @@ pub fn ask(card: &[u8], questions: &[u32], room: &mut [u32]) -> Outcome
     let t = numbers::read_u16(card, INDEX_T_AT) as usize;
     if !questions::well_formed(questions, t) {
         return Outcome {
-            refusal: Refusal::Question,
+            verdict: Err(Refusal::Question),
             answered: 0,
             used: 0,
         };

@@ -54,27 +54,26 @@ pub fn begin_term(
 ) -> Streamed
     ensures { TermBegun version n pages positions u room.old result room.new }
 {
-    let refusal = sessions::announce(
+    let announced = sessions::announce(
         version,
         n as usize,
         pages as usize,
         positions as usize,
         u as usize,
     );
-    if !parts::passed(refusal) {
-        return sessions::ended(refusal, 0);
+    if let Err(refusal) = announced {
+        return sessions::ended(Err(refusal));
     }
     let first = shape::pages_shape(version, n as usize, pages as usize);
     let counts = shape::shape_of(positions as usize, pages as usize);
     let last = shape::shape_of(u as usize, positions as usize);
     let g = sessions::layout(first, counts, last);
     if room.len() < g.size {
-        return sessions::ended(Refusal::Room, 0);
+        return sessions::ended(Err(Refusal::Room));
     }
     put_frames(room, g);
     Streamed {
-        refusal: Refusal::Accepted,
-        size: 0,
+        size: Ok(0),
         stream: opened(version, n, pages, positions, u),
     }
 }

@@ -12,73 +12,59 @@ use rules::{
 };
 
 // The refusal of a term block that should be of pages below n, in an index of that version.
-fn check_term_below(version: u32, block: &[u8], n: usize) -> Refusal
+fn check_term_below(version: u32, block: &[u8], n: usize) -> Result<(), Refusal>
     ensures { result ≡ word_refusal version n block.now }
 {
-    let term = checkterm::check_term(version, block);
-    if !parts::passed(term) {
-        return term;
-    }
+    checkterm::check_term(version, block)?;
     let pages = findterm::pages_of(block);
     if numbers::read_u32(pages, LIST_U_AT) as usize != n {
-        return Refusal::Parts;
+        return Err(Refusal::Parts);
     }
-    Refusal::Accepted
+    Ok(())
 }
 
 // The refusal of the term block at byte `at`, where the bytes behind it are what remains of the index.
-fn check_term_at(version: u32, s: &[u8], at: usize, n: usize) -> Refusal
+fn check_term_at(version: u32, s: &[u8], at: usize, n: usize) -> Result<(), Refusal>
     requires { at ≤ length s.now }
     ensures { result ≡ word_inside version n (drop at s.now) }
 {
-    let front = parts::check_front(s, at, TERM_HEADER);
-    if !parts::passed(front) {
-        return front;
-    }
+    parts::check_front(s, at, TERM_HEADER)?;
     check_term_below(version, parts::part_at(s, at), n)
 }
 
 // The refusal of t term blocks of pages below n, and of what is left behind them.
-fn check_terms(version: u32, s: &[u8], t: usize, n: usize) -> Refusal
+fn check_terms(version: u32, s: &[u8], t: usize, n: usize) -> Result<(), Refusal>
     ensures { result ≡ terms_refusal version t n s.now }
 {
     let mut at = 0;
-    let mut left = t;
-    while 0 < left {
-        let r = check_term_at(version, s, at, n);
-        if !parts::passed(r) {
-            return r;
-        }
+    for _ in 0..t {
+        check_term_at(version, s, at, n)?;
         at += numbers::read_u32(s, at) as usize;
-        left -= 1;
     }
     if at < s.len() {
-        return Refusal::Layout;
+        return Err(Refusal::Layout);
     }
-    Refusal::Accepted
+    Ok(())
 }
 
 // The refusal of an index behind its header: n or t over its limit, and then its terms.
-pub fn check_body(version: u32, s: &[u8], t: usize, n: usize) -> Refusal
+pub fn check_body(version: u32, s: &[u8], t: usize, n: usize) -> Result<(), Refusal>
     ensures { result ≡ body_refusal version t n s.now }
 {
     if LIMIT < n {
-        return Refusal::Limit;
+        return Err(Refusal::Limit);
     }
     if TERM_LIMIT < t {
-        return Refusal::Limit;
+        return Err(Refusal::Limit);
     }
     check_terms(version, s, t, n)
 }
 
 // The refusal of an index.
-pub fn check_index(card: &[u8]) -> Refusal
+pub fn check_index(card: &[u8]) -> Result<(), Refusal>
     ensures { IndexChecked card.now result }
 {
-    let head = parts::check_head(card, INDEX_HEADER, LAST_EDITION as u8);
-    if !parts::passed(head) {
-        return head;
-    }
+    parts::check_head(card, INDEX_HEADER, LAST_EDITION as u8)?;
     let version = card[VERSION_AT] as u32;
     let n = numbers::read_u32(card, INDEX_N_AT) as usize;
     let t = numbers::read_u16(card, INDEX_T_AT) as usize;

@@ -25,44 +25,41 @@ fn body_ok(block: &[u8], g: Shape) -> bool
 }
 
 // The refusal of a list block as pages of an index of that version, where the versions of a list are 1 to `last`.
-fn check_in(block: &[u8], last: u8, version: u32) -> Refusal
+fn check_in(block: &[u8], last: u8, version: u32) -> Result<(), Refusal>
     requires { last ≤ map_version }
     ensures { result ≡ refusal_in last version block.now }
 {
-    let head = parts::check_head(block, LIST_HEADER, last);
-    if !parts::passed(head) {
-        return head;
-    }
+    parts::check_head(block, LIST_HEADER, last)?;
     let u = numbers::read_u32(block, LIST_U_AT) as usize;
     if LIMIT < u {
-        return Refusal::Limit;
+        return Err(Refusal::Limit);
     }
     let n = numbers::read_u32(block, LIST_N_AT) as usize;
     if u < n {
-        return Refusal::Layout;
+        return Err(Refusal::Layout);
     }
     let g = shape::pages_shape(version, u, n);
     if (block[VERSION_AT] == MAP_VERSION) != (g.w == BITMAP) {
-        return Refusal::Version;
+        return Err(Refusal::Version);
     }
     if block.len() != g.end {
-        return Refusal::Layout;
+        return Err(Refusal::Layout);
     }
     if body_ok(block, g) {
-        return Refusal::Accepted;
+        return Ok(());
     }
-    Refusal::Runs
+    Err(Refusal::Runs)
 }
 
 // The refusal of a list block that stands alone.
-pub fn check_list(block: &[u8]) -> Refusal
+pub fn check_list(block: &[u8]) -> Result<(), Refusal>
     ensures { ListChecked block.now result }
 {
     check_in(block, VERSION, VERSION as u32)
 }
 
 // The refusal of a list block in a term: of pages, in an index of that version; of counts and positions, version 1.
-pub fn check_part(version: u32, block: &[u8]) -> Refusal
+pub fn check_part(version: u32, block: &[u8]) -> Result<(), Refusal>
     ensures { result ≡ part_refusal version block.now }
 {
     check_in(block, MAP_VERSION, version)

@@ -6,23 +6,23 @@ ghost use Rattle.rules.specs.Write.{laid};
 ghost use Rattle.rules.specs.Index.{index_front, close_refusal};
 ghost use Rattle.rules.specs.Promises.{IndexClosed};
 
-use rules::{FOUR_BYTES, INDEX_HEADER, INDEX_N_AT, INDEX_T_AT, Refusal, VERSION_AT, Written};
+use rules::{FOUR_BYTES, INDEX_HEADER, INDEX_N_AT, INDEX_T_AT, Refusal, VERSION_AT};
 
 // The refusal of closing, before anything is written.
-fn close_refusal(buffer: &[u8], used: usize, version: u32, n: usize, t: usize) -> Refusal
+fn close_refusal(buffer: &[u8], used: usize, version: u32, n: usize, t: usize) -> Result<(), Refusal>
     ensures { result ≡ close_refusal buffer.now used version n t }
 {
     if buffer.len() < used {
-        return Refusal::Room;
+        return Err(Refusal::Room);
     }
     if used < INDEX_HEADER {
-        return Refusal::Short;
+        return Err(Refusal::Short);
     }
     if !parts::known(version) {
-        return Refusal::Version;
+        return Err(Refusal::Version);
     }
     if FOUR_BYTES <= used {
-        return Refusal::Limit;
+        return Err(Refusal::Limit);
     }
     checkindex::check_body(version, &buffer[INDEX_HEADER..used], t, n)
 }
@@ -39,19 +39,10 @@ fn write_front(buffer: &mut [u8], used: usize, version: u8, n: usize, t: usize)
 }
 
 // Closes an index of that version of t terms of pages below n in the first `used` bytes: the first 11 are its header's.
-pub fn close_index(buffer: &mut [u8], used: usize, version: u32, n: u32, t: u32) -> Written
+pub fn close_index(buffer: &mut [u8], used: usize, version: u32, n: u32, t: u32) -> Result<usize, Refusal>
     ensures { IndexClosed buffer.old used version n t result buffer.new }
 {
-    let r = close_refusal(buffer, used, version, n as usize, t as usize);
-    if !parts::passed(r) {
-        return Written {
-            refusal: r,
-            size: 0,
-        };
-    }
+    close_refusal(buffer, used, version, n as usize, t as usize)?;
     write_front(buffer, used, version as u8, n as usize, t as usize);
-    Written {
-        refusal: Refusal::Accepted,
-        size: used,
-    }
+    Ok(used)
 }

@@ -54,21 +54,20 @@ pub fn end_term(s: Stream, room: &mut [u8]) -> Streamed
     ensures { TermEnded s room.old result room.new }
 {
     if !sessions::is_live(s) {
-        return sessions::ended(Refusal::Lists, 0);
+        return sessions::ended(Err(Refusal::Lists));
     }
     let g = sessions::layout_of(s);
     let size = g.size;
     if room.len() < size {
         return Streamed {
-            refusal: Refusal::Room,
-            size: 0,
+            size: Err(Refusal::Room),
             stream: s,
         };
     }
     if !is_complete(s) {
         sessions::clear(room, size);
-        return sessions::ended(Refusal::Lists, 0);
+        return sessions::ended(Err(Refusal::Lists));
     }
     point_lists(room, g);
-    sessions::ended(Refusal::Accepted, size)
+    sessions::ended(Ok(size))
 }

@@ -8,6 +8,8 @@ use lib.Dec.{eqb}
 use lib.ListN.{get_or}
 use borrow.Author.Tests.{eqb-true, not-true, not-false}
 use Rattle.std.specs.Prelude.{Ok, Err}
+use Rattle.std.specs.Result.{IsErr, IsErrAnd}
+use Rattle.rules.specs.declared.Refusal.{Refusal}
 use Rattle.rules.specs.declared.Refusal.TheVariants as Named
 use Rattle.rules.specs.Verdict.{Verdict}
 use Rattle.rules.specs.Verdict.{Accepted, Short, Length, Version, Limit}
@@ -48,6 +50,19 @@ pub true_accepted : (r : Verdict) → r ≡ Accepted → accepted r ≡ true
 unfolding accepted
 true_accepted r e = rw e
 
+refusal_told : (e : Refusal) → accepted (Err e) ≡ false
+unfolding accepted
+refusal_told Named.Short = refl
+refusal_told Named.Length = refl
+refusal_told Named.Version = refl
+refusal_told Named.Limit = refl
+refusal_told Named.Layout = refl
+refusal_told Named.Runs = refl
+refusal_told Named.Parts = refl
+refusal_told Named.Question = refl
+refusal_told Named.Room = refl
+refusal_told Named.Lists = refl
+
 -- ---- the first of two
 
 pub and_then_next : (r q : Verdict) → r ≡ Accepted → and_then r q ≡ q
@@ -58,13 +73,17 @@ pub and_then_stop : (r q : Verdict) → accepted r ≡ false → and_then r q �
 unfolding and_then
 and_then_stop r q e = rw e
 
--- what a test b of the refusal r tells, where r is q: the answer of q and then x, or that q has passed
-module _ (b : Bool) (r q : Verdict) (told : b ≡ accepted r) (is : r ≡ q) where
-  pub told_stop : (x : Verdict) → b ≡ false → r ≡ and_then q x
-  told_stop x h = is ∙ sym (and_then_stop q x (ap accepted (sym is) ∙ sym told ∙ h))
+-- what a `?` makes of a test that tells r, where r is q: it hands the refusal on, which is the answer of q and then x; or
+-- q has passed
+module _ (r q : Verdict) (is : r ≡ q) where
+  pub handed_on : (out x : Verdict) (e : Refusal) → r ≡ Err e → IsErr out × IsErrAnd out (λ d. d ≡ e) → out ≡ and_then q x
+  handed_on (Ok _) x e was h = absurd h.1
+  handed_on (Err d) x e was h =
+      let t = sym is ∙ was in
+      ap Err h.1 ∙ sym t ∙ sym (and_then_stop q x (ap accepted t ∙ refusal_told e))
 
-  pub told_passed : b ≡ true → q ≡ Accepted
-  told_passed h = sym is ∙ accepted_true r (sym told ∙ h)
+  pub went_on : (u : Unit {0}) → r ≡ Ok u → q ≡ Accepted
+  went_on u was = sym is ∙ was
 
 pub and_then_assoc : (a b q : Verdict) → and_then (and_then a b) q ≡ and_then a (and_then b q)
 unfolding and_then

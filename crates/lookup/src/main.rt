@@ -17,14 +17,11 @@ use std::io::Read;
 use std::rt::{Env, Files};
 
 // The refusal where bytes are left behind the last whole number of the questions: the card's, if it has one.
-fn refuse_rest(card: &[u8]) -> Refusal
+fn refuse_rest(card: &[u8]) -> Result<(), Refusal>
     ensures { result ≡ and_then (index_refusal card.now) Question }
 {
-    let r = checkindex::check_index(card);
-    if !parts::passed(r) {
-        return r;
-    }
-    Refusal::Question
+    checkindex::check_index(card)?;
+    Err(Refusal::Question)
 }
 
 // Lays the answers of whole questions, and the refusal that ended them.
@@ -39,8 +36,8 @@ fn put_reply(card: &[u8], questions: &[u8], text: &mut [u8]) -> usize
     let outcome = ask::ask(card, &numbers[0..count], &mut room);
     let used = outcome.used;
     let next = text::put_lines(text, 0, &room[0..used]);
-    let refusal = outcome.refusal;
-    text::put_refused(text, next, refusal)
+    let verdict = outcome.verdict;
+    text::put_refused(text, next, verdict)
 }
 
 // Lays what the program prints at the front of the text, and gives its length; behind it nothing changes.
@@ -48,7 +45,7 @@ fn answer_text(card: &[u8], questions: &[u8], text: &mut [u8; 90200]) -> usize
     ensures { Printed card.now questions.now text.old result text.new }
 {
     if files::over_limit(card, questions) {
-        return text::put_refused(text, 0, Refusal::Room);
+        return text::put_refused(text, 0, Err(Refusal::Room));
     }
     if files::bytes_left(questions) {
         return text::put_refused(text, 0, refuse_rest(card));

@@ -50,18 +50,6 @@ fn list_from(card: &[u8], words: &[u32], bound: usize, size: usize, list: &mut [
     rows::totals(turn.q, turn.found)
 }
 
-// The answer of a refusal.
-fn refused(refusal: Refusal) -> Screened
-    ensures { result ≡ record { refusal = refusal; found = 0; full = 0; next = 0 } }
-{
-    Screened {
-        refusal,
-        found: 0,
-        full: 0,
-        next: 0,
-    }
-}
-
 // The answer of a screen of r pages that shows those at the front of the list.
 fn shown(r: u32, list: &[u32], found: usize) -> Screened
     requires { (0 < r) × (found ≤ r) × (r ≤ length list.now)
@@ -69,18 +57,11 @@ fn shown(r: u32, list: &[u32], found: usize) -> Screened
     ensures { Shows r (take found list.now) result }
 {
     if found < r as usize {
-        return Screened {
-            refusal: Refusal::Accepted,
-            found,
-            full: 0,
-            next: 0,
-        };
+        return Screened { found, next: None };
     }
     Screened {
-        refusal: Refusal::Accepted,
         found,
-        full: 1,
-        next: list[found - 1] + 1,
+        next: Some(list[found - 1] + 1),
     }
 }
 
@@ -91,7 +72,7 @@ fn put_screen(
     listed: Listed,
     pages: &mut [u32],
     counts: &mut [u32],
-) -> Screened
+) -> Result<Screened, Refusal>
     requires { (0 < r) × (listed.found ≤ r) × (r ≤ length list.now)
         × (listed.found ≡ r → get_or list.now (r - 1) 0 ≤ limit) }
     ensures { screening result pages.new counts.new
@@ -100,16 +81,16 @@ fn put_screen(
 {
     let found = listed.found;
     if pages.len() < found {
-        return refused(Refusal::Room);
+        return Err(Refusal::Room);
     }
     if replies::put(&[listed.seeks, listed.looks], counts) == 0 {
-        return refused(Refusal::Room);
+        return Err(Refusal::Room);
     }
     if found == 0 {
-        return shown(r, list, found);
+        return Ok(shown(r, list, found));
     }
     replies::put(&list[0..found], pages);
-    shown(r, list, found)
+    Ok(shown(r, list, found))
 }
 
 // A screen of r pages that the words share, from the bound on: the card is checked whole, then r and the words.
@@ -120,17 +101,14 @@ pub fn screen(
     words: &[u32],
     pages: &mut [u32],
     counts: &mut [u32],
-) -> Screened
+) -> Result<Screened, Refusal>
     ensures { ScreenShown card.now bound r words.now pages.old
         counts.old result pages.new counts.new }
 {
-    let refusal = checkindex::check_index(card);
-    if !parts::passed(refusal) {
-        return refused(refusal);
-    }
+    checkindex::check_index(card)?;
     let t = numbers::read_u16(card, INDEX_T_AT) as usize;
     if !may_show(r, words, t) {
-        return refused(Refusal::Question);
+        return Err(Refusal::Question);
     }
     let mut list = [0u32; 64];
     let listed = list_from(card, words, bound as usize, r as usize, &mut list);

@@ -9,6 +9,9 @@ use native.Mathlib.Nat.{add-zero, zero-add}
 use native.Mathlib.Omega.{arith}
 use lib.ListN.{length, take, drop, length-take, length-drop}
 use lib.Seq.{take-length, get_or-take, get_or-drop, drop-drop, ext_get_or}
+use Rattle.std.specs.Prelude.{Ok, Err}
+use Rattle.std.specs.Result.{IsErr, IsErrAnd}
+use Rattle.rules.specs.declared.Refusal.{Refusal}
 use Rattle.rules.specs.Verdict.{Verdict}
 use Rattle.rules.specs.Verdict.{Accepted}
 use Rattle.rules.specs.Refusal.{accepted, and_then}
@@ -17,7 +20,7 @@ use Rattle.rules.specs.ReadList.{stated}
 use Rattle.rules.specs.Parts.{after, part, inside}
 use Rattle.laws.specs.Blocks.{block_at}
 use Rattle.laws.proofs.ByteLaws.{Alike, be_at_same, be_at_drop}
-use Rattle.laws.proofs.RefusalLaws.{told_stop, told_passed, and_then_next}
+use Rattle.laws.proofs.RefusalLaws.{handed_on, went_on, and_then_next}
 use Rattle.laws.proofs.PartLaws.{part_at, after_at, stated_drop, inside_parts, inside_then}
 use Rattle.parts.specs.Places.{front_refusal, Held, Walkable}
 
@@ -91,27 +94,26 @@ module _ (h : ℕ) (f : List ℕ → Verdict) (at : ℕ) (s : List ℕ) where
       let n = length-drop at s in
       (omega (arith, i.holds), omega (arith, i.within))
 
--- what a test b of the answer r of `check_front` tells
-module _ (h at : ℕ) (s : List ℕ) (b : Bool) (r : Verdict) (told : b ≡ accepted r)
-    (is : r ≡ front_refusal h (drop at s)) where
-  passed_front : b ≡ true → front_refusal h (drop at s) ≡ Accepted
-  passed_front = told_passed b r (front_refusal h (drop at s)) told is
-
-  pub front_held : 4 ≤ h → at ≤ length s → b ≡ true → Held at s
-  front_held k l e = inside_held h (λ _. Accepted) at s k l (passed_front e)
+-- what a `?` makes of the answer r of `check_front`
+module _ (h at : ℕ) (s : List ℕ) (r : Verdict) (is : r ≡ front_refusal h (drop at s)) where
+  pub front_held : 4 ≤ h → at ≤ length s → (u : Unit {0}) → r ≡ Ok u → Held at s
+  front_held k l u was = inside_held h (λ _. Accepted) at s k l (went_on r (front_refusal h (drop at s)) is u was)
 
   module _ (f : List ℕ → Verdict) where
-    pub front_refused : b ≡ false → r ≡ inside h f (drop at s)
-    front_refused e = told_stop b r (front_refusal h (drop at s)) told is (f (take (be_at 4 s at) (drop at s))) e
+    pub front_refused : (out : Verdict) (e : Refusal) → r ≡ Err e → IsErr out × IsErrAnd out (λ d. d ≡ e)
+        → out ≡ inside h f (drop at s)
+    front_refused out e was gives =
+        handed_on r (front_refusal h (drop at s)) is out (f (take (be_at 4 s at) (drop at s))) e was gives
         ∙ sym (front_then h f at s)
 
     -- x is the refusal of the part p
-    pub front_answers : (p : List ℕ) (x : Verdict) → b ≡ true → p ≡ take (be_at 4 s at) (drop at s) → x ≡ f p
-        → x ≡ inside h f (drop at s)
-    front_answers p x e part_is answer =
+    pub front_answers : (p : List ℕ) (x : Verdict) (u : Unit {0}) → r ≡ Ok u → p ≡ take (be_at 4 s at) (drop at s)
+        → x ≡ f p → x ≡ inside h f (drop at s)
+    front_answers p x u was part_is answer =
+        let q = front_refusal h (drop at s) in
         answer ∙ ap f part_is
         ∙ sym (front_then h f at s
-        ∙ and_then_next (front_refusal h (drop at s)) (f (take (be_at 4 s at) (drop at s))) (passed_front e))
+        ∙ and_then_next q (f (take (be_at 4 s at) (drop at s))) (went_on r q is u was))
 
 -- what remains behind it
 pub drop_next : (at : ℕ) (s : List ℕ) → drop (stated (drop at s)) (drop at s) ≡ drop (at + be_at 4 s at) s

@@ -103,7 +103,7 @@ pub fn put_postings(
         room.old result room.new }
 {
     if !sessions::is_live(s) {
-        return sessions::ended(Refusal::Lists, 0);
+        return sessions::ended(Err(Refusal::Lists));
     }
     let first = shape::pages_shape(s.version, s.n as usize, s.pages as usize);
     let summed = shape::shape_of(s.positions as usize, s.pages as usize);
@@ -112,20 +112,18 @@ pub fn put_postings(
     let size = g.size;
     if room.len() < size {
         return Streamed {
-            refusal: Refusal::Room,
-            size: 0,
+            size: Err(Refusal::Room),
             stream: s,
         };
     }
     let word = following::follow(s, pages, counts, positions);
     if !word.ok {
         sessions::clear(room, size);
-        return sessions::ended(Refusal::Lists, 0);
+        return sessions::ended(Err(Refusal::Lists));
     }
     add_run(room, g, s, pages, counts, positions);
     Streamed {
-        refusal: Refusal::Accepted,
-        size: 0,
+        size: Ok(0),
         stream: following::advance(s, pages, positions, word.next),
     }
 }

@@ -1,4 +1,4 @@
-// Refusals by document 01's numbers.
+// What a check tells, by document 01's numbers.
 #![tactic(auto)]
 
 ghost use Rattle.std.specs.Prelude.{◌≡◌};
@@ -6,21 +6,12 @@ ghost use Rattle.rules.specs.Refusal.{number};
 
 use rules::Refusal;
 
-// Document 01's number of a refusal.
-pub fn number_of(r: Refusal) -> u32
-    ensures { result ≡ number r }
+// Document 01's number of a refusal, and 0 where nothing is refused.
+pub fn number_of(verdict: Result<(), Refusal>) -> u32
+    ensures { result ≡ number verdict }
 {
-    match r {
-        Refusal::Accepted => 0,
-        Refusal::Short => 1,
-        Refusal::Length => 2,
-        Refusal::Version => 3,
-        Refusal::Limit => 4,
-        Refusal::Layout => 5,
-        Refusal::Runs => 6,
-        Refusal::Parts => 7,
-        Refusal::Question => 8,
-        Refusal::Room => 9,
-        Refusal::Lists => 10,
+    match verdict {
+        Ok(()) => 0,
+        Err(refusal) => u32::from(refusal),
     }
 }

@@ -60,7 +60,7 @@ pub fn stopped(run: Run) -> Outcome
     ensures { Stopped run result }
 {
     Outcome {
-        refusal: Refusal::Room,
+        verdict: Err(Refusal::Room),
         answered: run.answered,
         used: run.used,
     }
@@ -71,7 +71,7 @@ pub fn ended(run: Run) -> Outcome
     ensures { Ended run result }
 {
     Outcome {
-        refusal: Refusal::Accepted,
+        verdict: Ok(()),
         answered: run.answered,
         used: run.used,
     }

@@ -11,33 +11,33 @@ use sessionlaws::Layout;
 use shape::Shape;
 
 // The refusal of an announcement, before room.
-pub fn announce(version: u32, n: usize, pages: usize, positions: usize, u: usize) -> Refusal
+pub fn announce(version: u32, n: usize, pages: usize, positions: usize, u: usize) -> Result<(), Refusal>
     ensures { result ≡ announce_refusal version n pages positions u }
 {
     if !parts::known(version) {
-        return Refusal::Version;
+        return Err(Refusal::Version);
     }
     if LIMIT < n {
-        return Refusal::Limit;
+        return Err(Refusal::Limit);
     }
     if LIMIT < u {
-        return Refusal::Limit;
+        return Err(Refusal::Limit);
     }
     if n < pages {
-        return Refusal::Lists;
+        return Err(Refusal::Lists);
     }
     if positions < pages {
-        return Refusal::Lists;
+        return Err(Refusal::Lists);
     }
     if u < positions {
-        return Refusal::Lists;
+        return Err(Refusal::Lists);
     }
     if pages == 0 {
         if 0 < u {
-            return Refusal::Lists;
+            return Err(Refusal::Lists);
         }
     }
-    Refusal::Accepted
+    Ok(())
 }
 
 // Whether a session goes on.
@@ -53,13 +53,14 @@ pub fn is_live(s: Stream) -> bool
     if s.positions < s.filled {
         return false;
     }
-    parts::passed(announce(
+    announce(
         s.version,
         s.n as usize,
         s.pages as usize,
         s.positions as usize,
         s.u as usize,
-    ))
+    )
+    .is_ok()
 }
 
 // The block that an announcement gives, whose lists have these shapes: with the shapes worked out apart each part is
@@ -92,11 +93,10 @@ pub fn layout_of(s: Stream) -> Layout
 }
 
 // A refusal that ends the session, or its success.
-pub fn ended(refusal: Refusal, size: usize) -> Streamed
-    ensures { (result.refusal ≡ refusal) × (result.size ≡ size) × (result.stream ≡ over) }
+pub fn ended(size: Result<usize, Refusal>) -> Streamed
+    ensures { (result.size ≡ size) × (result.stream ≡ over) }
 {
     Streamed {
-        refusal,
         size,
         stream: Stream {
             mark: 0,

@@ -56,7 +56,7 @@ pub fn put_lines(text: &mut [u8], at: usize, numbers: &[u32]) -> usize
 }
 
 // Lays the line of a refusal, or nothing where nothing was refused.
-pub fn put_refused(text: &mut [u8], at: usize, r: Refusal) -> usize
+pub fn put_refused(text: &mut [u8], at: usize, r: Result<(), Refusal>) -> usize
     requires { at + length (refused_line r) ≤ length text.old }
     ensures { Put (refused_line r) at result text.old text.new }
 {

@@ -8,7 +8,7 @@ ghost use Rattle.rules.specs.Promises.{TermWritten};
 ghost use Rattle.termlaws.specs.Words.{Writable};
 ghost use Rattle.writeterm.specs.Laid.{SomeShaped, TermLaid};
 
-use rules::{LIMIT, LISTS_AT, Refusal, VERSION, VERSION_AT, Written};
+use rules::{LIMIT, LISTS_AT, Refusal, VERSION, VERSION_AT};
 use wordlaws::Shapes;
 
 // Writes the block of a word whose lists have these shapes: its header, and behind it the lists, each straight into its
@@ -38,7 +38,7 @@ fn write_tested(
     counts: &[u32],
     positions: &[u32],
     room: &mut [u8],
-) -> Written
+) -> Result<usize, Refusal>
     requires { Writable version n (lent_word pages.now counts.now positions.now)
         × (reach ≡ next 0 (places (lent_word pages.now counts.now positions.now))) }
     ensures { TermWritten version n
@@ -52,16 +52,10 @@ fn write_tested(
     };
     let size = LISTS_AT + g.pages.end + g.counts.end + g.positions.end;
     if room.len() < size {
-        return Written {
-            refusal: Refusal::Room,
-            size: 0,
-        };
+        return Err(Refusal::Room);
     }
     fill_term(room, g, pages, counts, positions);
-    Written {
-        refusal: Refusal::Accepted,
-        size,
-    }
+    Ok(size)
 }
 
 // Writes a word's block at the front of the room, for an index of that version: pages below n, how often the word is on
@@ -73,35 +67,23 @@ pub fn write_term(
     counts: &[u32],
     positions: &[u32],
     room: &mut [u8],
-) -> Written
+) -> Result<usize, Refusal>
     ensures { TermWritten version n
         (lent_word pages.now counts.now positions.now) room.old result
         room.new }
 {
     if !parts::known(version) {
-        return Written {
-            refusal: Refusal::Version,
-            size: 0,
-        };
+        return Err(Refusal::Version);
     }
     if LIMIT < n as usize {
-        return Written {
-            refusal: Refusal::Limit,
-            size: 0,
-        };
+        return Err(Refusal::Limit);
     }
     let word = testword::check_word(n as usize, pages, counts, positions);
     if !word.ok {
-        return Written {
-            refusal: Refusal::Lists,
-            size: 0,
-        };
+        return Err(Refusal::Lists);
     }
     if LIMIT < word.next {
-        return Written {
-            refusal: Refusal::Limit,
-            size: 0,
-        };
+        return Err(Refusal::Limit);
     }
     write_tested(
         version, n as usize, word.next, pages, counts, positions, room,
