@@ -28,7 +28,7 @@ fn check_lists(version: u32, block: &[u8]) -> Result<(), Refusal>
 {
     let mut told = version;
     let mut at = LISTS_AT;
-    for _ in 0..3 {
+    for _ in 0..3usize {
         check_list_at(told, block, at)?;
         at += numbers::read_u32(block, at) as usize;
         told = VERSION as u32;

@@ -4,29 +4,21 @@ use Rattle.rules.specs.ReadList.{part_refusal}
 use Rattle.parts.proofs.PlaceLaws.{front_held, front_refused, front_answers}
 use Rattle.checkterm.proofs.check_list_at.Goals as goal
 
-pub returns-then-not-passed : goal.returns-then-not-passed
-returns-then-not-passed c =
-    let p = c.passed in
-    let f = c in
-    let a = f.args in
-    front_refused 13 a.at a.block.now p.result f.check_front-front.result p.ensures
-    f.check_front-front.ensures (part_refusal a.version) c.if-not-passed.true
+pub returns-in_err-check_front : goal.returns-in_err-check_front
+returns-in_err-check_front c =
+    let a = c.args in
+    front_refused 13 a.at a.block.now c.check_front.result c.check_front.ensures (part_refusal a.version)
+    c.from_residual.result c.in_err-check_front.field-0.0 c.in_err-check_front.was c.from_residual.ensures
 
 pub part_at-requires : goal.part_at-requires
 part_at-requires c =
-    let p = c.passed in
-    let f = c in
-    let b = f in
-    front_held 13 b.args.at b.args.block.now p.result f.check_front-front.result p.ensures
-    f.check_front-front.ensures (lit≤ tt) b.requires c.if-not-passed.false
+    let a = c.args in
+    front_held 13 a.at a.block.now c.check_front.result c.check_front.ensures (lit≤ tt) c.requires
+    c.in_ok-check_front.field-0 c.in_ok-check_front.was
 
 pub returns : goal.returns
 returns c =
-    let m = c.part_at in
-    let e = c in
-    let p = e.passed in
-    let f = e in
-    let a = f.args in
-    front_answers 13 a.at a.block.now p.result f.check_front-front.result p.ensures
-    f.check_front-front.ensures (part_refusal a.version)
-    m.result.now c.check_part.result e.if-not-passed.false m.ensures c.check_part.ensures
+    let a = c.args in
+    front_answers 13 a.at a.block.now c.check_front.result c.check_front.ensures (part_refusal a.version)
+    c.part_at.result.now c.check_part.result c.in_ok-check_front.field-0 c.in_ok-check_front.was
+    c.part_at.ensures c.check_part.ensures

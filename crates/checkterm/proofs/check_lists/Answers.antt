@@ -1,6 +1,6 @@
 -- `check_lists` checks one list after the other: what is left to check from `at` on has the refusal of all three.
 use mathlib.Core.Path.{◌≡◌, refl, sym, ◌∙◌}
-use Prim.Native.Nat.{suc, ◌-◌, ◌≤◌}
+use Prim.Native.Nat.{suc, ◌+◌, ◌-◌, ◌≤◌}
 use native.Mathlib.Omega.{arith}
 use lib.Dec.{lit≤}
 use lib.ListN.{drop}
@@ -10,90 +10,71 @@ use Rattle.rules.specs.Limits.{version, list_header}
 use Rattle.rules.specs.ReadList.{stated, part_refusal}
 use Rattle.rules.specs.Parts.{inside}
 use Rattle.rules.specs.ReadTerm.{lists_of}
-use Rattle.laws.proofs.RefusalLaws.{told_stop, told_passed, and_then_next}
+use Rattle.laws.proofs.RefusalLaws.{handed_on, went_on, and_then_next}
 use Rattle.parts.specs.Places.{Held}
 use Rattle.parts.proofs.PlaceLaws.{inside_held, drop_next}
 use Rattle.checkterm.specs.Lists.{lists_refusal}
 use Rattle.checkterm.proofs.ListsLaws.{lists_more, lists_none}
-use Rattle.checkterm.proofs.check_lists.Lts
-use Rattle.checkterm.proofs.check_lists.Reads
-use Rattle.checkterm.proofs.check_lists.Tie
 use Rattle.checkterm.proofs.check_lists.Goals as goal
+use Rattle.checkterm.proofs.check_lists.Goals.{In-loop, In_ok-check_list_at}
 
-abbrev In-loop-left : Type 0
-In-loop-left = Lts.In-loop Tie.the-claims Reads.Pre Reads.Post goal.the-invariant-loop-left goal.the-decreases-loop-left
-
-abbrev Else-not-passed : Type 0
-Else-not-passed = Lts.Else1 Tie.the-claims Reads.Pre Reads.Post goal.the-invariant-loop-left goal.the-decreases-loop-left
-
-pub loop-left-init : goal.loop-left-init
+pub loop-init : goal.loop-init
 unfolding lists_of
-loop-left-init c = (c.requires, refl)
+loop-init c = (c.requires, refl)
 
 -- the first of the lists that are left, and then the others
-more : (c : In-loop-left)
-    → let l = c.loop-left in
-    let a = c.args in
-    let s = a.block.now in
+more : (c : In-loop)
+    → let l = c.loop in
+    let s = c.args.block.now in
     let rest = drop l.at s in
     and_then (inside list_header (part_refusal l.told) rest)
-    (lists_refusal version (l.left - 1) (drop (stated rest) rest))
-    ≡ lists_refusal a.version 3 (lists_of s)
+    (lists_refusal version (3 - (l.counter + 1)) (drop (stated rest) rest))
+    ≡ lists_refusal c.args.version 3 (lists_of s)
 more c =
-    let l = c in
-    let m : l.loop-left.left ≡ suc (l.loop-left.left - 1) = omega (arith, c.loop-left-test.true) in
-    sym (lists_more l.loop-left.told l.loop-left.left (l.loop-left.left - 1) (drop l.loop-left.at l.args.block.now) m)
-    ∙ l.loop-left.invariant.1
+    let l = c.loop in
+    let m : 3 - l.counter ≡ suc (3 - (l.counter + 1)) = omega (arith, c.loop-test.true) in
+    sym (lists_more l.told (3 - l.counter) (3 - (l.counter + 1)) (drop l.at c.args.block.now) m)
+    ∙ l.invariant.1
 
-pub returns-then-not-passed : goal.returns-then-not-passed
-returns-then-not-passed c =
-    let r = c in
-    let l = r in
-    let rest = drop l.loop-left.at l.args.block.now in
-    told_stop c.passed.result r.check_list_at-r.result (inside list_header (part_refusal l.loop-left.told) rest)
-    c.passed.ensures r.check_list_at-r.ensures
-    (lists_refusal version (l.loop-left.left - 1) (drop (stated rest) rest)) c.if-not-passed.true
-    ∙ more r.before.before.before.before
+pub returns-in_err-check_list_at : goal.returns-in_err-check_list_at
+returns-in_err-check_list_at c =
+    let l = c.loop in
+    let rest = drop l.at c.args.block.now in
+    handed_on c.check_list_at.result (inside list_header (part_refusal l.told) rest) c.check_list_at.ensures
+    c.from_residual.result (lists_refusal version (3 - (l.counter + 1)) (drop (stated rest) rest))
+    c.in_err-check_list_at.field-0.0 c.in_err-check_list_at.was c.from_residual.ensures
+    ∙ more (goal.at.returns-in_err-check_list_at c).In-loop
 
-list_at : (c : Else-not-passed)
-    → let l = c in
-    inside list_header (part_refusal l.loop-left.told) (drop l.loop-left.at l.args.block.now) ≡ Accepted
+list_at : (c : In_ok-check_list_at)
+    → inside list_header (part_refusal c.loop.told) (drop c.loop.at c.args.block.now) ≡ Accepted
 list_at c =
-    let r = c in
-    let l = r in
-    told_passed c.passed.result r.check_list_at-r.result
-    (inside list_header (part_refusal l.loop-left.told) (drop l.loop-left.at l.args.block.now))
-    c.passed.ensures r.check_list_at-r.ensures c.if-not-passed.false
+    went_on c.check_list_at.result (inside list_header (part_refusal c.loop.told) (drop c.loop.at c.args.block.now))
+    c.check_list_at.ensures c.in_ok-check_list_at.field-0 c.in_ok-check_list_at.was
 
-here : (c : Else-not-passed)
-    → let l = c in
-    Held l.loop-left.at l.args.block.now
+here : (c : In_ok-check_list_at) → Held c.loop.at c.args.block.now
 here c =
-    let l = c in
-    inside_held list_header (part_refusal l.loop-left.told) l.loop-left.at l.args.block.now
-    (lit≤ tt) l.loop-left.invariant.0 (list_at c)
+    inside_held list_header (part_refusal c.loop.told) c.loop.at c.args.block.now (lit≤ tt) c.loop.invariant.0 (list_at c)
 
-pub loop-left-preserved : goal.loop-left-preserved
-loop-left-preserved c =
-    let e = c in
-    let r = e in
-    let l = r in
-    let s = l.args.block.now in
-    let rest = drop l.loop-left.at s in
-    let others = lists_refusal version (l.loop-left.left - 1) (drop (stated rest) rest) in (
-      omega (arith, here e.before.before, c.read_u32.ensures.0),
-      rw (c.read_u32.ensures.0, ← drop_next l.loop-left.at s)
-          (sym (and_then_next (inside list_header (part_refusal l.loop-left.told) rest) others (list_at e.before.before)) ∙ more r.before.before.before.before.before),
+pub read_u32-requires : goal.read_u32-requires
+read_u32-requires c = omega (arith, here c)
+
+pub overflow_add-at : goal.overflow_add-at
+overflow_add-at c = omega (arith, here (goal.at.overflow_add-at c).In_ok-check_list_at, c.read_u32.ensures.0)
+
+pub loop-preserved : goal.loop-preserved
+loop-preserved c =
+    let l = c.loop in
+    let s = c.args.block.now in
+    let rest = drop l.at s in
+    let p = goal.at.loop-preserved c in
+    let k = p.In_ok-check_list_at in
+    let others = lists_refusal version (3 - (l.counter + 1)) (drop (stated rest) rest) in (
+      omega (arith, here k, c.read_u32.ensures.0),
+      rw (c.read_u32.ensures.0, ← drop_next l.at s)
+          (sym (and_then_next (inside list_header (part_refusal l.told) rest) others (list_at k)) ∙ more p.In-loop),
     )
 
 pub returns : goal.returns
 returns c =
-    let l = c in
-    let rest = drop l.loop-left.at l.args.block.now in
-    sym (lists_none l.loop-left.told l.loop-left.left rest (omega (arith, c.loop-left-test.false))) ∙ l.loop-left.invariant.1
-
-pub read_u32-requires : goal.read_u32-requires
-read_u32-requires c = omega (arith, here c.before)
-
-pub overflow_add-at : goal.overflow_add-at
-overflow_add-at c = omega (arith, here c.before.before, c.read_u32.ensures.0)
+    let l = c.loop in
+    sym (lists_none l.told (3 - l.counter) (drop l.at c.args.block.now) (omega (arith, c.loop-test.false))) ∙ l.invariant.1

@@ -4,109 +4,82 @@ use mathlib.Core.Path.{◌≡◌, sym, ap, ◌∙◌}
 use mathlib.Core.List.{List}
 use Prim.Native.Nat.{ℕ}
 use native.Mathlib.Omega.{arith}
-use Rattle.rules.specs.Verdict.{Verdict}
-use Rattle.rules.specs.Verdict.{Accepted, Version}
+use Rattle.rules.specs.Verdict.{Verdict, Accepted, Version}
 use Rattle.rules.specs.Limits.{version, last_edition, up_to, term_header}
 use Rattle.rules.specs.ReadTerm.{lists_of, term_refusal}
-use Rattle.laws.proofs.RefusalLaws.{told_stop, told_passed, and_then_next}
+use Rattle.laws.proofs.RefusalLaws.{handed_on, went_on, and_then_next}
 use Rattle.laws.proofs.HeadLaws.{head_passed}
 use Rattle.parts.specs.Places.{head_refusal}
 use Rattle.checkterm.specs.Lists.{lists_refusal, rest_refusal}
 use Rattle.checkterm.proofs.ListsLaws.{told, term_then, lists_in}
-use Rattle.checkterm.proofs.check_term.Lts
-use Rattle.checkterm.proofs.check_term.Reads
-use Rattle.checkterm.proofs.check_term.Tie
 use Rattle.checkterm.proofs.check_term.Goals as goal
-
-abbrev Else-not-passed : Type 0
-Else-not-passed = Lts.Else1 Tie.the-claims Reads.Pre Reads.Post
-
-abbrev Else-not-known : Type 0
-Else-not-known = Lts.Else2 Tie.the-claims Reads.Pre Reads.Post
-
-abbrev Else-not-passed-2 : Type 0
-Else-not-passed-2 = Lts.Else3 Tie.the-claims Reads.Pre Reads.Post
+use Rattle.checkterm.proofs.check_term.Goals.{In_ok-check_head, Else-not-known, In_ok-check_lists}
 
 -- what the refusal is behind the header
 abbrev behind : ℕ → List ℕ → Verdict
 behind v s = cond (not (up_to last_edition v)) Version (told v s)
 
-pub returns-then-not-passed : goal.returns-then-not-passed
-returns-then-not-passed c =
-    let h = c in
-    let a = h.args in
-    told_stop c.passed.result h.check_head-head.result (head_refusal term_header version a.block.now)
-    c.passed.ensures h.check_head-head.ensures (behind a.version a.block.now) c.if-not-passed.true
+pub returns-in_err-check_head : goal.returns-in_err-check_head
+returns-in_err-check_head c =
+    let a = c.args in
+    handed_on c.check_head.result (head_refusal term_header version a.block.now) c.check_head.ensures
+    c.from_residual.result (behind a.version a.block.now) c.in_err-check_head.field-0.0 c.in_err-check_head.was
+    c.from_residual.ensures
     ∙ sym (term_then a.version a.block.now)
 
-head_at : (c : Else-not-passed)
-    → head_refusal term_header version c.args.block.now ≡ Accepted
+head_at : (c : In_ok-check_head) → head_refusal term_header version c.args.block.now ≡ Accepted
 head_at c =
-    let h = c in
-    told_passed c.passed.result h.check_head-head.result
-    (head_refusal term_header version h.args.block.now) c.passed.ensures
-    h.check_head-head.ensures c.if-not-passed.false
+    went_on c.check_head.result (head_refusal term_header version c.args.block.now) c.check_head.ensures
+    c.in_ok-check_head.field-0 c.in_ok-check_head.was
 
-behind_head : (c : Else-not-passed)
-    → let a = c.args in
-    term_refusal a.version a.block.now ≡ behind a.version a.block.now
-behind_head c =
-    let a = c.args in
-    term_then a.version a.block.now
-    ∙ and_then_next (head_refusal term_header version a.block.now) (behind a.version a.block.now) (head_at c)
+behind_head : (v : ℕ) (s : List ℕ) → head_refusal term_header version s ≡ Accepted → term_refusal v s ≡ behind v s
+behind_head v s e = term_then v s ∙ and_then_next (head_refusal term_header version s) (behind v s) e
 
 pub returns-then-not-known : goal.returns-then-not-known
 returns-then-not-known c =
-    let k = c in
-    let e = k in
-    let a = e.args in
-    let u : up_to last_edition a.version ≡ false = sym k.known.ensures ∙ c.if-not-known.true in
-    sym (behind_head e.before.before.before ∙ ap (λ (b : Bool). cond (not b) Version (told a.version a.block.now)) u)
+    let a = c.args in
+    let u : up_to last_edition a.version ≡ false = sym c.known.ensures ∙ c.if-not-known.true in
+    sym (behind_head a.version a.block.now (head_at (goal.at.returns-then-not-known c).In_ok-check_head)
+    ∙ ap (λ (b : Bool). cond (not b) Version (told a.version a.block.now)) u)
 
-behind_known : (c : Else-not-known)
-    → let a = c.args in
-    term_refusal a.version a.block.now ≡ told a.version a.block.now
-behind_known c =
-    let k = c in
-    let e = k in
-    let a = e.args in
-    let u : up_to last_edition a.version ≡ true = sym k.known.ensures ∙ c.if-not-known.false in
-    behind_head e.before.before ∙ ap (λ (b : Bool). cond (not b) Version (told a.version a.block.now)) u
+behind_known : (c : Else-not-known) → head_refusal term_header version c.args.block.now ≡ Accepted
+    → term_refusal c.args.version c.args.block.now ≡ told c.args.version c.args.block.now
+behind_known c e =
+    let a = c.args in
+    let u : up_to last_edition a.version ≡ true = sym c.known.ensures ∙ c.if-not-known.false in
+    behind_head a.version a.block.now e ∙ ap (λ (b : Bool). cond (not b) Version (told a.version a.block.now)) u
 
-pub check_lists-lists-requires : goal.check_lists-lists-requires
-check_lists-lists-requires c =
-    let e = c in
-    let s = e.args.block.now in
-    omega (arith, (head_passed term_header version s Accepted (head_at e.before.before.before)).0.header)
+pub check_lists-requires : goal.check_lists-requires
+check_lists-requires c =
+    omega (
+      arith,
+      (head_passed term_header version c.args.block.now Accepted
+          (head_at (goal.at.check_lists-requires c).In_ok-check_head)).0.header,
+    )
 
-pub returns-then-not-passed-2 : goal.returns-then-not-passed-2
-returns-then-not-passed-2 c =
-    let l = c in
-    let a = l.args in
-    told_stop c.passed-2.result l.check_lists-lists.result (lists_refusal a.version 3 (lists_of a.block.now))
-    c.passed-2.ensures l.check_lists-lists.ensures (rest_refusal a.block.now) c.if-not-passed-2.true
-    ∙ sym (behind_known l.before.before.before.before)
+pub returns-in_err-check_lists : goal.returns-in_err-check_lists
+returns-in_err-check_lists c =
+    let a = c.args in
+    let p = goal.at.returns-in_err-check_lists c in
+    handed_on c.check_lists.result (lists_refusal a.version 3 (lists_of a.block.now)) c.check_lists.ensures
+    c.from_residual-in_err-check_lists.result (rest_refusal a.block.now) c.in_err-check_lists.field-0.0 c.in_err-check_lists.was
+    c.from_residual-in_err-check_lists.ensures
+    ∙ sym (behind_known p.Else-not-known (head_at p.In_ok-check_head))
 
-lists_at : (c : Else-not-passed-2)
-    → let a = c.args in
-    lists_refusal a.version 3 (lists_of a.block.now) ≡ Accepted
+lists_at : (c : In_ok-check_lists) → lists_refusal c.args.version 3 (lists_of c.args.block.now) ≡ Accepted
 lists_at c =
-    let l = c in
-    let a = l.args in
-    told_passed c.passed-2.result l.check_lists-lists.result
-    (lists_refusal a.version 3 (lists_of a.block.now))
-    c.passed-2.ensures l.check_lists-lists.ensures c.if-not-passed-2.false
+    let a = c.args in
+    went_on c.check_lists.result (lists_refusal a.version 3 (lists_of a.block.now)) c.check_lists.ensures
+    c.in_ok-check_lists.field-0 c.in_ok-check_lists.was
 
 pub check_rest-requires : goal.check_rest-requires
-check_rest-requires c =
-    let a = c.args in
-    lists_in a.version a.block.now (lists_at c.before)
+check_rest-requires c = lists_in c.args.version c.args.block.now (lists_at c)
 
 pub returns : goal.returns
 returns c =
-    let e = c in
-    let l = e in
-    let a = l.args in
+    let a = c.args in
+    let p = goal.at.returns c in
     c.check_rest.ensures
-    ∙ sym (behind_known l.before.before.before.before.before
-    ∙ and_then_next (lists_refusal a.version 3 (lists_of a.block.now)) (rest_refusal a.block.now) (lists_at e.before.before))
+    ∙ sym (behind_known p.Else-not-known (head_at p.In_ok-check_head)
+    ∙ and_then_next (lists_refusal a.version 3 (lists_of a.block.now)) (rest_refusal a.block.now)
+    (lists_at p.In_ok-check_lists))
