@@ -7,15 +7,18 @@ use native.Mathlib.Omega.{arith}
 use borrow.Author.Tests.{not-true, lt-ltb, le-ltb, le-leb, lt-leb}
 use lib.ListN.{length, take, drop, set, length-append}
 use lib.Seq.{sets}
+use Rattle.std.specs.Prelude.{Result, Ok, Err}
+use Rattle.std.specs.Result.{IsErr, IsErrAnd}
+use Rattle.rules.specs.declared.Refusal.{Refusal}
 use Rattle.rules.specs.Verdict.{Verdict}
 use Rattle.rules.specs.Verdict.{Accepted, Short, Version, Limit, Room}
 use Rattle.rules.specs.Refusal.{accepted}
 use Rattle.rules.specs.Limits.{last_edition, up_to, index_header, four_bytes}
 use Rattle.rules.specs.Bytes.{be}
 use Rattle.rules.specs.Index.{index_front, close_refusal, close_index}
-use Rattle.rules.specs.Write.{refused, laid}
+use Rattle.rules.specs.Write.{made, laid}
 use Rattle.laws.proofs.ByteLaws.{length_be, sets_then}
-use Rattle.laws.proofs.RefusalLaws.{told_passed, accepted_true}
+use Rattle.laws.proofs.RefusalLaws.{went_on, refusal_told, accepted_true}
 use Rattle.laws.proofs.RoomLaws.{sets_laid}
 use Rattle.cardlaws.specs.Cards.{Closable}
 use Rattle.cardlaws.proofs.PassedLaws.{accepted_closable}
@@ -76,15 +79,18 @@ front_stored d a b c e used ver N T h p q r s =
 -- ---- the answer
 
 module _ (buffer : List ℕ) (used ver N T : ℕ) (r : Verdict) (is : r ≡ close_refusal buffer used ver N T) where
-  -- what a test b of the refusal tells
-  pub close_refused : (b : Bool) → b ≡ accepted r → b ≡ false → refused r buffer ≡ close_index buffer used ver N T
+  -- what a `?` makes of the refusal
+  pub close_refused : (out : Result ℕ Refusal) (e : Refusal) → r ≡ Err e → IsErr out × IsErrAnd out (λ d. d ≡ e)
+      → made out buffer ≡ close_index buffer used ver N T
   unfolding close_index
-  close_refused b told h =
-      let f : accepted (close_refusal buffer used ver N T) ≡ false = ap accepted (sym is) ∙ sym told ∙ h in
-      rw (f, is)
+  close_refused (Ok _) e was h = absurd h.1
+  close_refused (Err d) e was h =
+      let t = sym is ∙ was in
+      let f : accepted (close_refusal buffer used ver N T) ≡ false = ap accepted t ∙ refusal_told e in
+      rw (f, t, h.1)
 
-  pub close_passed : (b : Bool) → b ≡ accepted r → b ≡ true → Closable buffer used ver N T
-  close_passed b told h = accepted_closable buffer used ver N T (told_passed b r (close_refusal buffer used ver N T) told is h)
+  pub close_passed : (u : Unit {0}) → r ≡ Ok u → Closable buffer used ver N T
+  close_passed u was = accepted_closable buffer used ver N T (went_on r (close_refusal buffer used ver N T) is u was)
 
 -- ---- what the answer tells
 

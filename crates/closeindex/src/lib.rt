@@ -9,7 +9,13 @@ ghost use Rattle.rules.specs.Promises.{IndexClosed};
 use rules::{FOUR_BYTES, INDEX_HEADER, INDEX_N_AT, INDEX_T_AT, Refusal, VERSION_AT};
 
 // The refusal of closing, before anything is written.
-fn close_refusal(buffer: &[u8], used: usize, version: u32, n: usize, t: usize) -> Result<(), Refusal>
+fn close_refusal(
+    buffer: &[u8],
+    used: usize,
+    version: u32,
+    n: usize,
+    t: usize,
+) -> Result<(), Refusal>
     ensures { result ≡ close_refusal buffer.now used version n t }
 {
     if buffer.len() < used {
@@ -39,7 +45,13 @@ fn write_front(buffer: &mut [u8], used: usize, version: u8, n: usize, t: usize)
 }
 
 // Closes an index of that version of t terms of pages below n in the first `used` bytes: the first 11 are its header's.
-pub fn close_index(buffer: &mut [u8], used: usize, version: u32, n: u32, t: u32) -> Result<usize, Refusal>
+pub fn close_index(
+    buffer: &mut [u8],
+    used: usize,
+    version: u32,
+    n: u32,
+    t: u32,
+) -> Result<usize, Refusal>
     ensures { IndexClosed buffer.old used version n t result buffer.new }
 {
     close_refusal(buffer, used, version, n as usize, t as usize)?;

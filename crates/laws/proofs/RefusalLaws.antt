@@ -50,7 +50,7 @@ pub true_accepted : (r : Verdict) → r ≡ Accepted → accepted r ≡ true
 unfolding accepted
 true_accepted r e = rw e
 
-refusal_told : (e : Refusal) → accepted (Err e) ≡ false
+pub refusal_told : (e : Refusal) → accepted (Err e) ≡ false
 unfolding accepted
 refusal_told Named.Short = refl
 refusal_told Named.Length = refl

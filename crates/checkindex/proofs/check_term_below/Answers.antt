@@ -8,73 +8,57 @@ use lib.ListN.{length}
 use Rattle.rules.specs.Verdict.{Accepted, Parts}
 use Rattle.rules.specs.ReadList.{list_u}
 use Rattle.rules.specs.ReadTerm.{pages_of, term_refusal}
-use Rattle.laws.proofs.RefusalLaws.{told_stop, told_passed, and_then_next}
+use Rattle.laws.proofs.RefusalLaws.{handed_on, went_on, and_then_next}
 use Rattle.listlaws.proofs.RefusalLaws.{part_framed}
 use Rattle.termlaws.proofs.Theorems.{accepted_lists}
 use Rattle.cardlaws.specs.Terms.{word_refusal}
-use Rattle.checkindex.proofs.check_term_below.Lts
-use Rattle.checkindex.proofs.check_term_below.Reads
-use Rattle.checkindex.proofs.check_term_below.Tie
 use Rattle.checkindex.proofs.check_term_below.Goals as goal
+use Rattle.checkindex.proofs.check_term_below.Goals.{In_ok-check_term, After-read_u32}
 
-abbrev Else-not-passed : Type 0
-Else-not-passed = Lts.Else1 Tie.the-claims Reads.Pre Reads.Post
+pub returns-in_err-check_term : goal.returns-in_err-check_term
+returns-in_err-check_term c =
+    let a = c.args in
+    handed_on c.check_term.result (term_refusal a.version a.block.now) c.check_term.ensures c.from_residual.result
+    (cond (not (eqb (list_u (pages_of a.block.now)) a.n)) Parts Accepted) c.in_err-check_term.field-0.0
+    c.in_err-check_term.was c.from_residual.ensures
 
-abbrev After-read_u32 : Type 0
-After-read_u32 = Lts.After-read_u32 Tie.the-claims Reads.Pre Reads.Post
-
-pub returns-then-not-passed : goal.returns-then-not-passed
-returns-then-not-passed c =
-    let p = c.passed in
-    let t = c in
-    let a = t.args in
-    told_stop p.result t.check_term-term.result (term_refusal a.version a.block.now) p.ensures t.check_term-term.ensures
-    (cond (not (eqb (list_u (pages_of a.block.now)) a.n)) Parts Accepted) c.if-not-passed.true
-
-term_at : (c : Else-not-passed)
-    → let a = c.args in
-    term_refusal a.version a.block.now ≡ Accepted
+term_at : (c : In_ok-check_term) → term_refusal c.args.version c.args.block.now ≡ Accepted
 term_at c =
-    let p = c.passed in
-    let t = c in
-    told_passed p.result t.check_term-term.result
-    (term_refusal t.args.version t.args.block.now) p.ensures t.check_term-term.ensures c.if-not-passed.false
+    went_on c.check_term.result (term_refusal c.args.version c.args.block.now) c.check_term.ensures
+    c.in_ok-check_term.field-0 c.in_ok-check_term.was
+
+pub pages_of-pages-requires : goal.pages_of-pages-requires
+pages_of-pages-requires c = record { version = c.args.version; accepted = term_at c }
 
 pub read_u32-requires : goal.read_u32-requires
 read_u32-requires c =
-    let e = c in
-    let a = e.args in
+    let a = c.args in
     let s = a.block.now in
-    let l = (part_framed a.version (pages_of s) (accepted_lists a.version s (term_at e.before.before)).pages).0.header in
+    let t = term_at (goal.at.read_u32-requires c).In_ok-check_term in
+    let l = (part_framed a.version (pages_of s) (accepted_lists a.version s t).pages).0.header in
     omega (arith, ap length c.pages_of-pages.ensures)
 
 -- the pages' U is read, and the refusal is by it
-U-at : (c : After-read_u32)
-    → c.read_u32.result ≡ list_u (pages_of c.args.block.now)
-unfolding list_u
-U-at c = c.read_u32.ensures.0 ∙ ap list_u c.pages_of-pages.ensures
-
 by_N : (c : After-read_u32)
     → let a = c.args in
-    word_refusal a.version a.n a.block.now ≡ cond (not (eqb c.read_u32.result a.n)) Parts Accepted
-by_N c =
-    let e = c in
-    let a = e.args in
+    term_refusal a.version a.block.now ≡ Accepted
+    → word_refusal a.version a.n a.block.now ≡ cond (not (eqb c.read_u32.result a.n)) Parts Accepted
+unfolding list_u
+by_N c t =
+    let a = c.args in
+    let u : c.read_u32.result ≡ list_u (pages_of a.block.now) = c.read_u32.ensures.0 ∙ ap list_u c.pages_of-pages.ensures in
     and_then_next (term_refusal a.version a.block.now)
-    (cond (not (eqb (list_u (pages_of a.block.now)) a.n)) Parts Accepted) (term_at e.before.before)
-    ∙ rw (U-at c)
+    (cond (not (eqb (list_u (pages_of a.block.now)) a.n)) Parts Accepted) t
+    ∙ rw u
 
 pub returns-then-read_u32-n : goal.returns-then-read_u32-n
 returns-then-read_u32-n c =
-    let u = c in
-    sym (by_N u.before.before
-    ∙ rw (ne_eqb u.read_u32.result u.args.n c.if-read_u32-n.true))
+    let p = goal.at.returns-then-read_u32-n c in
+    sym (by_N p.After-read_u32 (term_at p.In_ok-check_term)
+    ∙ rw (ne_eqb c.read_u32.result c.args.n c.if-read_u32-n.true))
 
 pub returns : goal.returns
 returns c =
-    let u = c in
-    sym (by_N u.before.before
-    ∙ rw (eq-eqb u.read_u32.result u.args.n c.if-read_u32-n.false))
-
-pub pages_of-pages-requires : goal.pages_of-pages-requires
-pages_of-pages-requires c = record { version = c.args.version; accepted = term_at c.before }
+    let p = goal.at.returns c in
+    sym (by_N p.After-read_u32 (term_at p.In_ok-check_term)
+    ∙ rw (eq-eqb c.read_u32.result c.args.n c.if-read_u32-n.false))
