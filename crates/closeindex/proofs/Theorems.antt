@@ -3,8 +3,9 @@ use mathlib.Core.Path.{◌≡◌, sym, ap, ◌∙◌}
 use mathlib.Core.List.{List}
 use Prim.Native.Nat.{ℕ}
 use lib.ListN.{take, drop}
-use Rattle.rules.specs.Verdict.{Accepted}
-use Rattle.rules.specs.declared.Written.{Written}
+use Rattle.std.specs.Prelude.{Result}
+use Rattle.rules.specs.declared.Refusal.{Refusal}
+use Rattle.rules.specs.Verdict.{Accepted, verdict}
 use Rattle.rules.specs.Limits.{index_header}
 use Rattle.rules.specs.Write.{Made}
 use Rattle.rules.specs.Index.{index_v, index_n, index_t, index_refusal, close_index}
@@ -14,8 +15,8 @@ use Rattle.cardlaws.proofs.Theorems.{closing}
 use Rattle.cardlaws.proofs.ClosingLaws.{close_told, close_kept}
 
 -- A success leaves an accepted index of that version, N and T with the terms that lay there, and changes its header's bytes alone.
-pub close_accepts : (buffer : List ℕ) (used v N T : ℕ) (r : Written) (room : List ℕ)
-    → IndexClosed buffer used v N T r room → r.refusal ≡ Accepted
+pub close_accepts : (buffer : List ℕ) (used v N T : ℕ) (r : Result ℕ Refusal) (room : List ℕ)
+    → IndexClosed buffer used v N T r room → verdict r ≡ Accepted
     → (index_refusal (take used room) ≡ Accepted) × (index_v (take used room) ≡ v) × (index_n (take used room) ≡ N)
     × (index_t (take used room) ≡ T)
     × (drop index_header room ≡ drop index_header buffer)
@@ -26,7 +27,7 @@ close_accepts buffer used v N T r room e a =
     rw m (c.accepts, c.V-is, c.N-is, c.T-is, c.others_same)
 
 -- A refusal leaves the buffer as it was.
-pub close_keeps : (buffer : List ℕ) (used v N T : ℕ) (r : Written) (room : List ℕ) → IndexClosed buffer used v N T r room
-    → (r.refusal ≡ Accepted → ⊥) → room ≡ buffer
+pub close_keeps : (buffer : List ℕ) (used v N T : ℕ) (r : Result ℕ Refusal) (room : List ℕ) → IndexClosed buffer used v N T r room
+    → (verdict r ≡ Accepted → ⊥) → room ≡ buffer
 close_keeps buffer used v N T r room e n =
     ap (λ (k : Made). k.room) e ∙ close_kept buffer used v N T (λ a. n (ap (λ (k : Made). k.refusal) e ∙ a))

@@ -27,7 +27,7 @@ closable c =
     c.in_ok-close_refusal.field-0 c.in_ok-close_refusal.was
 
 pub overflow_cast-version : goal.overflow_cast-version
-overflow_cast-version c = omega (arith, (up_to_parts last_edition c.args.version (closable c).known).1)
+overflow_cast-version c = omega (arith, (up_to_parts last_edition c.args.version (closable (goal.at.overflow_cast-version c).In_ok-close_refusal).known).1)
 
 pub write_front-requires : goal.write_front-requires
 write_front-requires c =
