@@ -9,9 +9,9 @@ ghost use Rattle.checklaws.specs.Check.{Judged, Tells, Laid, Holds, At, Ready, R
 use checklaws::{Low, Mid};
 use shape::Shape;
 
-// Reads the elements of word k, which is x, one after the other, and counts those that are above the one before: where
-// that is not each of them, nothing is known. The high part of an element is 64 more in its pair, so that what is added to
-// its place in the word is never negative.
+// Reads the elements of word k, which is x, one after the other, and counts those that are above the one before; nothing is
+// answered where one is not. The high part of an element is 64 more in its pair, so that what is added to its place in the
+// word is never negative.
 fn climb(s: &[u8], g: Shape, m: Mid, x: u64, k: usize) -> Option<Mid>
     requires { Ready s.now g k m.i m.next x × At s.now g k m × (m.i + ones x ≤ g.n) }
     ensures { Judged result (Read s.now g k (m.i + ones x)) (Holds s.now g) }
@@ -44,7 +44,7 @@ fn climb(s: &[u8], g: Shape, m: Mid, x: u64, k: usize) -> Option<Mid>
     })
 }
 
-// Passes word k, where nothing is wrong in it.
+// Passes word k; nothing is answered where something is wrong in it.
 fn one_word(s: &[u8], g: Shape, m: Mid, k: usize) -> Option<Mid>
     requires { Laid s.now g × At s.now g k m × (k < words_for g.bits) }
     ensures { Judged result (At s.now g (k + 1)) (Holds s.now g) }
