@@ -9,7 +9,7 @@ use native.Mathlib.Omega.{arith}
 use borrow.Author.Tests.{le-leb, leb-true}
 use lib.Count.{ones}
 use lib.Dec.{leb}
-use Rattle.rules.specs.Runs.{run_word, words_for}
+use Rattle.rules.specs.Runs.{words_for}
 use Rattle.rules.specs.Counts.{ones_below}
 use Rattle.rules.specs.List.{rising}
 use Rattle.rules.specs.ReadList.{elements}
@@ -18,7 +18,6 @@ use Rattle.laws.proofs.RunLaws.{words_hold, ones_mono}
 use Rattle.shape.specs.declared.Shape.{Shape}
 use Rattle.listlaws.specs.Sound.{climbs, least}
 use Rattle.listlaws.proofs.RisingLaws.{and_parts, rising_climbs}
-use Rattle.checklaws.specs.declared.Mid.{Mid}
 use Rattle.checklaws.specs.Check.{Laid, Holds, passed, Climbed, last_of, Pointed, Ready, At, Trimmed}
 use Rattle.checklaws.proofs.LowLaws.{held_start}
 use Rattle.checklaws.proofs.ClimbLaws.{passed_zeros}
@@ -39,7 +38,6 @@ module _ (s : List ℕ) (g : Shape) (d : Laid s g) where
   }
 
   pub at_start : At s g 0 (record {
-    ok = true;
     i = 0;
     next = 1;
     last = 0;

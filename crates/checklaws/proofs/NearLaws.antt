@@ -1,9 +1,9 @@
 -- Laws of the ones of a word that have a neighbour below, in the word or at the end of the word before:
 -- `x & ((x << 1) | carry)` has them.
 use mathlib.Core.Logic.{◌⊎◌, inl, inr}
-use mathlib.Core.Path.{◌≡◌, refl, sym, ap, ap₂, ◌∙◌, subst}
+use mathlib.Core.Path.{◌≡◌, refl, sym, ap, ap₂, ◌∙◌}
 use mathlib.Core.List.{List}
-use Prim.Native.Nat.{ℕ, zero, suc, ◌+◌, ◌-◌, ◌*◌, ◌/◌, ◌%◌, ◌^◌, ◌≤◌, ◌<◌}
+use Prim.Native.Nat.{ℕ, zero, suc, ◌+◌, ◌-◌, ◌*◌, ◌/◌, ◌%◌, ◌^◌, ◌<◌}
 use native.Mathlib.Nat.{mod-eq_of_lt}
 use native.Mathlib.Decide.{dec_lt}
 use native.Mathlib.Omega.{arith}
@@ -11,7 +11,7 @@ use lib.Bits.{bit_and, bit_or, and_le_l, and_le_r, and_shr, and_mod, or_shifted}
 use lib.Count.{count_trailing_zeros}
 use lib.Pow.{pow_pos, shr_lt, high, low}
 use Rattle.rules.specs.Runs.{bit, run_word, run_bit}
-use Rattle.laws.proofs.BitLaws.{bit_zero, bit_suc, bit_cases, bit_mod, bit_beyond, one_zero, shl_keeps, tz_set, tz_lt}
+use Rattle.laws.proofs.BitLaws.{bit_zero, bit_suc, bit_mod, bit_beyond, one_zero, shl_keeps, tz_set, tz_lt}
 use Rattle.laws.proofs.RunLaws.{run_bit_lem, run_cases}
 use Rattle.checklaws.specs.Check.{bit_before, Spaced}
 

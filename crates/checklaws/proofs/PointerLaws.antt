@@ -66,16 +66,7 @@ module _ (s : List ℕ) (up k x i : ℕ) (x-is : x ≡ run_word s up k) (counted
 -- ---- the number of the next pointer
 
 module _ (s : List ℕ) (g : Shape) (k i q c : ℕ) (a : Pointed s g (64 * k) i q) where
-  -- the word decides none
-  pub pointed_same : (9 + 4 * q < g.lower → 64 * k + 64 < 256 * q + i + c) → Pointed s g (64 * (k + 1)) (i + c) q
-  pointed_same h = record {
-    first = a.first;
-    last = a.last;
-    ahead = λ l. omega (arith, h l);
-    behind = a.behind;
-  }
-
-  -- it decides one
+  -- the word decides one
   pub pointed_next : Laid s g → 9 + 4 * q < g.lower → After (ones_below s g.upper) (256 * q) (be_at 4 s (9 + 4 * q))
       → Pointed s g (64 * (k + 1)) (i + c) (q + 1)
   pointed_next d l h = record {

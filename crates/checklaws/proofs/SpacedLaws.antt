@@ -1,6 +1,6 @@
 -- Laws of a list without low parts: its elements climb where no two ones of its upper run are neighbours, and are below
 -- the bound where the run's last bit is 0.
-use mathlib.Core.Bool.{Bool, true, false, ◌&&◌}
+use mathlib.Core.Bool.{Bool, true, ◌&&◌}
 use mathlib.Core.Logic.{inl, inr}
 use mathlib.Core.Path.{◌≡◌, refl, sym, ap, ◌∙◌}
 use mathlib.Core.List.{List}
@@ -12,7 +12,7 @@ use borrow.Author.Tests.{le-leb, leb-true}
 use lib.Bits.{bit_and, bit_or}
 use lib.Count.{ones}
 use lib.Dec.{leb}
-use Rattle.rules.specs.Runs.{run_word, run_bit, field, words_for}
+use Rattle.rules.specs.Runs.{run_word, run_bit, words_for}
 use Rattle.rules.specs.Counts.{ones_below}
 use Rattle.rules.specs.List.{rising}
 use Rattle.rules.specs.ReadList.{elements}

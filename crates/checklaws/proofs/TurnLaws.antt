@@ -4,14 +4,14 @@ use mathlib.Core.Bool.{Bool, true, false, ◌&&◌, true≢false, false≢true}
 use mathlib.Core.Logic.{◌⊎◌, inl, inr}
 use mathlib.Core.Path.{◌≡◌, refl, sym, ap, ap₂, ◌∙◌}
 use mathlib.Core.List.{List}
-use Prim.Native.Nat.{ℕ, suc, ◌+◌, ◌-◌, ◌*◌, ◌/◌, ◌%◌, ◌^◌, ◌≤◌, ◌<◌}
+use Prim.Native.Nat.{ℕ, suc, ◌+◌, ◌-◌, ◌*◌, ◌/◌, ◌^◌, ◌≤◌, ◌<◌}
 use native.Mathlib.Nat.{div-mul-le_self, div-one, mul-one, lt_of_lt_of_le}
 use native.Mathlib.Decide.{dec_lt}
 use native.Mathlib.Omega.{arith}
-use borrow.Author.Tests.{lt-ltb, le-ltb, eqb-true, eqb-false}
+use borrow.Author.Tests.{lt-ltb, le-ltb}
 use lib.Bits.{bit_and}
 use lib.Count.{ones, count_trailing_zeros}
-use lib.Dec.{leb, ltb, eqb}
+use lib.Dec.{leb, ltb}
 use lib.Pow.{pow_pos, pow_mono}
 use Rattle.rules.specs.Bytes.{be_at}
 use Rattle.rules.specs.Runs.{bit, run_word, run_bit, field, words_for}
@@ -23,7 +23,7 @@ use Rattle.laws.proofs.CountLaws.{below_suc, ones_below_le, next_word}
 use Rattle.laws.proofs.RunLaws.{run_bit_lem, field_lt, ones_mono}
 use Rattle.shape.specs.declared.Shape.{Shape}
 use Rattle.checklaws.specs.declared.Low.{Low}
-use Rattle.checklaws.specs.Check.{Judged, Laid, Holds, Climbed, pair_of, last_of, Held, Read, next_low}
+use Rattle.checklaws.specs.Check.{Laid, Holds, Climbed, pair_of, last_of, Held, Read, next_low}
 use Rattle.checklaws.proofs.LowLaws.{held_part, held_next}
 use Rattle.checklaws.proofs.PairLaws.{pair_is, last_one, last_ltb}
 use Rattle.checklaws.proofs.ClimbLaws.{element_at, climbed_zeros, climbed_one, climbed_refuse}
@@ -130,41 +130,34 @@ module _ {s : List ℕ} {g : Shape} {k x i₀ rest lift last rises : ℕ} {l : L
       ∙ bit_beyond 0 (j - 64 * k) (pow_pos (j - 64 * k)))
 
   -- then what was counted tells whether the elements climb
-  pub peeled_told : rest ≡ 0 → ones_below s g.upper (64 * k) ≡ i₀ → (ok : Bool) (q : ℕ)
-      → Judged (eqb (i₀ + rises) (64 * k + 64 - lift)) (Read s g k (i₀ + ones x) (record {
-        ok = ok;
-        i = 64 * k + 64 - lift;
-        next = q;
-        last = last;
-        low = l;
-      })) (Holds s g)
-  peeled_told z n ok q =
-      let e : p.i ≡ 64 * k + 64 - lift = omega (arith, p.lifted) in
-      let c = peeled_end z in
-      let w = next_word s g.upper k x o.is o.fits in (
-        λ t.
-            let r : p.rising ≡ true = told p.rising (λ f.
-            omega (arith, p.risen.less f, eqb-true (i₀ + rises) (64 * k + 64 - lift) t, e)) in
-            record {
-              all = omega (arith, c.counted, w, n, e);
-              bound = p.bound;
-              climbed = rw (e, r) at c;
-              last_is = p.last_is;
-              held = rw e at p.held;
-            },
-        λ t.
-            let r : p.rising ≡ false = told_not p.rising (λ f.
-            eqb-false (i₀ + rises) (64 * k + 64 - lift) t (p.risen.all f ∙ e)) in
-            climbed_refuse s g (64 * (k + 1)) p.i p.bound (rw r at c) (omega (arith, o.inside)),
-      )
-    where
-      told : (b : Bool) → (b ≡ false → ⊥) → b ≡ true
-      told true h = refl
-      told false h = absurd (h refl)
+  module _ (z : rest ≡ 0) where
+    pub peeled_read : ones_below s g.upper (64 * k) ≡ i₀ → i₀ + rises ≡ 64 * k + 64 - lift → (q : ℕ)
+        → Read s g k (i₀ + ones x) (record { i = 64 * k + 64 - lift; next = q; last = last; low = l })
+    peeled_read n h q =
+        let e : p.i ≡ 64 * k + 64 - lift = omega (arith, p.lifted) in
+        let c = peeled_end z in
+        let r : p.rising ≡ true = told p.rising (λ f. omega (arith, p.risen.less f, e)) in
+        record {
+          all = omega (arith, c.counted, next_word s g.upper k x o.is o.fits, n, e);
+          bound = p.bound;
+          climbed = rw (e, r) at c;
+          last_is = p.last_is;
+          held = rw e at p.held;
+        }
+      where
+        told : (b : Bool) → (b ≡ false → ⊥) → b ≡ true
+        told true h = refl
+        told false h = absurd (h refl)
 
-      told_not : (b : Bool) → (b ≡ true → ⊥) → b ≡ false
-      told_not true h = absurd (h refl)
-      told_not false h = refl
+    pub peeled_refuse : (i₀ + rises ≡ 64 * k + 64 - lift → ⊥) → Holds s g → ⊥
+    peeled_refuse h =
+        let e : p.i ≡ 64 * k + 64 - lift = omega (arith, p.lifted) in
+        let r : p.rising ≡ false = told_not p.rising (λ f. h (p.risen.all f ∙ e)) in
+        climbed_refuse s g (64 * (k + 1)) p.i p.bound (rw r at (peeled_end z)) (omega (arith, o.inside))
+      where
+        told_not : (b : Bool) → (b ≡ true → ⊥) → b ≡ false
+        told_not true h = absurd (h refl)
+        told_not false h = refl
 
 -- ---- the lowest one that is left
 

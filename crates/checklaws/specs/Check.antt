@@ -1,7 +1,7 @@
 -- What the check of a list has tested, part by part, over the fields of the list's shape.
 --
---   Judged r P Q       where r is true P holds, and where it is false Q does not
 --   Tells r P          r is true where P holds and false where it does not
+--   Judged r P Q       P holds of the value of r, and where there is none Q does not
 --   Tail s at m        the run at byte `at` of s has only zeros from bit m on in the word of that bit
 --   Clear s at m       its last word, where it has m bits, has only zeros from bit m on
 --   Laid s g           s is bytes, and g the shape of bytes as long, with an element at least
@@ -21,7 +21,7 @@
 --   At s g k m         k words are passed, and m says what is known of them
 --   Read s g k i m     the i elements up to word k and in it are read, and m says what is known of them
 --   Trimmed s g        g is the shape of s, and the spare bits are 0
-use Rattle.std.specs.Prelude.{Bool, true, false, cond, ◌≡◌, List, ℕ, zero, suc, ◌+◌, ◌-◌, ◌*◌, ◌/◌, ◌%◌, ◌^◌, ◌≤◌, ◌<◌, leb, length}
+use Rattle.std.specs.Prelude.{Bool, true, false, cond, Option, MatchOption, ◌≡◌, List, ℕ, zero, suc, ◌+◌, ◌-◌, ◌*◌, ◌/◌, ◌%◌, ◌^◌, ◌≤◌, ◌<◌, leb, length}
 use Rattle.std.specs.Int.Count.{ones}
 use Rattle.rules.specs.Bytes.{be_at, Bytes}
 use Rattle.rules.specs.Runs.{bit, run_word, run_bit, field, words_for}
@@ -33,11 +33,11 @@ use Rattle.listlaws.specs.Sound.{After, climbs, least}
 use Rattle.checklaws.specs.declared.Low.{Low}
 use Rattle.checklaws.specs.declared.Mid.{Mid}
 
-abbrev pub Judged : Bool → Type 0 → Type 0 → Type 0
-Judged r P Q = (r ≡ true → P) × (r ≡ false → Q → ⊥)
-
 abbrev pub Tells : Bool → Type 0 → Type 0
-Tells r P = Judged r P P
+Tells r P = (r ≡ true → P) × (r ≡ false → P → ⊥)
+
+abbrev pub Judged : {T : Type 0} → Option T → (T → Type 0) → Type 0 → Type 0
+Judged r P Q = MatchOption r (Q → ⊥) P
 
 abbrev pub Tail : List ℕ → ℕ → ℕ → Type 0
 Tail s at m = (i : ℕ) → m ≤ i → i < 64 * (m / 64 + 1) → run_bit s at i ≡ 0

@@ -11,11 +11,10 @@ pub struct Low {
     pub at: usize,
 }
 
-// What is known of the words passed: whether nothing is wrong in them, how many elements they hold, the number of the
-// next pointer, and the last element as a pair of its high and its low part, 0 if there is none.
+// What is known of the words passed: how many elements they hold, the number of the next pointer, and the last element as
+// a pair of its high and its low part, 0 if there is none.
 #[derive(Clone, Copy)]
 pub struct Mid {
-    pub ok: bool,
     pub i: usize,
     pub next: usize,
     pub last: u64,

@@ -2,7 +2,6 @@
 use mathlib.Core.Path.{◌≡◌, sym, ap, ◌∙◌}
 use mathlib.Core.List.{List}
 use Prim.Native.Nat.{ℕ, ◌+◌, ◌*◌, ◌/◌, ◌≤◌, ◌<◌}
-use native.Mathlib.Decide.{dec_lt}
 use native.Mathlib.Omega.{arith}
 use borrow.Author.Tests.{eqb-true, eqb-false}
 use lib.Dec.{eqb}
@@ -52,25 +51,13 @@ module _ (s : List ℕ) (at : ℕ) where
   pub counted_few : (q i : ℕ) → Counted s at q i → i ≤ 256 * q
   counted_few q i c = omega (arith, c.ones_are, ones_below_le s at (256 * q))
 
-  module _ (q i d : ℕ) (c : Counted s at q i)
-      (e : ones_below s at (64 * (4 * q)) + d ≡ ones_below s at (64 * (4 * q + 4))) where
-    -- the ones with those of the next four words
-    pub ones_next : i + d ≡ ones_below s at (256 * (q + 1))
-    ones_next =
-        let a : 64 * (4 * q) ≡ 256 * q = omega arith in
-        let b : 64 * (4 * q + 4) ≡ 256 * (q + 1) = omega arith in
-        omega (arith, c.ones_are, rw (a, b) at e)
-
-    pub counted_next : be_at 4 s (9 + 4 * (q + 1)) ≡ i + d → Counted s at (q + 1) (i + d)
-    counted_next r = record { ones_are = ones_next; numbers_are = go }
-      where
-        go : (j : ℕ) → 0 < j → j ≤ q + 1 → be_at 4 s (9 + 4 * j) ≡ ones_below s at (256 * j)
-        go j g h = elim (dec_lt j (q + 1)) [
-          | yes l ↦ c.numbers_are j g (omega arith)
-          | no l ↦
-              let k : q + 1 ≡ j = omega arith in
-              rw k at (r ∙ ones_next)
-        ]
+  -- the ones with those of the next four words
+  pub ones_next : (q i d : ℕ) → Counted s at q i → ones_below s at (64 * (4 * q)) + d ≡ ones_below s at (64 * (4 * q + 4))
+      → i + d ≡ ones_below s at (256 * (q + 1))
+  ones_next q i d c e =
+      let a : 64 * (4 * q) ≡ 256 * q = omega arith in
+      let b : 64 * (4 * q + 4) ≡ 256 * (q + 1) = omega arith in
+      omega (arith, c.ones_are, rw (a, b) at e)
 
 -- what all the stretches and the words behind them tell
 module _ (s : List ℕ) (g : Shape) (l : MapLaid s g) (clear : Clear s g.upper g.bits) (i d : ℕ)

@@ -20,11 +20,9 @@ pub fn map_ok(s: &[u8], g: Shape) -> bool
     }
     let full = g.u / 256;
     let mut i = 0;
-    let mut q = 0;
-    while q < full {
+    for q in 0..full {
         i += runs::ones_of(s, g.upper, 4 * q, 4 * q + 4);
-        q += 1;
-        if numbers::read_u32(s, POINTER_ZERO_AT + POINTER_SIZE * q) as usize != i {
+        if numbers::read_u32(s, POINTER_ZERO_AT + POINTER_SIZE * (q + 1)) as usize != i {
             return false;
         }
     }

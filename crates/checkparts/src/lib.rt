@@ -1,7 +1,7 @@
 // What the check of a list block asks of one part: spare bits, the next low part, a pointer.
 #![tactic(auto)]
 
-ghost use Rattle.std.specs.Prelude.{◌≡◌, false, ◌+◌, ◌*◌, ◌/◌, ◌^◌, ◌<◌, ◌≤◌, length};
+ghost use Rattle.std.specs.Prelude.{◌≡◌, false, ◌+◌, ◌*◌, ◌/◌, ◌^◌, ◌<◌, ◌≤◌, length, IfSome, IfNone};
 ghost use Rattle.std.specs.Int.Count.{ones};
 ghost use Rattle.rules.specs.Bytes.{be_at};
 ghost use Rattle.rules.specs.Runs.{words_for};
@@ -84,25 +84,25 @@ fn pointer_ok(s: &[u8], q: usize, x: u64, base: usize, i: usize) -> bool
     256 * q + i + fields::ones_below(x, j) as usize == p
 }
 
-// The number of the next pointer once word k, which is x and has i ones before it, is passed; 0 where it has more ones
+// The number of the next pointer once word k, which is x and has i ones before it, is passed; none where it has more ones
 // than there are elements, or the pointer that it decides is wrong.
-pub fn next_pointer(s: &[u8], g: Shape, i: usize, next: usize, x: u64, k: usize) -> usize
+pub fn next_pointer(s: &[u8], g: Shape, i: usize, next: usize, x: u64, k: usize) -> Option<usize>
     requires { Ready s.now g k i next x }
-    ensures goes_on { 0 < result → (i + ones x ≤ g.n) × Pointed s.now g (64 * (k + 1)) (i + ones x) result }
-    ensures refuses { result ≡ 0 → Holds s.now g → ⊥ }
+    ensures goes_on { IfSome result (λ q. (i + ones x ≤ g.n) × Pointed s.now g (64 * (k + 1)) (i + ones x) q) }
+    ensures refuses { IfNone result (Holds s.now g → ⊥) }
 {
     let through = i + u64::count_ones(x) as usize;
     if g.n < through {
-        return 0;
+        return None;
     }
     if 64 * k + 64 < 256 * next + through {
-        return next;
+        return Some(next);
     }
     if g.lower <= POINTER_ZERO_AT + POINTER_SIZE * next {
-        return next;
+        return Some(next);
     }
-    if pointer_ok(s, next, x, 64 * k, i) {
-        return next + 1;
+    if !pointer_ok(s, next, x, 64 * k, i) {
+        return None;
     }
-    0
+    Some(next + 1)
 }

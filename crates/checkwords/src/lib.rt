@@ -9,11 +9,12 @@ ghost use Rattle.checklaws.specs.Check.{Judged, Tells, Laid, Holds, At, Ready, R
 use checklaws::{Low, Mid};
 use shape::Shape;
 
-// Reads the elements of word k, which is x, one after the other, and counts those that are above the one before. The
-// high part of an element is 64 more in its pair, so that what is added to its place in the word is never negative.
-fn climb(s: &[u8], g: Shape, m: Mid, x: u64, k: usize) -> Mid
+// Reads the elements of word k, which is x, one after the other, and counts those that are above the one before; nothing is
+// answered where one is not. The high part of an element is 64 more in its pair, so that what is added to its place in the
+// word is never negative.
+fn climb(s: &[u8], g: Shape, m: Mid, x: u64, k: usize) -> Option<Mid>
     requires { Ready s.now g k m.i m.next x × At s.now g k m × (m.i + ones x ≤ g.n) }
-    ensures { Judged result.ok (Read s.now g k (m.i + ones x) result) (Holds s.now g) }
+    ensures { Judged result (Read s.now g k (m.i + ones x)) (Holds s.now g) }
 {
     let mut rest = x;
     let mut lift = 64 * k + 64 - m.i;
@@ -32,30 +33,26 @@ fn climb(s: &[u8], g: Shape, m: Mid, x: u64, k: usize) -> Mid
         rest = rest & (rest - 1);
     }
     let i = 64 * k + 64 - lift;
-    Mid {
-        ok: m.i + rises == i,
+    if m.i + rises != i {
+        return None;
+    }
+    Some(Mid {
         i,
         next: m.next,
         last,
         low,
-    }
+    })
 }
 
-// Passes word k.
-fn one_word(s: &[u8], g: Shape, m: Mid, k: usize) -> Mid
+// Passes word k; nothing is answered where something is wrong in it.
+fn one_word(s: &[u8], g: Shape, m: Mid, k: usize) -> Option<Mid>
     requires { Laid s.now g × At s.now g k m × (k < words_for g.bits) }
-    ensures { Judged result.ok (At s.now g (k + 1) result) (Holds s.now g) }
+    ensures { Judged result (At s.now g (k + 1)) (Holds s.now g) }
 {
     let x = runs::run_word(s, g.upper, k);
-    let next = checkparts::next_pointer(s, g, m.i, m.next, x, k);
-    if next == 0 {
-        let mut r = m;
-        r.ok = false;
-        return r;
-    }
-    let mut r = climb(s, g, m, x, k);
-    r.next = next;
-    r
+    let next = checkparts::next_pointer(s, g, m.i, m.next, x, k)?;
+    let read = climb(s, g, m, x, k)?;
+    Some(Mid { next, ..read })
 }
 
 // Whether the elements of a list rise and its pointers stand.
@@ -70,20 +67,17 @@ fn climbing(s: &[u8], g: Shape) -> bool
         at: g.lower,
     };
     let mut m = Mid {
-        ok: true,
         i: 0,
         next: 1,
         last: 0,
         low,
     };
     let words = (g.bits + 63) / 64;
-    let mut k = 0;
-    while k < words {
-        m = one_word(s, g, m, k);
-        if !m.ok {
+    for k in 0..words {
+        let Some(next) = one_word(s, g, m, k) else {
             return false;
-        }
-        k += 1;
+        };
+        m = next;
     }
     if m.i != g.n {
         return false;
@@ -104,19 +98,17 @@ fn spaced(s: &[u8], g: Shape) -> bool
     let mut i = 0;
     let mut next = 1;
     let mut carry = 0;
-    let mut k = 0;
-    while k < words {
+    for k in 0..words {
         let x = runs::run_word(s, g.upper, k);
-        next = checkparts::next_pointer(s, g, i, next, x, k);
-        if next == 0 {
+        let Some(after) = checkparts::next_pointer(s, g, i, next, x, k) else {
             return false;
-        }
+        };
+        next = after;
         if x & ((x << 1) | carry) != 0 {
             return false;
         }
         i += u64::count_ones(x) as usize;
         carry = x >> 63;
-        k += 1;
     }
     i == g.n
 }

@@ -76,11 +76,9 @@ pub fn blocks_from(s: &[u8], from: usize, k: usize) -> &[u8]
     ensures { result.now ≡ after k (drop from s.now) }
 {
     let mut rest = &s[from..];
-    let mut i = 0;
-    while i < k {
+    for _ in 0..k {
         let size = numbers::read_u32(rest, 0) as usize;
         rest = &rest[size..];
-        i += 1;
     }
     rest
 }

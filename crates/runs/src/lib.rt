@@ -19,10 +19,8 @@ pub fn ones_of(s: &[u8], at: usize, from: usize, to: usize) -> usize
     ensures { ones_below s.now at (64 * from) + result ≡ ones_below s.now at (64 * to) }
 {
     let mut i = 0;
-    let mut k = from;
-    while k < to {
+    for k in from..to {
         i += u64::count_ones(run_word(s, at, k)) as usize;
-        k += 1;
     }
     i
 }

@@ -1,6 +1,5 @@
 -- `climb` reads the elements of a word. The loop's invariant:
 -- what is left is the word with the ones that were read cleared.
-use Prim.Native.Nat.{◌-◌}
 use Rattle.checklaws.proofs.TurnLaws.{Peeled}
 use Rattle.checkwords.proofs.climb.Given as goal
 

@@ -1,128 +1,69 @@
--- `climbing` passes the words one after the other. The loop's invariant: what is known of those passed is so.
+-- `climbing` passes the words one after the other. Behind the last one the number of elements is compared, and the last
+-- one with the bound.
 use mathlib.Core.Bool.{false≢true}
 use mathlib.Core.Path.{◌≡◌, sym, ap₂, ◌∙◌}
-use Prim.Native.Nat.{◌+◌, ◌-◌, ◌/◌, ◌^◌, ◌≤◌}
+use mathlib.Core.List.{List}
+use Prim.Native.Nat.{ℕ, ◌+◌, ◌/◌, ◌^◌, ◌≤◌}
 use native.Mathlib.Omega.{arith}
-use borrow.Author.Tests.{not-true, not-false, leb-true, leb-false}
+use borrow.Author.Tests.{leb-true, leb-false}
 use lib.Dec.{leb, ltb}
 use Rattle.rules.specs.Runs.{words_for}
-use Rattle.checklaws.specs.Check.{At}
+use Rattle.shape.specs.declared.Shape.{Shape}
+use Rattle.checklaws.specs.declared.Mid.{Mid}
+use Rattle.checklaws.specs.Check.{Tells, Laid, Holds, pair_of, At, Trimmed}
 use Rattle.checklaws.proofs.PairLaws.{bound_low, bound_pair, last_ltb}
 use Rattle.checklaws.proofs.HoldLaws.{at_start, refuse_count, refuse_bound, bound_rises, holds}
-use Rattle.checkwords.proofs.climbing.Lts
-use Rattle.checkwords.proofs.climbing.Reads
-use Rattle.checkwords.proofs.climbing.Tie
 use Rattle.checkwords.proofs.climbing.Goals as goal
 
-abbrev At-loop-k : Type 0
-At-loop-k = Lts.At-loop Tie.the-claims Reads.Pre Reads.Post goal.the-invariant-loop-k goal.the-decreases-loop-k
-
-abbrev Start : Type 0
-Start = Lts.Start Tie.the-claims Reads.Pre Reads.Post goal.the-invariant-loop-k goal.the-decreases-loop-k
-
-abbrev After-loop-k : Type 0
-After-loop-k = Lts.After-loop Tie.the-claims Reads.Pre Reads.Post goal.the-invariant-loop-k goal.the-decreases-loop-k
-
-abbrev Else-m-g : Type 0
-Else-m-g = Lts.Else2 Tie.the-claims Reads.Pre Reads.Post goal.the-invariant-loop-k goal.the-decreases-loop-k
-
--- the start, seen from the loop
-abbrev by_loop : At-loop-k → Start
-by_loop c = c.before.before.before
-
 pub loop-k-init : goal.loop-k-init
-loop-k-init c =
-    let b = c in
-    (omega arith, at_start b.args.s.now b.args.g b.requires.laid)
+loop-k-init c = at_start c.args.s.now c.args.g c.requires.laid
 
-pub one_word-m-requires : goal.one_word-m-requires
+pub one_word-requires : goal.one_word-requires
 unfolding words_for
-one_word-m-requires c = (c.requires.laid, c.loop-k.invariant.1, c.loop-k-test.true)
-
-pub returns-then-not-m : goal.returns-then-not-m
-returns-then-not-m c =
-    let r = c.one_word-m in
-    (λ e. absurd (false≢true e), λ _. r.ensures.1 (not-true r.result.ok c.if-not-m.true))
-
-pub loop-k-preserved : goal.loop-k-preserved
-loop-k-preserved c =
-    let r = c in (
-      omega (arith, r.loop-k-test.true),
-      r.one_word-m.ensures.0 (not-false r.one_word-m.result.ok c.if-not-m.false),
-    )
+one_word-requires c = (c.requires.laid, c.loop-k.invariant, c.loop-k-test.true)
 
 -- all words are passed
-end_at : (c : After-loop-k)
-    → let a = c.args in
-    At a.s.now a.g (words_for a.g.bits) c.loop-k.m
+end_at : (s : List ℕ) (g : Shape) (k : ℕ) (m : Mid) → k ≡ (g.bits + 63) / 64 → At s g k m → At s g (words_for g.bits) m
 unfolding words_for
-end_at c =
-    let l = c.loop-k in
-    let k : l.k ≡ (c.args.g.bits + 63) / 64 = omega (arith, l.invariant.0, c.loop-k-test.false) in
-    rw k at l.invariant.1
+end_at s g k m e a = rw e at a
 
 pub returns-then-m-g : goal.returns-then-m-g
 returns-then-m-g c =
-    let e = c in
-    let b = e in
-    let m = e.loop-k.m in
-    let a = end_at e.before.before.before.before in (
-      λ y. absurd (false≢true y),
-      λ _. refuse_count b.args.s.now b.args.g b.requires m.i m.next a.climbed.counted a.pointed
-          c.if-m-g.true,
-    )
+    let s = c.args.s.now in
+    let g = c.args.g in
+    let m = c.loop-k.m in
+    let a = end_at s g c.loop-k.k m (omega arith) c.loop-k.invariant in
+    (λ y. absurd (false≢true y), λ _. refuse_count s g c.requires m.i m.next a.climbed.counted a.pointed c.if-m-g.true)
 
--- the start, seen from behind the count
-abbrev by_count : Else-m-g → Start
-by_count c = c.before.before.before.before.before.before.before
+few : (s : List ℕ) (g : Shape) → Laid s g → g.u / 2 ^ g.w ≤ 2 ^ 25
+few s g d = omega (arith, d.zeros_are, d.few)
 
-few : (c : Else-m-g) → c.args.g.u / 2 ^ c.args.g.w ≤ 2 ^ 25
-few c =
-    let d = c.requires.laid in
-    omega (arith, d.zeros_are, d.few)
+pub overflow_add-high : goal.overflow_add-high
+overflow_add-high c = omega (arith, few c.args.s.now c.args.g c.requires.laid)
 
 pub paired-requires : goal.paired-requires
 paired-requires c =
-    let n = c in
-    let b = n in
-    let g = b.args.g in (
-      omega (arith, few n.before.before.before),
-      bound_low g.w g.u c.field_of.result c.field_of.ensures (omega (arith, b.requires.laid.narrow)),
+    let g = c.args.g in
+    let d = c.requires.laid in (
+      omega (arith, few c.args.s.now g d),
+      bound_low g.w g.u c.field_of.result c.field_of.ensures (omega (arith, d.narrow)),
+    )
+
+-- behind the last word the last element is compared with the bound
+bounded : (s : List ℕ) (g : Shape) (d : Trimmed s g) (m : Mid) → At s g (words_for g.bits) m → m.i ≡ g.n → (p : ℕ)
+    → p ≡ pair_of g.w g.u → Tells (ltb m.last p) (Holds s g)
+bounded s g d m a n p e =
+    let told : ltb m.last p ≡ leb a.bound g.u =
+    ap₂ ltb a.last_is e ∙ last_ltb g.w (omega (arith, d.laid.narrow)) a.bound g.u in (
+      λ t. holds s g d m.i m.next a.climbed.counted a.pointed n
+          (bound_rises s g d m.i a.bound a.climbed (leb-true a.bound g.u (sym told ∙ t))),
+      λ t. refuse_bound s g d m.i a.bound a.climbed (leb-false a.bound g.u (sym told ∙ t)),
     )
 
 pub returns : goal.returns
 returns c =
-    let p = c in
-    let f = p in
-    let n = f in
-    let e = n in
-    let b = n in
-    let s = b.args.s.now in
-    let g = b.args.g in
-    let m = e.loop-k.m in
-    let a = end_at e.before.before.before.before.before.before.before.before in
-    let told : ltb m.last p.paired.result ≡ leb a.bound g.u =
-    ap₂ ltb a.last_is (p.paired.ensures ∙ bound_pair g.w g.u f.field_of.result f.field_of.ensures)
-    ∙ last_ltb g.w (omega (arith, b.requires.laid.narrow)) a.bound g.u in (
-      λ t. holds s g b.requires m.i m.next a.climbed.counted a.pointed n.if-m-g.false
-          (bound_rises s g b.requires m.i a.bound a.climbed (leb-true a.bound g.u (sym told ∙ t))),
-      λ t. refuse_bound s g b.requires m.i a.bound a.climbed (leb-false a.bound g.u (sym told ∙ t)),
-    )
-
-pub overflow_add-words : goal.overflow_add-words
-overflow_add-words c = omega (arith, c.requires.laid.few)
-
-pub overflow_add-k : goal.overflow_add-k
-overflow_add-k c = omega (arith, c.loop-k-test.true)
-
-pub loop-k-smaller : goal.loop-k-smaller
-loop-k-smaller c = omega (arith, c.loop-k-test.true)
-
-pub overflow_shr-high : goal.overflow_shr-high
-overflow_shr-high c = omega (arith, c.requires.laid.narrow)
-
-pub overflow_add-high : goal.overflow_add-high
-overflow_add-high c = omega (arith, few c.before.before)
-
-pub field_of-requires : goal.field_of-requires
-field_of-requires c = (omega arith, omega (arith, c.requires.laid.narrow))
+    let s = c.args.s.now in
+    let g = c.args.g in
+    let m = c.loop-k.m in
+    bounded s g c.requires m (end_at s g c.loop-k.k m (omega arith) c.loop-k.invariant) c.if-m-g.false c.paired.result
+    (c.paired.ensures ∙ bound_pair g.w g.u c.field_of.result c.field_of.ensures)

@@ -1,8 +1,14 @@
+use mathlib.Core.Path.{◌≡◌, ◌∙◌}
+use Prim.Native.Nat.{◌+◌, ◌-◌}
 use native.Mathlib.Omega.{arith}
-use native.Mathlib.Nat.{add-zero}
+use Rattle.std.proofs.lemmas.List.{places}
 use Rattle.rules.specs.Bytes.{be_at}
 use Rattle.numbers.proofs.read_u16.Goals as goal
 
 pub returns : goal.returns
 unfolding be_at
-returns c = (simp add-zero (omega arith), omega arith)
+returns c =
+    let a = c.args in
+    let w = rw c.unwrap.ensures at c.try_into.ensures.1 in
+    let n : a.at + 2 - a.at ≡ 2 = omega arith in
+    (c.from.ensures ∙ c.from_be_bytes.ensures ∙ rw (w.same, n) (grind (arith, places)), omega arith)

@@ -1,13 +1,14 @@
+use mathlib.Core.Path.{◌∙◌}
 use native.Mathlib.Omega.{arith}
-use native.Mathlib.Nat.{div-one}
-use lib.ListN.{length-set}
+use Rattle.std.proofs.lemmas.Nat.{and_mask}
 use Rattle.rules.specs.Bytes.{be}
-use native.Mathlib.Numerals.{add-one}
+use Rattle.numbers.proofs.StoreLaws.{stored}
 use Rattle.numbers.proofs.write_u16.Goals as goal
-
-pub bounds-d-at-2 : goal.bounds-d-at-2
-bounds-d-at-2 c = simp length-set (omega arith)
 
 pub returns : goal.returns
 unfolding be
-returns c = rw (div-one, add-one)
+returns c =
+    let a = c.args in
+    let m = and_mask a.v 16 in
+    stored 2 a.v a.d.now c.copy_from_slice.new.self a.at c.requires
+    (c.copy_from_slice.ensures.after ∙ c.to_be_bytes.ensures ∙ grind (arith, m))

@@ -1,9 +1,14 @@
-use Rattle.laws.proofs.ByteLaws.{sets_be}
+use mathlib.Core.Path.{◌∙◌}
+use native.Mathlib.Omega.{arith}
+use Rattle.std.proofs.lemmas.Nat.{and_mask}
+use Rattle.rules.specs.Bytes.{be}
+use Rattle.numbers.proofs.StoreLaws.{stored}
 use Rattle.numbers.proofs.write_u32.Goals as goal
 
 pub returns : goal.returns
+unfolding be
 returns c =
-    let low = c.before.before in
-    let high = low.before.before.before.before in
-    let a = high.args in
-    sets_be 2 2 a.v a.d.now a.at high.write_u16.ensures low.write_u16-2.ensures
+    let a = c.args in
+    let m = and_mask a.v 32 in
+    stored 4 a.v a.d.now c.copy_from_slice.new.self a.at c.requires
+    (c.copy_from_slice.ensures.after ∙ c.to_be_bytes.ensures ∙ grind (arith, m))

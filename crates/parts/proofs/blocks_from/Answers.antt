@@ -1,6 +1,7 @@
--- `blocks_from` walks: `rest` are the bytes from block number i on, and each block up to number k lies within them all.
+-- `blocks_from` walks: each block up to number k lies within the bytes, and its length is at the front of the rest.
 use mathlib.Core.Path.{◌≡◌, sym, ap, ◌∙◌}
-use Prim.Native.Nat.{ℕ, ◌+◌, ◌-◌}
+use mathlib.Core.List.{List}
+use Prim.Native.Nat.{ℕ, ◌+◌, ◌≤◌}
 use native.Mathlib.Omega.{arith}
 use lib.ListN.{length, drop, length-drop}
 use lib.Seq.{drop-drop}
@@ -10,13 +11,7 @@ use Rattle.laws.specs.Blocks.{block_at}
 use Rattle.laws.proofs.PartLaws.{block_at_suc, stated_drop, after_at}
 use Rattle.parts.specs.Places.{Held}
 use Rattle.parts.proofs.PlaceLaws.{part_behind}
-use Rattle.parts.proofs.blocks_from.Lts
-use Rattle.parts.proofs.blocks_from.Reads
-use Rattle.parts.proofs.blocks_from.Tie
 use Rattle.parts.proofs.blocks_from.Goals as goal
-
-abbrev At-loop-i : Type 0
-At-loop-i = Lts.At-loop Tie.the-claims Reads.Pre Reads.Post goal.the-invariant-loop-i goal.the-decreases-loop-i
 
 pub slice_bounds-rest-count : goal.slice_bounds-rest-count
 unfolding block_at
@@ -26,53 +21,57 @@ pub slice_bounds-rest-start : goal.slice_bounds-rest-start
 unfolding block_at
 slice_bounds-rest-start c = omega (arith, c.requires 0 (omega arith))
 
-pub loop-i-init : goal.loop-i-init
+pub loop-init : goal.loop-init
 unfolding block_at
-loop-i-init c =
-    let a = c.args in
-    (omega arith, part_behind a.from a.s.now)
+loop-init c = part_behind c.args.from c.args.s.now
 
--- the block at hand, in the bytes and at the front of the rest
-here : (c : At-loop-i)
-    → let a = c.args in
-    let s = a.s.now in
-    let at : ℕ = block_at a.from c.loop-i.i s in
-    Held at s × (length c.loop-i.rest.now ≡ length s - at) × (be_at 4 c.loop-i.rest.now 0 ≡ be_at 4 s at)
+-- the block that is held at place p of s is at the front of the rest from there on
+front : (p : ℕ) (s rest : List ℕ) → rest ≡ drop p s → Held p s → (4 ≤ be_at 4 rest 0) × (be_at 4 rest 0 ≤ length rest)
 unfolding stated
-here c =
-    let start = c.before.before.before in
-    let s = start.args.s.now in
-    let at : ℕ = block_at start.args.from c.loop-i.i s in
-    let e = c.loop-i.invariant.1 in
-    (start.requires c.loop-i.i c.loop-i.invariant.0, rw e (length-drop at s), rw e (stated_drop at s))
+front p s rest e h = rw (e, stated_drop p s) (omega (arith, h, length-drop p s))
 
 pub read_u32-size-requires : goal.read_u32-size-requires
-read_u32-size-requires c = let h = here c.before.before in omega (arith, h.0, h.1)
+read_u32-size-requires c =
+    let a = c.args in
+    omega (arith, front (block_at a.from c.loop.counter a.s.now) a.s.now c.loop.rest.now c.loop.invariant (c.requires _ (omega arith)))
 
-pub slice_bounds-rest-count-in-loop-i : goal.slice_bounds-rest-count-in-loop-i
-slice_bounds-rest-count-in-loop-i c = let h = here c.before.before.before in omega (arith, h.0, h.1, h.2, c.read_u32-size.ensures.0)
-
-pub slice_bounds-rest-start-in-loop-i : goal.slice_bounds-rest-start-in-loop-i
-slice_bounds-rest-start-in-loop-i c = let h = here c.before.before.before in omega (arith, h.0, h.1, h.2, c.read_u32-size.ensures.0)
-
-pub loop-i-preserved : goal.loop-i-preserved
-loop-i-preserved c =
-    let l = c.before.before.before.before in
-    let a = l.args in
-    let s = a.s.now in
-    let at : ℕ = block_at a.from l.loop-i.i s in
-    let size = c.read_u32-size in
-    let e : at + size.result ≡ block_at a.from (l.loop-i.i + 1) s =
-    ap (λ (n : ℕ). at + n) (size.ensures.0 ∙ (here l).2) ∙ sym (block_at_suc a.from s l.loop-i.i) in (
-      omega arith,
-      part_behind size.result l.loop-i.rest.now ∙ rw l.loop-i.invariant.1 (drop-drop size.result at s)
-          ∙ ap (λ (n : ℕ). drop n s) e,
+pub slice_bounds-rest-count-in-loop : goal.slice_bounds-rest-count-in-loop
+slice_bounds-rest-count-in-loop c =
+    let a = c.args in
+    omega (
+      arith,
+      front (block_at a.from c.loop.counter a.s.now) a.s.now c.loop.rest.now c.loop.invariant (c.requires _ (omega arith)),
+      c.read_u32-size.ensures.0,
     )
+
+pub slice_bounds-rest-start-in-loop : goal.slice_bounds-rest-start-in-loop
+slice_bounds-rest-start-in-loop c =
+    let a = c.args in
+    omega (
+      arith,
+      front (block_at a.from c.loop.counter a.s.now) a.s.now c.loop.rest.now c.loop.invariant (c.requires _ (omega arith)),
+      c.read_u32-size.ensures.0,
+    )
+
+-- the block passed
+next_rest : (from k n : ℕ) (s rest : List ℕ) → rest ≡ drop (block_at from k s) s → n ≡ be_at 4 rest 0
+    → drop n rest ≡ drop (block_at from (k + 1) s) s
+unfolding stated
+next_rest from k n s rest e h =
+    let p : ℕ = block_at from k s in
+    let b : be_at 4 rest 0 ≡ be_at 4 s p = rw e (stated_drop p s) in
+    rw e (drop-drop n p s) ∙ ap (λ (m : ℕ). drop m s) (ap (λ (m : ℕ). p + m) (h ∙ b) ∙ sym (block_at_suc from s k))
+
+pub loop-preserved : goal.loop-preserved
+loop-preserved c =
+    let a = c.args in
+    let l = c.loop in
+    let size = c.read_u32-size in
+    part_behind size.result l.rest.now
+    ∙ next_rest a.from l.counter size.result a.s.now l.rest.now l.invariant size.ensures.0
 
 pub returns : goal.returns
 returns c =
-    let l = c.before.before in
-    let a = l.args in
-    let e : l.loop-i.i ≡ a.k = omega arith in
-    l.loop-i.invariant.1 ∙ ap (λ (n : ℕ). drop (block_at a.from n a.s.now) a.s.now) e
-    ∙ sym (after_at a.from a.s.now a.k)
+    let a = c.args in
+    let e : c.loop.counter ≡ a.k = omega arith in
+    c.loop.invariant ∙ ap (λ (n : ℕ). drop (block_at a.from n a.s.now) a.s.now) e ∙ sym (after_at a.from a.s.now a.k)
