@@ -39,8 +39,8 @@ pub fn add_above(
 {
     let mut lows = nothing_laid(from * w);
     let mut highs = Highs { acc: 0, word: 0 };
-    for i in 0..list.len() {
-        let x = base + list[i] as usize;
+    for (i, &x) in list.iter().enumerate() {
+        let x = base + x as usize;
         highs = setting::add_high(&mut block[upper..], highs, (x >> w) + (from + i));
         lows = setting::add_low(&mut block[lower..], w, lows, x);
     }
@@ -74,8 +74,8 @@ fn add_map(block: &mut [u8], at: usize, list: &[u32])
     ensures { MapAdded at list.now block.old block.new }
 {
     let mut highs = Highs { acc: 0, word: 0 };
-    for i in 0..list.len() {
-        highs = setting::add_high(&mut block[at..], highs, list[i] as usize);
+    for &x in list {
+        highs = setting::add_high(&mut block[at..], highs, x as usize);
     }
     setting::flush(&mut block[at..], highs.word, highs.acc);
 }
