@@ -39,8 +39,8 @@ pub fn add_above(
 {
     let mut lows = nothing_laid(from * w);
     let mut highs = Highs { acc: 0, word: 0 };
-    for i in 0..list.len() {
-        let x = base + list[i] as usize;
+    for (i, &x) in list.iter().enumerate() {
+        let x = base + x as usize;
         highs = setting::add_high(&mut block[upper..], highs, (x >> w) + (from + i));
         lows = setting::add_low(&mut block[lower..], w, lows, x);
     }
@@ -48,7 +48,7 @@ pub fn add_above(
     setting::flush(&mut block[lower..], lows.words, lows.acc);
 }
 
-// Lays the elements of the list from number `from` on into a block of that shape.
+// Lays the elements of the list from number `from` on into a block of that shape, for those who have it at hand.
 pub fn add_all(block: &mut [u8], g: Shape, from: usize, list: &[u32])
     requires { Fitting g block.old × (from + length list.now ≤ g.n) × (rising 0 g.u list.now ≡ true) }
     ensures { block.new ≡ added g.u g.n from list.now block.old }
@@ -56,7 +56,8 @@ pub fn add_all(block: &mut [u8], g: Shape, from: usize, list: &[u32])
     add_above(block, g.lower, g.upper, g.w, from, 0, list);
 }
 
-// Lays x as element number i, where the runs start at these bytes and low parts have w bits.
+// Lays x as element number i, where the runs start at these bytes and low parts have w bits: for one element a list and
+// a loop over it, as in `add_above`, would take longer.
 pub fn add_one(block: &mut [u8], lower: usize, upper: usize, w: usize, i: usize, x: usize)
     requires { HasSlot lower upper w i x block.old }
     ensures { OneAdded lower upper w i x block.old block.new }
@@ -74,13 +75,14 @@ fn add_map(block: &mut [u8], at: usize, list: &[u32])
     ensures { MapAdded at list.now block.old block.new }
 {
     let mut highs = Highs { acc: 0, word: 0 };
-    for i in 0..list.len() {
-        highs = setting::add_high(&mut block[at..], highs, list[i] as usize);
+    for &x in list {
+        highs = setting::add_high(&mut block[at..], highs, x as usize);
     }
     setting::flush(&mut block[at..], highs.word, highs.acc);
 }
 
-// Lays the one page of the list as element number i, where the runs of a block in either form start at these bytes.
+// Lays the one page of the list as element number i, where the runs of a block in either form start at these bytes:
+// `add_pages` of one page would take its shape, and lay it by a loop.
 pub fn add_page(block: &mut [u8], lower: usize, upper: usize, w: usize, i: usize, list: &[u32])
     requires { (length list.now ≡ 1) × HasPlace lower upper w i (get_or list.now 0 0) block.old }
     ensures { PageAdded lower upper w i (get_or list.now 0 0) block.old

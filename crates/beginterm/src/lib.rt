@@ -14,14 +14,12 @@ fn put_frames(room: &mut [u8], g: Layout)
     requires { Roomed g room.old }
     ensures { FramesPut g room.old room.new }
 {
-    let second = g.second;
-    let third = g.third;
     sessions::clear(room, g.size);
     numbers::write_u32(room, 0, g.size as u64);
     room[VERSION_AT] = VERSION;
     filling::put_header(&mut room[LISTS_AT..], g.pages);
-    filling::put_header(&mut room[second..], g.counts);
-    filling::put_header(&mut room[third..], g.positions);
+    filling::put_header(&mut room[g.second..], g.counts);
+    filling::put_header(&mut room[g.third..], g.positions);
 }
 
 // The session that an announcement opens.
@@ -35,10 +33,7 @@ fn opened(version: u32, n: u32, pages: u32, positions: u32, u: u32) -> Stream
         pages,
         positions,
         u,
-        laid: 0,
-        filled: 0,
-        page: 0,
-        base: 0,
+        ..Stream::default()
     }
 }
 

@@ -1,9 +1,8 @@
-// Fields of bits in words, and places of ones from a bit on, for every width and place.
+// Fields of bits in words, and the bits and ones on one side of a place, for every width and place.
 #![tactic(auto)]
 
 ghost use Rattle.std.specs.Prelude.{◌≡◌, ◌+◌, ◌*◌, ◌/◌, ◌%◌, ◌^◌, ◌<◌, ◌≤◌};
 ghost use Rattle.std.specs.Int.Count.{ones};
-ghost use Rattle.fields.specs.Words.{next_one};
 
 // The w bits from bit b on of two words, of which hi lies above lo.
 pub fn field_of(lo: u64, hi: u64, b: usize, w: usize) -> u64
@@ -17,7 +16,7 @@ pub fn field_of(lo: u64, hi: u64, b: usize, w: usize) -> u64
     ((lo >> b) | (hi << (64 - b))) & mask
 }
 
-// A word that is full, and what goes on into the next.
+// A word that is full, and what goes on into the next: two words of one type, which the names tell apart.
 #[derive(Clone, Copy)]
 pub struct Pair {
     pub lo: u64,
@@ -45,14 +44,6 @@ pub fn from_bit(x: u64, j: usize) -> u64
     ensures { result ≡ x / 2 ^ j * 2 ^ j }
 {
     (x >> j) << j
-}
-
-// The place of the first one at or after `from`, or 64.
-pub fn next_one(x: u64, from: usize) -> usize
-    requires { from < 64 }
-    ensures { (result ≡ next_one 64 x from) × (result ≤ 64) }
-{
-    u64::trailing_zeros(from_bit(x, from)) as usize
 }
 
 // How many of the j low bits are ones.

@@ -51,9 +51,7 @@ pub fn to_end(s: &[u8], g: Shape, from: usize, looks: &mut u32)
     ensures { Paid (from + 1) looks.old (words_for g.bits) looks.new }
 {
     let last = (g.bits + 63) / 64 - 1;
-    let mut k = from;
-    while k < last {
-        let at = next_word(s, g, k, 0, looks);
-        k = at.k;
+    for k in from..last {
+        next_word(s, g, k, 0, looks);
     }
 }

@@ -16,6 +16,7 @@ fn last_one(run: &[u8]) -> usize
 {
     let mut k = run.len() / 8 - 1;
     let mut x = runs::run_word(run, 0, k);
+    // There is a word with a one, and so no end that a `for` over the words could come to.
     while x == 0 {
         k -= 1;
         x = runs::run_word(run, 0, k);
@@ -39,10 +40,11 @@ pub fn place_after(block: &[u8], g: Shape, start: usize) -> usize
     ensures { OneAt block.now g.upper (ones_below block.now g.upper start) result }
 {
     let mut k = start / 64;
-    let mut bit = fields::next_one(runs::run_word(block, g.upper, k), start % 64);
-    while bit == 64 {
+    let mut left = fields::from_bit(runs::run_word(block, g.upper, k), start % 64);
+    // As in `last_one`, there is a word with a one.
+    while left == 0 {
         k += 1;
-        bit = fields::next_one(runs::run_word(block, g.upper, k), 0);
+        left = runs::run_word(block, g.upper, k);
     }
-    64 * k + bit
+    64 * k + u64::trailing_zeros(left) as usize
 }

@@ -32,18 +32,17 @@ fn pass_to(run: &[u8], b: usize, h: usize, from: Passed) -> Passed
         × Before (number_of (words_for b) run.now) (words_for b) h from }
     ensures { Reached (number_of (words_for b) run.now) (words_for b) h result }
 {
-    let mut words = from.words;
+    let end = (b + 63) / 64;
     let mut zeros = from.zeros;
-    while 64 * words < b {
+    for words in from.words..end {
         let x = runs::run_word(run, 0, words);
         let through = zeros + 64 - u64::count_ones(x) as usize;
         if h <= through {
             return Passed { words, zeros };
         }
         zeros = through;
-        words += 1;
     }
-    Passed { words, zeros }
+    Passed { words: end, zeros }
 }
 
 // The place just after zero number h of a run of b bits, in the word after those passed; b where there is none.
@@ -57,7 +56,7 @@ fn place_after(run: &[u8], b: usize, h: usize, at: Passed) -> usize
     }
     let x = runs::run_word(run, 0, at.words);
     let place = 64 * at.words + after_zero(x, h - at.zeros - 1);
-    storing::lesser(b, place)
+    b.min(place)
 }
 
 // Writes the pointers that the upper run gives; where its zeros do not suffice, they are the run's end.

@@ -1,5 +1,5 @@
 -- Laws of a run as one number: its words, the ones in and below them, and that it is the same where the bytes are.
-use mathlib.Core.Path.{◌≡◌, refl, ap, ◌∙◌}
+use mathlib.Core.Path.{◌≡◌, refl, sym, ap, ◌∙◌}
 use mathlib.Core.List.{List}
 use Prim.Native.Nat.{ℕ, zero, suc, ◌+◌, ◌-◌, ◌*◌, ◌/◌, ◌%◌, ◌^◌, ◌≤◌, ◌<◌}
 use native.Mathlib.Nat.{add_comm, div-one}
@@ -10,10 +10,12 @@ use lib.Pow.{shr-shr, high, low, mod-mod-pow}
 use lib.Seq.{drop-drop}
 use Rattle.rules.specs.Bytes.{Bytes, be_at}
 use Rattle.rules.specs.Runs.{run_word}
+use Rattle.rules.specs.Counts.{ones_below}
 use Rattle.rules.specs.InPlace.{number_of}
 use Rattle.laws.proofs.ByteLaws.{Alike, be_at_lt, be_at_same, be_at_drop, bytes_drop}
-use Rattle.laws.proofs.CountLaws.{ones_parts}
+use Rattle.laws.proofs.CountLaws.{ones_parts, next_word}
 use Rattle.listlaws.specs.Sound.{ones_to}
+use Rattle.listlaws.proofs.AfterLaws.{ones_none}
 
 -- ---- words
 
@@ -48,6 +50,27 @@ module _ (m k x : ℕ) (s : List ℕ) (b : Bytes s) (inside : k < m) (word : x �
       let e : 64 * k + 64 ≡ 64 * (k + 1) = omega arith in
       let l : x % 2 ^ 64 ≡ x = omega (arith, word, be_at_lt 8 s (0 + 8 * k) b) in
       rw (e, l) at (number_ones 64 (omega arith))
+
+-- a word of the run that starts at byte `at`, and the ones below it
+word_drop : (at k : ℕ) (s : List ℕ) → run_word s at k ≡ run_word (drop at s) 0 k
+unfolding run_word
+word_drop at k s =
+    let e : at + (0 + 8 * k) ≡ at + 8 * k = omega arith in
+    sym (be_at_drop 8 at s (0 + 8 * k) ∙ ap (be_at 8 s) e)
+
+word_lt : (at k : ℕ) (s : List ℕ) → Bytes s → run_word s at k < 2 ^ 64
+unfolding run_word
+word_lt at k s b = be_at_lt 8 s (at + 8 * k) b
+
+module _ (m at : ℕ) (s : List ℕ) (b : Bytes s) where
+  pub number_below : (k : ℕ) → k ≤ m → ones_below s at (64 * k) ≡ ones_to (number_of m (drop at s)) (64 * k)
+  unfolding ones_below
+  number_below zero h = sym (ones_none (number_of m (drop at s)))
+  number_below (suc k) h =
+      let e : k + 1 ≡ suc k = omega arith in
+      let p = next_word s at k (run_word s at k) refl (word_lt at k s b) in
+      let q = number_next m k (run_word s at k) (drop at s) (bytes_drop at s b) (omega arith) (word_drop at k s) in
+      omega (arith, rw e at p, rw e at q, number_below k (omega arith))
 
 -- ---- the same bytes
 

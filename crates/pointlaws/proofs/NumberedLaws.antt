@@ -1,15 +1,15 @@
--- Laws of a bitmap's numbers stored one after the other: each counts four words more, and all of them leave what
+-- Laws of a bitmap's numbers stored one after the other: each counts the ones of four words more, and all of them leave what
 -- `map_numbered` has.
 use mathlib.Core.Path.{◌≡◌, sym, ap, ap₂, ◌∙◌}
 use mathlib.Core.List.{List}
 use Prim.Native.Nat.{ℕ, ◌+◌, ◌-◌, ◌*◌, ◌/◌, ◌≤◌, ◌<◌}
 use native.Mathlib.Omega.{arith}
-use lib.Count.{ones}
 use lib.ListN.{length, take, drop}
 use lib.Seq.{sets}
 use Rattle.rules.specs.Bytes.{Bytes, be}
-use Rattle.rules.specs.Runs.{run_word, words_for}
+use Rattle.rules.specs.Runs.{words_for}
 use Rattle.rules.specs.List.{pages_below, map_at, map_size, bitmap}
+use Rattle.rules.specs.Counts.{ones_below}
 use Rattle.rules.specs.InPlace.{map_numbered}
 use Rattle.shape.specs.declared.Shape.{Shape}
 use Rattle.shape.specs.Shape.{map_shape}
@@ -19,23 +19,8 @@ use Rattle.laws.proofs.CountLaws.{count_slope}
 use Rattle.maplaws.proofs.NumberLaws.{up_to_ones}
 use Rattle.filllaws.specs.Filling.{Stored, FittingAs}
 use Rattle.filllaws.proofs.StoreLaws.{stored_more}
-use Rattle.pointlaws.specs.Pointing.{FourOnes}
-use Rattle.pointlaws.proofs.NumberLaws.{number_next}
-use Rattle.pointlaws.proofs.PointedLaws.{Spaced, run_number, run_kept, stored_laid}
-
--- ---- four words
-
-pub four_ones : (s : List ℕ) (k a b c d : ℕ) → Bytes s → a ≡ run_word s 0 k → b ≡ run_word s 0 (k + 1)
-    → c ≡ run_word s 0 (k + 2) → d ≡ run_word s 0 (k + 3) → FourOnes s k (ones a + ones b + ones c + ones d)
-four_ones s k a b c d bytes e f g h m l =
-    let p = number_next m k a s bytes (omega arith) e in
-    let q = number_next m (k + 1) b s bytes (omega arith) f in
-    let r = number_next m (k + 2) c s bytes (omega arith) g in
-    let t = number_next m (k + 3) d s bytes (omega arith) h in
-    let two : k + 1 + 1 ≡ k + 2 = omega arith in
-    let three : k + 2 + 1 ≡ k + 3 = omega arith in
-    let four : k + 3 + 1 ≡ k + 4 = omega arith in
-    omega (arith, p, rw two at q, rw three at r, rw four at t)
+use Rattle.pointlaws.proofs.NumberLaws.{number_below}
+use Rattle.pointlaws.proofs.PointedLaws.{Spaced, run_number, run_same, stored_laid}
 
 -- ---- a number more
 
@@ -47,7 +32,7 @@ below_ones : (u i : ℕ) → pages_below u i ≡ ones_to u (256 * i)
 unfolding pages_below
 below_ones u i = up_to_ones u (256 * i)
 
-below_le : (u i : ℕ) → pages_below u i ≤ 256 * i
+pub below_le : (u i : ℕ) → pages_below u i ≤ 256 * i
 below_le u i =
     let e : 0 + 256 * i ≡ 256 * i = omega arith in
     omega (arith, below_ones u i, rw e at (count_slope (ones_to u) (ones_steps u) 0 (256 * i)), ones_none u)
@@ -93,16 +78,19 @@ number_none g s = below_none (run_number g s)
 module _ (g : Shape) (d e : List ℕ) (f : FittingAs bitmap g d) (i : ℕ) (more : i < g.u / 256)
     (stored : Stored 4 9 (number_in g d) 1 (i + 1) d e) where
   -- the four words behind those that number i counts
-  pub number_next_is : (c r : ℕ) → c ≡ number_in g d i
-      → FourOnes (take (length e - g.upper) (drop g.upper e)) (4 * i) r → c + r ≡ number_in g d (i + 1)
-  number_next_is c r counted four =
+  pub number_next_is : (c r : ℕ) → Bytes e → c ≡ number_in g d i
+      → ones_below e g.upper (64 * (4 * i)) + r ≡ ones_below e g.upper (64 * (4 * i + 4)) → c + r ≡ number_in g d (i + 1)
+  number_next_is c r bytes counted four =
       let p = map_spaced g d f in
-      let k = run_kept g (number_in g d) d e p (i + 1) stored (omega (arith, map_numbers g d f)) in
-      let n = rw k at (four (words_for g.bits) (map_words g d f i more)) in
+      let k = run_same g (number_in g d) d e p (i + 1) stored (omega (arith, map_numbers g d f)) in
+      let l = map_words g d f i more in
+      let m : ℕ = words_for g.bits in
+      let n = rw k at (number_below m g.upper e bytes (4 * i) (omega (arith, l))) in
+      let t = rw k at (number_below m g.upper e bytes (4 * i + 4) l) in
       let a : 64 * (4 * i) ≡ 256 * i = omega arith in
       let b : 64 * (4 * i + 4) ≡ 256 * (i + 1) = omega arith in
       let u : ℕ = run_number g d in
-      omega (arith, counted, rw (a, b) at n, below_ones u i, below_ones u (i + 1))
+      omega (arith, counted, rw (a, b) at four, rw a at n, rw b at t, below_ones u i, below_ones u (i + 1))
 
   pub number_more : (v : ℕ) (t : List ℕ) → v ≡ number_in g d (i + 1) → t ≡ sets e (13 + 4 * i) (be 4 v)
       → Stored 4 9 (number_in g d) 1 (i + 1 + 1) d t

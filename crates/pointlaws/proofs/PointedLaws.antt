@@ -105,7 +105,7 @@ run_back g s = number_of (words_for g.bits) (take (length s - g.upper) (drop g.u
 -- the run is not changed by numbers stored before it
 module _ (g : Shape) (v : ℕ → ℕ) (d e : List ℕ) (p : Spaced g (length d)) (q : ℕ) (stored : Stored 4 9 v 1 q d e)
     (within : q ≤ (g.lower - 13) / 4 + 1) where
-  run_same : number_of (words_for g.bits) (drop g.upper e) ≡ run_number g d
+  pub run_same : number_of (words_for g.bits) (drop g.upper e) ≡ run_number g d
   run_same = number_same (words_for g.bits) g.upper e d
       (λ i l h. stored.others i (inr (omega (arith, p.pointers_end))))
 

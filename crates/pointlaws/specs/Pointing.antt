@@ -2,12 +2,7 @@
 --
 --   Before u m h x   the words that are passed have fewer than h zeros
 --   Reached u m h x  besides, the next word has the zero, or there is none
---
--- And the ones that a bitmap's numbers count [02 f].
---
---   FourOnes s k r   the four words from number k on have r ones, in whatever number of words at the front of s
-use Rattle.std.specs.Prelude.{◌≡◌, List, ℕ, ◌+◌, ◌*◌, ◌≤◌, ◌<◌}
-use Rattle.rules.specs.InPlace.{number_of}
+use Rattle.std.specs.Prelude.{◌≡◌, ℕ, ◌+◌, ◌*◌, ◌≤◌, ◌<◌}
 use Rattle.listlaws.specs.Sound.{ones_to}
 use Rattle.pointlaws.specs.declared.Passed.{Passed}
 
@@ -19,7 +14,3 @@ pub record Before (u m h : ℕ) (x : Passed) : Type 0 where
 pub record Reached (u m h : ℕ) (x : Passed) : Type 0 where
   pub before : Before u m h x
   pub next : x.words < m → h + ones_to u (64 * (x.words + 1)) ≤ 64 * (x.words + 1)
-
-abbrev pub FourOnes : List ℕ → ℕ → ℕ → Type 0
-FourOnes s k r =
-    (m : ℕ) → k + 4 ≤ m → ones_to (number_of m s) (64 * k) + r ≡ ones_to (number_of m s) (64 * (k + 4))

@@ -101,7 +101,7 @@ pub struct Screened {
 // Where the writing of a word in runs stands: what was announced, `version` being that of the index, and how far it is
 // laid. `mark` is 1 while postings may follow; `page` is the least page that may, and `base` the next page's [02 c].
 #[repr(C)]
-#[derive(Clone, Copy)]
+#[derive(Clone, Copy, Default)]
 pub struct Stream {
     pub mark: u32,
     pub version: u32,

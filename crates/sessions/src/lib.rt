@@ -98,18 +98,7 @@ pub fn ended(size: Result<usize, Refusal>) -> Streamed
 {
     Streamed {
         size,
-        stream: Stream {
-            mark: 0,
-            version: 0,
-            n: 0,
-            pages: 0,
-            positions: 0,
-            u: 0,
-            laid: 0,
-            filled: 0,
-            page: 0,
-            base: 0,
-        },
+        stream: Stream::default(),
     }
 }
 
@@ -118,9 +107,5 @@ pub fn clear(room: &mut [u8], size: usize)
     requires { size ≤ length room.old }
     ensures { room.new ≡ laid (replicate size 0) room.old }
 {
-    let mut i = 0;
-    while i < size {
-        room[i] = 0;
-        i += 1;
-    }
+    room[..size].fill(0);
 }

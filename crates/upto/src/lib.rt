@@ -24,7 +24,8 @@ fn ones_ahead(block: &[u8], g: Shape, w: Walk) -> Ones
     }
 }
 
-// Passes words with no one left.
+// Passes words with no one left. It is the walk of `looks::to_one` without looks: one function of both would take what
+// hands out a word as a closure, and promise what that counts.
 fn skip_empty(block: &[u8], g: Shape, from: Ones) -> Ones
     requires { Open block.now g × OnesLeft block.now g from.rank from × (from.rank < g.n) }
     ensures { OnesLeft block.now g from.rank result × (0 < result.left) }

@@ -1,7 +1,4 @@
 -- `add_above` lays elements one by one: the low parts and the ones of the first i are laid or in hand, whatever the shape.
-use mathlib.Core.Path.{◌≡◌}
-use Prim.Native.Nat.{◌-◌, ◌≤◌}
-use lib.ListN.{length}
 use Rattle.shape.specs.declared.Shape.{Shape}
 use Rattle.addlaws.specs.Adding.{Slots, BothLaid}
 use Rattle.addlaws.proofs.OneLaws.{shape_at}
@@ -9,9 +6,5 @@ use Rattle.adding.proofs.add_above.Given as goal
 
 abbrev pub invariant-loop-i : goal.invariant-loop-i
 invariant-loop-i l =
-    (l.i ≤ length l.list) × (l.i-end ≡ length l.list)
-    × ((g : Shape) → Slots l.lower l.upper l.w l.from l.base l.list l.initial.block g
-    → BothLaid (shape_at l.lower l.upper l.w g) l.from l.base l.list l.i l.i l.lows l.highs l.initial.block l.block)
-
-abbrev pub decreases-loop-i : goal.decreases-loop-i
-decreases-loop-i l = length l.list - l.i
+    (g : Shape) → Slots l.lower l.upper l.w l.from l.base l.list l.initial.block g
+    → BothLaid (shape_at l.lower l.upper l.w g) l.from l.base l.list l.i l.i l.lows l.highs l.initial.block l.block

@@ -1,13 +1,6 @@
--- `add_map` lays elements one by one: the ones of the first i are set or in hand.
-use mathlib.Core.Path.{◌≡◌}
-use Prim.Native.Nat.{◌-◌, ◌≤◌}
-use lib.ListN.{length}
+-- `add_map` lays elements one by one: the ones of those that are passed are set or in hand.
 use Rattle.addlaws.specs.Adding.{MapLaid}
 use Rattle.adding.proofs.add_map.Given as goal
 
-abbrev pub invariant-loop-i : goal.invariant-loop-i
-invariant-loop-i l =
-    (l.i ≤ length l.list) × (l.i-end ≡ length l.list) × MapLaid l.at l.list l.i l.highs l.initial.block l.block
-
-abbrev pub decreases-loop-i : goal.decreases-loop-i
-decreases-loop-i l = length l.list - l.i
+abbrev pub invariant-loop-x : goal.invariant-loop-x
+invariant-loop-x l = MapLaid l.at l.list l.x-index l.highs l.initial.block l.block

@@ -1,5 +1,4 @@
 -- `pass_to` passes words while the zeros up to their end are fewer than h.
-use Prim.Native.Nat.{◌-◌}
 use Rattle.rules.specs.Runs.{words_for}
 use Rattle.rules.specs.InPlace.{number_of}
 use Rattle.pointlaws.specs.Pointing.{Before}
@@ -8,6 +7,3 @@ use Rattle.pointing.proofs.pass_to.Given as goal
 abbrev pub invariant-loop-words : goal.invariant-loop-words
 invariant-loop-words l =
     Before (number_of (words_for l.b) l.run) (words_for l.b) l.h (record { words = l.words; zeros = l.zeros })
-
-abbrev pub decreases-loop-words : goal.decreases-loop-words
-decreases-loop-words l = words_for l.b - l.words

@@ -1,8 +1,8 @@
 -- `ended` hands back a session that is over.
-use mathlib.Core.Path.{refl}
+use Rattle.std.proofs.Common.{rules}
 use Rattle.rules.specs.Stream.{over}
 use Rattle.sessions.proofs.ended.Goals as goal
 
 pub returns : goal.returns
 unfolding over
-returns c = (refl, refl, refl)
+returns c = search rules
