@@ -7,7 +7,7 @@ use native.Mathlib.Omega.{arith}
 use lib.Dec.{eqb}
 use lib.ListN.{get_or}
 use borrow.Author.Tests.{eqb-true, not-true, not-false}
-use Rattle.std.specs.Prelude.{Ok, Err}
+use Rattle.std.specs.Prelude.{Ok, Err, is_err}
 use Rattle.std.specs.Result.{IsErr, IsErrAnd}
 use Rattle.rules.specs.declared.Refusal.{Refusal}
 use Rattle.rules.specs.declared.Refusal.TheVariants as Named
@@ -62,6 +62,12 @@ refusal_told Named.Parts = refl
 refusal_told Named.Question = refl
 refusal_told Named.Room = refl
 refusal_told Named.Lists = refl
+
+-- nothing is refused just where there is no error
+pub accepted_of : (r : Verdict) (b : Bool) → is_err r ≡ b → accepted r ≡ not b
+unfolding accepted
+accepted_of (Ok _) b e = ap not e
+accepted_of (Err e) b t = refusal_told e ∙ ap not t
 
 -- ---- the first of two
 
