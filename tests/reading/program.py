@@ -1,4 +1,5 @@
 """The sources of all crates together, and what a name in one of them means."""
+import re
 from functools import lru_cache
 
 from . import tree
@@ -6,8 +7,17 @@ from .source import read
 from .tokens import Unread
 
 # where functions, variants and constants come from that no crate of the sources has
-OUTSIDE = {"u8", "u16", "u32", "u64", "usize", "str", "std", "Ok", "Err"}
+OUTSIDE = {"u8", "u16", "u32", "u64", "usize", "str", "std", "Some", "Ok", "Err"}
+# the variant without a value that every source knows by its bare name
+NONE = "None"
 read_once = lru_cache(maxsize=None)(read)
+
+
+def bare(path):
+    """A path without the types that parts of it are given in angles."""
+    while "<" in path:
+        path = re.sub(r"(::)?<[^<>]*>", "", path)
+    return path
 
 
 class Program:
@@ -25,17 +35,38 @@ class Program:
                         for name, fields in source.structs.items()}
         self.aliases = {f"{crate}::{name}": kind for crate, source in self.crates.items()
                         for name, kind in source.aliases.items()}
+        self.with_default = {f"{crate}::{name}" for crate, source in self.crates.items()
+                             for name, traits in source.derived.items() if "Default" in traits}
+        self.conversions = [f"{crate}::{name}" for crate, source in self.crates.items()
+                            for name in sorted(source.conversions)]
+        # those to types of the toolchain, which may be called from any crate by that type's name
+        outside = [path.split("::", 1) for path in self.conversions if path.split("::")[1] in OUTSIDE]
+        self.to_outside = {name: f"{crate}::{name}" for crate, name in outside}
+        if len(self.to_outside) < len(outside):
+            raise Unread("conversions of two crates have the same name")
         for function in self.functions.values():
-            self.calls(function)
+            self.known(function)
+
+    def known(self, function):
+        """All that a function's body calls or compares with must be known, and functions be called where they stand."""
+        self.calls(function)
+        for name in tree.every(tree.Name, function.body):
+            if self.whole(function.crate, name.path) in self.functions:
+                raise Unread(f"{function.path}: `{name}` is a function, and not called where it is named")
+        source = self.crates[function.crate]
+        for constant in tree.every(tree.Constant, function.body):
+            if constant.text[0].isupper() and constant.text.split("::")[0] not in {NONE, *source.uses, *source.others}:
+                raise Unread(f"{function.path}: the pattern `{constant}` is not known")
 
     def function(self, path):
         if path not in self.functions:
             raise Unread(f"there is no function {path}")
         return self.functions[path]
 
-    def meaning(self, crate, path):
-        """The whole path of a function or a type that a crate's source names."""
+    def whole(self, crate, path):
+        """The whole path of what a crate's source names, without the types that it is given in angles."""
         source = self.crates[crate]
+        path = bare(path)
         first, *rest = path.split("::")
         if first in source.uses:
             whole = "::".join([source.uses[first]] + rest)
@@ -43,8 +74,14 @@ class Program:
             whole = f"{crate}::{path}"
         else:
             whole = path
+        return self.to_outside.get(whole, whole)
+
+    def meaning(self, crate, path):
+        """The whole path of a function or a type that a crate's source names."""
+        whole = self.whole(crate, path)
         outside = whole.split("::")[0] in OUTSIDE
-        if not (outside or whole in self.functions or whole in self.structs):
+        default = whole.endswith("::default") and whole.removesuffix("::default") in self.with_default
+        if not (outside or default or whole in self.functions or whole in self.structs):
             raise Unread(f"crate {crate}: `{path}` is not known")
         return whole
 
@@ -57,11 +94,13 @@ class Program:
         return [(self.callee(function, call), call) for call in tree.every(tree.Call, function.body)]
 
     def reached(self, *roots):
-        """The functions of the sources that functions call, and those that they call, themselves among them."""
+        """The functions of the sources that functions call, and those that they call, themselves among them. `?` may
+        call any conversion, since it turns an error into the one that its function gives."""
         found, todo = set(), list(roots)
         while todo:
             path = todo.pop()
             if path in self.functions and path not in found:
                 found.add(path)
                 todo += [callee for callee, _ in self.calls(self.functions[path])]
+                todo += self.conversions if tree.every(tree.Try, self.functions[path].body) else []
         return [self.functions[path] for path in sorted(found)]

@@ -14,11 +14,12 @@ LOW_PART = "landing::low_part"
 # the function of another crate that a seek hands the list's bytes to
 POINTER = "reading::pointer_at"
 
-# the crates whose functions read the bytes that they are given, the one of them that reads a word, and the function
-# besides those that reads a number which a block stores
+# the crates whose functions read the bytes that they are given, the one of them that reads a word, the function besides
+# those that reads a number which a block stores, and what makes a number of bytes in the toolchain's library
 READING = ["numbers", "runs"]
 RUN_WORD = "runs::run_word"
 NUMBER_IN = "reading::number_in"
+FROM_BYTES = ["u16::from_be_bytes", "u32::from_be_bytes", "u64::from_be_bytes"]
 # what reads a bitmap's words for a rank, and what alone calls it
 RANK = "maprank::rank_at"
 RANK_IN = "rows::rank_in"

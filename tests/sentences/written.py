@@ -74,30 +74,34 @@ fn list_from(card: &[u8], words: &[u32], bound: usize, size: usize, list: &mut [
     let turn = query::batch(&table, card, &shapes, Query::new(), words.len(), bound, room);
     rows::totals(turn.q, turn.found)
 }
-fn put_screen(r: u32, list: &[u32], listed: Listed, pages: &mut [u32], counts: &mut [u32]) -> Screened {
+fn put_screen(
+    r: u32,
+    list: &[u32],
+    listed: Listed,
+    pages: &mut [u32],
+    counts: &mut [u32],
+) -> Result<Screened, Refusal> {
     let found = listed.found;
     if pages.len() < found {
-        return refused(Refusal::Room);
+        return Err(Refusal::Room);
     }
     if replies::put(&[listed.seeks, listed.looks], counts) == 0 {
-        return refused(Refusal::Room);
+        return Err(Refusal::Room);
     }
     if found == 0 {
-        return shown(r, list, found);
+        return Ok(shown(r, list, found));
     }
     replies::put(&list[0..found], pages);
-    shown(r, list, found)
+    Ok(shown(r, list, found))
 }
 """
 # the one loop besides the seek's in which kind 3 or a screen reads bytes: from block to block, by their lengths
 WALK = """
 pub fn blocks_from(s: &[u8], from: usize, k: usize) -> &[u8] {
     let mut rest = &s[from..];
-    let mut i = 0;
-    while i < k {
+    for _ in 0..k {
         let size = numbers::read_u32(rest, 0) as usize;
         rest = &rest[size..];
-        i += 1;
     }
     rest
 }
@@ -106,10 +110,8 @@ pub fn blocks_from(s: &[u8], from: usize, k: usize) -> &[u8] {
 ONES = """
 pub fn ones_of(s: &[u8], at: usize, from: usize, to: usize) -> usize {
     let mut i = 0;
-    let mut k = from;
-    while k < to {
+    for k in from..to {
         i += u64::count_ones(run_word(s, at, k)) as usize;
-        k += 1;
     }
     i
 }
