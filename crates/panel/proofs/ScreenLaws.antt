@@ -1,14 +1,18 @@
 -- The call: a law for each way through its tests.
-use mathlib.Core.Bool.{true, false}
-use mathlib.Core.Path.{◌≡◌, refl}
+use mathlib.Core.Bool.{Bool, true, false, cond}
+use mathlib.Core.Path.{◌≡◌, refl, sym, ap, ◌∙◌}
 use mathlib.Core.List.{List, [], ◌∷◌}
-use Prim.Native.Nat.{ℕ, ◌-◌, ◌≤◌, ◌<◌}
+use Prim.Native.Nat.{ℕ, ◌+◌, ◌-◌, ◌≤◌, ◌<◌}
 use native.Mathlib.Decide.{dec_lt}
 use native.Mathlib.Omega.{arith}
 use borrow.Author.Tests.{lt-ltb, le-ltb, leb-true, le-leb, lt-leb, eq-eqb, ne_eqb}
-use lib.ListN.{length, take}
+use lib.ListN.{length, take, get_or}
 use Rattle.rules.specs.Verdict.{Verdict}
-use Rattle.rules.specs.Verdict.{Question, Room}
+use Rattle.std.specs.Prelude.{Result, Ok, Err, Option, Some, None, is_some}
+use Rattle.std.specs.Result.{IsErr, IsErrAnd}
+use Rattle.std.specs.Option.{unwrap_or}
+use Rattle.rules.specs.declared.Refusal.{Refusal}
+use Rattle.rules.specs.Verdict.{Accepted, Question, Room}
 use Rattle.rules.specs.declared.Screened.{Screened}
 use Rattle.rules.specs.Refusal.{accepted}
 use Rattle.rules.specs.Limits.{screen_limit}
@@ -16,6 +20,7 @@ use Rattle.rules.specs.Write.{laid}
 use Rattle.rules.specs.Index.{index_v, index_n, index_t, index_refusal}
 use Rattle.rules.specs.Questions.{lists_in, words_good}
 use Rattle.rules.specs.Screen.{screen_good, screen_pages, screen_counts, is_full, screening, unshown, showing, screen}
+use Rattle.laws.proofs.RefusalLaws.{refusal_told}
 use Rattle.listlaws.proofs.RisingLaws.{and_parts}
 use Rattle.questions.specs.Wrote.{Wrote}
 use Rattle.panel.specs.Listing.{Shows}
@@ -45,10 +50,15 @@ module _ (T r : ℕ) (ts : List ℕ) where
 -- ---- the card, then r and the words
 
 module _ (s : List ℕ) (b n : ℕ) (ts pages counts : List ℕ) where
-  pub screen_card : (r : Verdict) → r ≡ index_refusal s → accepted r ≡ false
-      → unshown r pages counts ≡ screen s b n ts pages counts
-  unfolding screen
-  screen_card r e a = rw (← e, a)
+  -- what a `?` makes of the card's verdict
+  pub screen_card : (r : Verdict) (e : Refusal) (out : Result Screened Refusal) → r ≡ index_refusal s → r ≡ Err e
+      → IsErr out × IsErrAnd out (λ d. d ≡ e) → screening out pages counts ≡ screen s b n ts pages counts
+  unfolding screen unshown
+  screen_card r e (Ok _) is was h = absurd h.1
+  screen_card r e (Err d) is was h =
+      let t = sym is ∙ was in
+      let f : accepted (index_refusal s) ≡ false = ap accepted t ∙ refusal_told e in
+      rw (f, t, h.1)
 
   module _ (a : accepted (index_refusal s) ≡ true) where
     pub screen_question : screen_good (index_t s) n ts ≡ false
@@ -62,6 +72,16 @@ module _ (s : List ℕ) (b n : ℕ) (ts pages counts : List ℕ) where
         ≡ screen s b n ts pages counts
     unfolding screen
     screen_good_lem g = rw (a, g)
+
+-- ---- the bound of the next screen
+
+full_by : (b : Bool) (z : ℕ) (o : Option ℕ) → o ≡ cond b (Some z) None → cond (is_some o) 1 0 ≡ cond b 1 0
+full_by true z o e = rw e
+full_by false z o e = rw e
+
+next_by : (b : Bool) (z : ℕ) (o : Option ℕ) → o ≡ cond b (Some z) None → unwrap_or o 0 ≡ cond b z 0
+next_by true z o e = rw e
+next_by false z o e = rw e
 
 -- ---- the rooms
 
@@ -77,15 +97,16 @@ module _ (n : ℕ) (ps cs pages counts : List ℕ) where
 
     pub both_fit : length cs ≤ length counts → (x : Screened) → Shows n ps x → (pages' counts' : List ℕ)
         → pages' ≡ laid ps pages → counts' ≡ laid cs counts
-        → screening x pages' counts' ≡ showing n ps cs pages counts
+        → screening (Ok x) pages' counts' ≡ showing n ps cs pages counts
     unfolding showing
     both_fit l x y pages' counts' e f =
+        let behind = get_or ps (n - 1) 0 + 1 in
         rw (le-ltb (length pages) (length ps) h, le-ltb (length counts) (length cs) l)
         (λ i. record {
-          refusal = y.accepts i;
+          refusal = Accepted;
           found = y.found i;
-          full = y.full i;
-          next = y.next i;
+          full = full_by (is_full n ps) behind x.next y.next i;
+          next = next_by (is_full n ps) behind x.next y.next i;
           pages = e i;
           counts = f i;
         })
