@@ -5,7 +5,6 @@ ghost use Rattle.std.specs.Prelude.{◌≡◌, true, length, get_or};
 ghost use Rattle.rules.specs.declared.Refusal.TheVariants.{Accepted};
 ghost use Rattle.rules.specs.Index.{index_t, index_refusal};
 ghost use Rattle.rules.specs.Questions.{by_phrase, phrase_in, answer, words_good, phrase_good, good_question};
-ghost use Rattle.bytetable.specs.Places.{PlacesOfOnes};
 ghost use Rattle.questions.specs.Wrote.{Wrote};
 ghost use Rattle.triallaws.specs.Asked.{offsets_in, AskedIn, PhraseOpened};
 
@@ -42,8 +41,7 @@ fn open_phrase(card: &[u8], pairs: &[u32], terms: &mut [u32], lists: &mut [u32])
 
 // Kind 4: the pages with a start of the phrase, each with the number of its starts.
 fn by_phrase(table: &Table, card: &[u8], pairs: &[u32], room: &mut [u32]) -> usize
-    requires { (index_refusal card.now ≡ Accepted) × (phrase_good (index_t card.now) pairs.now ≡ true)
-        × PlacesOfOnes table.now }
+    requires { (index_refusal card.now ≡ Accepted) × (phrase_good (index_t card.now) pairs.now ≡ true) }
     ensures { Wrote (by_phrase (phrase_in card.now pairs.now)) room.old result
         room.new }
 {
@@ -55,8 +53,7 @@ fn by_phrase(table: &Table, card: &[u8], pairs: &[u32], room: &mut [u32]) -> usi
 
 // The answer of a question that may be asked, whole at the front of the room; 0 where it does not fit.
 pub fn answer_one(table: &Table, card: &[u8], kind: u32, args: &[u32], room: &mut [u32]) -> usize
-    requires { (index_refusal card.now ≡ Accepted) × (good_question (index_t card.now) kind args.now ≡ true)
-        × PlacesOfOnes table.now }
+    requires { (index_refusal card.now ≡ Accepted) × (good_question (index_t card.now) kind args.now ≡ true) }
     ensures { Wrote (answer card.now kind args.now) room.old result
         room.new }
 {

@@ -6,7 +6,6 @@ ghost use Rattle.rules.specs.declared.Refusal.TheVariants.{Accepted};
 ghost use Rattle.rules.specs.Index.{index_t, index_refusal};
 ghost use Rattle.rules.specs.Ask.{asked, put, fitted};
 ghost use Rattle.rules.specs.Promises.{Answered};
-ghost use Rattle.bytetable.specs.Places.{PlacesOfOnes};
 ghost use Rattle.questions.specs.Formed.{formed, answers_to};
 
 use bytetable::Table;
@@ -14,8 +13,7 @@ use rules::{INDEX_T_AT, Outcome, Refusal};
 
 // Answers well-formed questions in turn, each behind the answers before it.
 fn answer_all(table: &Table, card: &[u8], questions: &[u32], room: &mut [u32]) -> Outcome
-    requires { (index_refusal card.now ≡ Accepted) × (formed (index_t card.now) questions.now ≡ true)
-        × PlacesOfOnes table.now }
+    requires { (index_refusal card.now ≡ Accepted) × (formed (index_t card.now) questions.now ≡ true) }
     ensures { asked result room.new
         ≡ put (fitted (length room.old) (answers_to card.now questions.now))
         room.old }

@@ -5,7 +5,6 @@ ghost use Rattle.std.specs.Prelude.{◌≡◌, true, ◌+◌, ◌≤◌, length}
 ghost use Rattle.rules.specs.declared.Refusal.TheVariants.{Accepted};
 ghost use Rattle.rules.specs.Index.{index_v, index_n, index_t, index_refusal};
 ghost use Rattle.rules.specs.Questions.{lists_in, by_common, words_good};
-ghost use Rattle.bytetable.specs.Places.{PlacesOfOnes};
 ghost use Rattle.questions.specs.Wrote.{Wrote};
 ghost use Rattle.querylaws.specs.Lists.{Lists};
 ghost use Rattle.querylaws.specs.Listings.{whole_in};
@@ -17,7 +16,7 @@ use querylaws::LENGTH;
 // Puts the answer into room that is enough for it.
 fn put_common(table: &Table, card: &[u8], shapes: &[u32], k: usize, room: &mut [u32]) -> usize
     requires { Lists card.now shapes.now k
-        × (length (whole_in card.now shapes.now k).listed + 3 ≤ length room.old) × PlacesOfOnes table.now }
+        × (length (whole_in card.now shapes.now k).listed + 3 ≤ length room.old) }
     ensures { Wrote (tallied (whole_in card.now shapes.now k)) room.old result
         room.new }
 {
@@ -30,8 +29,7 @@ fn put_common(table: &Table, card: &[u8], shapes: &[u32], k: usize, room: &mut [
 
 // The pages of the words; they are counted first only where the room may be too small for them.
 pub fn by_common(table: &Table, card: &[u8], terms: &[u32], room: &mut [u32]) -> usize
-    requires { (index_refusal card.now ≡ Accepted) × (words_good (index_t card.now) terms.now ≡ true)
-        × PlacesOfOnes table.now }
+    requires { (index_refusal card.now ≡ Accepted) × (words_good (index_t card.now) terms.now ≡ true) }
     ensures { Wrote
         (by_common (index_v card.now) (index_n card.now)
         (lists_in card.now terms.now))

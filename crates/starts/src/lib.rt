@@ -2,7 +2,6 @@
 #![tactic(auto)]
 
 ghost use Rattle.std.specs.Prelude.{◌-◌};
-ghost use Rattle.bytetable.specs.Places.{PlacesOfOnes};
 ghost use Rattle.triallaws.specs.Asked.{Turnable, CountedOn};
 
 use bytetable::Table;
@@ -19,7 +18,7 @@ fn count_starts(
     turn: Turn,
     words: &mut [usize],
 ) -> usize
-    requires { Turnable card.now terms.now lists.now turn words.old × PlacesOfOnes table.now }
+    requires { Turnable card.now terms.now lists.now turn words.old }
     ensures { CountedOn card.now terms.now lists.now (turn.mark - 1) result
         words.new }
 {
@@ -56,7 +55,7 @@ pub fn page_starts(
     turn: Turn,
     words: &mut [usize],
 ) -> usize
-    requires { Turnable card.now terms.now lists.now turn words.old × PlacesOfOnes table.now }
+    requires { Turnable card.now terms.now lists.now turn words.old }
     ensures { CountedOn card.now terms.now lists.now (turn.mark - 1) result
         words.new }
 {
