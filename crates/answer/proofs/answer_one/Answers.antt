@@ -41,7 +41,6 @@ by_rank-requires c = (
   c.requires.0,
   (pair
       c.before.before.before.before.before.before.before.before (omega arith) (omega arith)).1,
-  c.requires.2,
 )
 
 pub returns-then-kind-eq1 : goal.returns-then-kind-eq1
@@ -66,7 +65,6 @@ by_bound-requires c = (
   c.requires.0,
   (pair
       c.before.before.before.before.before.before.before.before.before (omega arith) (omega arith)).1,
-  c.requires.2,
 )
 
 pub returns-then-kind-eq2 : goal.returns-then-kind-eq2
@@ -81,7 +79,6 @@ by_common-requires c =
     let a = b.args in (
       b.requires.0,
       sym (good_words (index_t a.card.now) a.kind a.args.now c.if-kind-eq3.true) ∙ b.requires.1,
-      b.requires.2,
     )
 
 pub returns-then-kind-eq3 : goal.returns-then-kind-eq3
@@ -97,7 +94,6 @@ by_phrase-requires c =
       b.requires.0,
       good_rest (index_t a.card.now) a.kind a.args.now (λ e. omega arith) (λ e. omega arith)
           (λ e. omega arith) b.requires.1,
-      b.requires.2,
     )
 
 pub returns : goal.returns

@@ -71,7 +71,6 @@ answer_one-size-requires c =
       b.requires.0,
       turn_good a.card.now a.questions.now a.room.now at.room at.run.at at.run.answered
           at.run.used at.invariant e.end_of-to.result e.loop-run-test.true e.end_of-to.ensures.0,
-      b.requires.2,
     )
 
 -- what the turn brings

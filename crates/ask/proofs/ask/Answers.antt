@@ -57,7 +57,6 @@ answer_all-requires c =
     let w = e in (
       accepted_true _ (good w.before.before.before.before.before.before.before),
       sym (asked_well w.before.before.before.before.before) ∙ e.if-not-well_formed.false,
-      c.places-table.ensures,
     )
 
 pub returns : goal.returns

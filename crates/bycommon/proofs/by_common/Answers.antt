@@ -36,7 +36,6 @@ put_common-requires c =
     let w = whole_few a.card.now r (length a.terms.now) (opened p.before.before.before.before.before.before.before).lists in (
       (opened p.before.before.before.before.before.before.before).lists,
       omega (arith, c.number.ensures, c.if-number-room.true),
-      p.requires.2,
     )
 
 pub returns-then-number-room : goal.returns-then-number-room
@@ -75,7 +74,6 @@ put_common-requires-2 c =
         c.list_common-counted.ensures.0.found,
         c.if-room-counted.false,
       ),
-      p.requires.2,
     )
 
 pub returns : goal.returns

@@ -45,19 +45,19 @@ start c = c.before.before.before.before.before.before.before
 pub loop-turn-init : goal.loop-turn-init
 loop-turn-init c =
     let b = c in
-    let p = b.requires.0 in
+    let p = b.requires in
     trying_begins _ _ _ _ _ _ _ _ p.0.asked.pages.lists.some
     (omega (arith, length-drop 193 b.args.lists.now, p.0.row, p.0.asked.pages.lists.few)) p.2
 
 pub turn_next-turned-requires : goal.turn_next-turned-requires
 turn_next-turned-requires c =
     let p = c.requires in
-    (p.0.0, p.0.1, c.loop-turn.invariant, p.1)
+    (p.0, p.1, c.loop-turn.invariant)
 
 -- the word to be tried is one of the eight
 few : (c : After-source_of-i) → c.source_of-i.result < 8
 few c =
-    let a = c.requires.0.0.asked in
+    let a = c.requires.0.asked in
     let y = c.turn_next-turned.ensures in
     omega (arith, c.source_of-i.ensures, next_within _ _ _ _ _ _ a _ _ _ _ y.0, a.pages.lists.few)
 
@@ -86,7 +86,7 @@ position_from-next-requires c =
     let small = k.shared_slice_known-in-loop-turn-2-1.given (193 + s.source_of-i.result) in
     let ls = b.args.lists.now in
     ready_so ls s.turn_next-turned.result.start e
-    (seek_ready _ _ _ _ _ _ b.requires.0.0.asked _ _ _ _ y.0 y.1 (omega (arith, offset_at ls e, small)))
+    (seek_ready _ _ _ _ _ _ b.requires.0.asked _ _ _ _ y.0 y.1 (omega (arith, offset_at ls e, small)))
 
 -- the position that was sought
 sought : (c : After-position_from-next)
@@ -105,7 +105,7 @@ pub returns-then-next-eq-NO_POSITION : goal.returns-then-next-eq-NO_POSITION
 returns-then-next-eq-NO_POSITION c =
     let s = c in
     let t = s in
-    let p = t.requires.0 in
+    let p = t.requires in
     let y = t.turn_next-turned.ensures in
     trying_ends _ _ _ _ _ _ p.0.asked _ _ _ _ y.0 y.1 _ _ (sought s.before.before.before.before) _ p.1 p.0.first c.if-next-eq-NO_POSITION.true
 
@@ -131,7 +131,7 @@ overflow_sub-next c = omega (arith, same_offset c.before, ((sought c.before.befo
 pub tried-at-requires : goal.tried-at-requires
 tried-at-requires c =
     let t = c in
-    let a = t.requires.0.0.asked in
+    let a = t.requires.0.asked in
     let y = t.turn_next-turned.ensures.0 in
     let n = counted_few _ _ _ _ _ _ a _ _ _ _ y in
     (omega (arith, y.some, a.pages.lists.few), omega (arith, y.small), omega (arith, n, y.small))
@@ -140,7 +140,7 @@ pub loop-turn-smaller : goal.loop-turn-smaller
 loop-turn-smaller c =
     let e = c in
     let t = e in
-    let a = t.requires.0.0.asked in
+    let a = t.requires.0.asked in
     let y = t.turn_next-turned.ensures in
     let few = a.pages.lists.few in
     let l = trying_less _ _ _ _ _ _ a _ _ _ _ y.0 y.1 _ _ (sought e.before.before.before.before.before) e.if-next-eq-NO_POSITION.false few in
@@ -150,13 +150,13 @@ pub loop-turn-preserved : goal.loop-turn-preserved
 loop-turn-preserved c =
     let e = c in
     let t = e in
-    let a = t.requires.0.0.asked in
+    let a = t.requires.0.asked in
     let y = t.turn_next-turned.ensures in
     rw (c.tried-at.ensures, same_offset e.before.before)
     (trying_goes _ _ _ _ _ _ a _ _ _ _ y.0 y.1 _ _ (sought e.before.before.before.before.before) e.if-next-eq-NO_POSITION.false)
 
 pub overflow_cast-lists : goal.overflow_cast-lists
-overflow_cast-lists c = omega (arith, lead_few _ _ _ _ _ _ c.requires.0.0.asked)
+overflow_cast-lists c = omega (arith, lead_few _ _ _ _ _ _ c.requires.0.asked)
 
 pub overflow_add-offset : goal.overflow_add-offset
 overflow_add-offset c = omega (arith, few c.before)
@@ -165,7 +165,7 @@ pub offset_bounds-lists-i : goal.offset_bounds-lists-i
 offset_bounds-lists-i c = omega (arith, few c.before)
 
 pub bounds-lists-i : goal.bounds-lists-i
-bounds-lists-i c = omega (arith, few c.before.before, c.requires.0.0.row)
+bounds-lists-i c = omega (arith, few c.before.before, c.requires.0.row)
 
 pub overflow_cast-offset : goal.overflow_cast-offset
 overflow_cast-offset c = omega (arith, c.shared_slice_known-in-loop-turn-2-1.given (193 + c.source_of-i.result))
@@ -177,4 +177,4 @@ overflow_add-turned c = let k = c in
 
 pub shape_of-words-then-next-eq-NO_POSITION : goal.shape_of-words-then-next-eq-NO_POSITION
 shape_of-words-then-next-eq-NO_POSITION c = let s = c in
-    s.position_from-next.ensures.ready.room ∙ sym s.requires.0.2.room
+    s.position_from-next.ensures.ready.room ∙ sym s.requires.2.room
