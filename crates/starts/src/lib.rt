@@ -32,16 +32,16 @@ fn count_starts(
         let turned = trying::turn_next(table, card, terms, lists, turn, at, words);
         let i = openlists::source_of(lists[LEAD] as usize, turned.standing);
         let offset = lists[OFFSETS + i] as usize;
-        let next = phrase::position_from(
+        let sought = phrase::position_from(
             card,
             &lists[POSITIONS..LEAD],
             i,
             turned.start + offset,
             words,
         );
-        if next == phrase::NO_POSITION {
+        let Some(next) = sought else {
             return turned.count;
-        }
+        };
         at = trial::tried(turned, next - offset, terms.len());
     }
 }
