@@ -40,7 +40,7 @@ fn open_phrase(card: &[u8], pairs: &[u32], terms: &mut [u32], lists: &mut [u32])
 }
 
 // Kind 4: the pages with a start of the phrase, each with the number of its starts.
-fn by_phrase(table: &Table, card: &[u8], pairs: &[u32], room: &mut [u32]) -> usize
+fn by_phrase(table: &Table, card: &[u8], pairs: &[u32], room: &mut [u32]) -> Option<usize>
     requires { (index_refusal card.now ≡ Accepted) × (phrase_good (index_t card.now) pairs.now ≡ true) }
     ensures { Wrote (by_phrase (phrase_in card.now pairs.now)) room.old result
         room.new }
@@ -51,8 +51,8 @@ fn by_phrase(table: &Table, card: &[u8], pairs: &[u32], room: &mut [u32]) -> usi
     pairs::put_starts(table, card, &terms[0..k], &lists, room)
 }
 
-// The answer of a question that may be asked, whole at the front of the room; 0 where it does not fit.
-pub fn answer_one(table: &Table, card: &[u8], kind: u32, args: &[u32], room: &mut [u32]) -> usize
+// The answer of a question that may be asked, whole at the front of the room, if it fits.
+pub fn answer_one(table: &Table, card: &[u8], kind: u32, args: &[u32], room: &mut [u32]) -> Option<usize>
     requires { (index_refusal card.now ≡ Accepted) × (good_question (index_t card.now) kind args.now ≡ true) }
     ensures { Wrote (answer card.now kind args.now) room.old result
         room.new }

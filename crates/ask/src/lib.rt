@@ -24,16 +24,16 @@ fn answer_all(table: &Table, card: &[u8], questions: &[u32], room: &mut [u32]) -
         let from = at + 2;
         let to = questions::end_of(questions, at);
         let used = run.used;
-        let size = answer::answer_one(
+        let answered = answer::answer_one(
             table,
             card,
             questions[at],
             &questions[from..to],
             &mut room[used..],
         );
-        if size == 0 {
+        let Some(size) = answered else {
             return replies::stopped(run);
-        }
+        };
         run = replies::further(run, to, size);
     }
     replies::ended(run)

@@ -24,7 +24,7 @@ fn pages_in(card: &[u8], t: usize) -> &[u8]
 }
 
 // The element of that rank, if there is one.
-fn put_ranked(table: &Table, pages: &[u8], rank: usize, room: &mut [u32]) -> usize
+fn put_ranked(table: &Table, pages: &[u8], rank: usize, room: &mut [u32]) -> Option<usize>
     requires { FormValid (form_at pages.now) pages.now }
     ensures { Wrote (by_rank (decode pages.now) rank) room.old result room.new }
 {
@@ -37,7 +37,7 @@ fn put_ranked(table: &Table, pages: &[u8], rank: usize, room: &mut [u32]) -> usi
 }
 
 // Kind 1: the page of that rank of word t, if there is one.
-pub fn by_rank(table: &Table, card: &[u8], t: usize, rank: usize, room: &mut [u32]) -> usize
+pub fn by_rank(table: &Table, card: &[u8], t: usize, rank: usize, room: &mut [u32]) -> Option<usize>
     requires { (index_refusal card.now ≡ Accepted) × (t < index_t card.now) }
     ensures { Wrote (by_rank (pages_in card.now t) rank) room.old result room.new }
 {
@@ -53,7 +53,7 @@ fn open_alone(pages: &[u8]) -> [u32; 8]
 }
 
 // Kind 2: the first page at or above the bound, and its rank; or the number of all pages where there is none.
-pub fn by_bound(table: &Table, card: &[u8], t: u32, bound: usize, room: &mut [u32]) -> usize
+pub fn by_bound(table: &Table, card: &[u8], t: u32, bound: usize, room: &mut [u32]) -> Option<usize>
     requires { (index_refusal card.now ≡ Accepted) × (t < index_t card.now) }
     ensures { Wrote (by_bound (pages_in card.now t) bound) room.old result room.new }
 {

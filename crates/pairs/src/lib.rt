@@ -49,22 +49,22 @@ fn fits(table: &Table, card: &[u8], terms: &[u32], lists: &[u32], size: usize) -
     list_starts(table, card, terms, lists, &mut none) < size
 }
 
-// Puts the pairs, with the number of their numbers before them, at the front of the room; 0 where they do not fit.
+// Puts the pairs, with the number of their numbers before them, at the front of the room, if they fit.
 pub fn put_starts(
     table: &Table,
     card: &[u8],
     terms: &[u32],
     lists: &[u32],
     room: &mut [u32],
-) -> usize
+) -> Option<usize>
     requires { AskedIn card.now terms.now lists.now }
     ensures { Wrote (numbered (found_by card.now terms.now lists.now))
         room.old result room.new }
 {
     if !fits(table, card, terms, lists, room.len()) {
-        return 0;
+        return None;
     }
     let found = list_starts(table, card, terms, lists, room);
     room[0] = found as u32;
-    found + 1
+    Some(found + 1)
 }

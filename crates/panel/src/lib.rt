@@ -102,7 +102,7 @@ fn put_screen(
     if pages.len() < found {
         return refused(Refusal::Room);
     }
-    if replies::put(&[listed.seeks, listed.looks], counts) == 0 {
+    if replies::put(&[listed.seeks, listed.looks], counts).is_none() {
         return refused(Refusal::Room);
     }
     if found == 0 {
