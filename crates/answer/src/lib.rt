@@ -52,19 +52,21 @@ fn by_phrase(table: &Table, card: &[u8], pairs: &[u32], room: &mut [u32]) -> Opt
 }
 
 // The answer of a question that may be asked, whole at the front of the room, if it fits.
-pub fn answer_one(table: &Table, card: &[u8], kind: u32, args: &[u32], room: &mut [u32]) -> Option<usize>
+pub fn answer_one(
+    table: &Table,
+    card: &[u8],
+    kind: u32,
+    args: &[u32],
+    room: &mut [u32],
+) -> Option<usize>
     requires { (index_refusal card.now ≡ Accepted) × (good_question (index_t card.now) kind args.now ≡ true) }
     ensures { Wrote (answer card.now kind args.now) room.old result
         room.new }
 {
-    if kind == 1 {
-        return kinds::by_rank(table, card, args[0] as usize, args[1] as usize, room);
+    match kind {
+        1 => kinds::by_rank(table, card, args[0] as usize, args[1] as usize, room),
+        2 => kinds::by_bound(table, card, args[0], args[1] as usize, room),
+        3 => bycommon::by_common(table, card, args, room),
+        _ => by_phrase(table, card, args, room),
     }
-    if kind == 2 {
-        return kinds::by_bound(table, card, args[0], args[1] as usize, room);
-    }
-    if kind == 3 {
-        return bycommon::by_common(table, card, args, room);
-    }
-    by_phrase(table, card, args, room)
 }
