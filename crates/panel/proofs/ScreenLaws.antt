@@ -1,9 +1,8 @@
 -- The call: a law for each way through its tests.
-use mathlib.Core.Bool.{true, false}
+use mathlib.Core.Bool.{true, false, true≢false, false≢true}
 use mathlib.Core.Path.{◌≡◌, refl}
 use mathlib.Core.List.{List, [], ◌∷◌}
 use Prim.Native.Nat.{ℕ, ◌-◌, ◌≤◌, ◌<◌}
-use native.Mathlib.Decide.{dec_lt}
 use native.Mathlib.Omega.{arith}
 use borrow.Author.Tests.{lt-ltb, le-ltb, leb-true, le-leb, lt-leb, eq-eqb, ne_eqb}
 use lib.ListN.{length, take}
@@ -17,6 +16,7 @@ use Rattle.rules.specs.Index.{index_v, index_n, index_t, index_refusal}
 use Rattle.rules.specs.Questions.{lists_in, words_good}
 use Rattle.rules.specs.Screen.{screen_good, screen_pages, screen_counts, is_full, screening, unshown, showing, screen}
 use Rattle.listlaws.proofs.RisingLaws.{and_parts}
+use Rattle.std.specs.Prelude.{Option, None, Some, is_some}
 use Rattle.questions.specs.Wrote.{Wrote}
 use Rattle.panel.specs.Listing.{Shows}
 
@@ -90,21 +90,26 @@ module _ (n : ℕ) (ps cs pages counts : List ℕ) where
           counts = f i;
         })
 
--- the first n numbers of a list, put into room enough for them
-pub wrote_front : (n : ℕ) (list room : List ℕ) (r : ℕ) (after : List ℕ) → length (take n list) ≤ length room
-    → Wrote (take (n - 0) list) room r after → after ≡ laid (take n list) room
-wrote_front n list room r after h x =
-    let z : n - 0 ≡ n = omega arith in
-    let w = rw z at x in
-    elim (dec_lt 0 r) [
-      | yes l ↦ (w.whole l).2
-      | no l ↦ absurd (omega (arith, h, (w.none (omega (arith, l))).0))
-    ]
+-- an answer that was not put did not fit, and one that was did
+pub wrote_none : (a room after : List ℕ) (r : Option ℕ) → is_some r ≡ false → Wrote a room r after
+    → (length room < length a) × (after ≡ room)
+wrote_none a room after None e w = w
+wrote_none a room after (Some n) e w = absurd (true≢false e)
 
-pub laid_none : (a room : List ℕ) → length a ≡ 0 → room ≡ laid a room
-unfolding laid
-laid_none [] room e = refl
-laid_none (x ∷ a) room e = absurd (omega (arith, e))
+pub wrote_whole : (a room after : List ℕ) (r : Option ℕ) → is_some r ≡ true → Wrote a room r after
+    → (length a ≤ length room) × (after ≡ laid a room)
+wrote_whole a room after None e w = absurd (false≢true e)
+wrote_whole a room after (Some n) e w = (omega (arith, w.0, w.1), w.2)
+
+-- the first n numbers of a list, put into room enough for them
+pub wrote_front : (n : ℕ) (list room : List ℕ) (r : Option ℕ) (after : List ℕ) → length (take n list) ≤ length room
+    → Wrote (take (n - 0) list) room r after → after ≡ laid (take n list) room
+wrote_front n list room None after h x =
+    let z : n - 0 ≡ n = omega arith in
+    absurd (omega (arith, h, (rw z at x).0))
+wrote_front n list room (Some r) after h x =
+    let z : n - 0 ≡ n = omega arith in
+    (rw z at x).2
 
 -- ---- whether it is full
 

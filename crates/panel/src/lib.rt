@@ -105,9 +105,6 @@ fn put_screen(
     if replies::put(&[listed.seeks, listed.looks], counts).is_none() {
         return refused(Refusal::Room);
     }
-    if found == 0 {
-        return shown(r, list, found);
-    }
     replies::put(&list[0..found], pages);
     shown(r, list, found)
 }
