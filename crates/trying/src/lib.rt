@@ -38,8 +38,6 @@ pub fn turn_next(
     turning::turn_to(table, card, &lists[POSITIONS..LEAD], i, x, words);
     Trial {
         turned: at.turned + 1,
-        start: at.start,
-        standing: at.standing,
-        count: at.count,
+        ..at
     }
 }
