@@ -52,7 +52,6 @@ pub fn put_pair(room: &mut [u32], found: usize, page: u32, count: u32) -> usize
     if found + 2 < room.len() {
         room[found + 1] = page;
         room[found + 2] = count;
-        return found + 2;
     }
     found + 2
 }
