@@ -1,9 +1,8 @@
 -- The call: a law for each way through its tests.
-use mathlib.Core.Bool.{Bool, true, false, cond}
+use mathlib.Core.Bool.{Bool, true, false, cond, true≢false, false≢true}
 use mathlib.Core.Path.{◌≡◌, refl, sym, ap, ◌∙◌}
 use mathlib.Core.List.{List, [], ◌∷◌}
 use Prim.Native.Nat.{ℕ, ◌+◌, ◌-◌, ◌≤◌, ◌<◌}
-use native.Mathlib.Decide.{dec_lt}
 use native.Mathlib.Omega.{arith}
 use borrow.Author.Tests.{lt-ltb, le-ltb, leb-true, le-leb, lt-leb, eq-eqb, ne_eqb}
 use lib.ListN.{length, take, get_or}
@@ -11,7 +10,7 @@ use Rattle.rules.specs.Verdict.{Verdict}
 use Rattle.std.specs.Prelude.{Result, Ok, Err, Option, Some, None, is_some}
 use Rattle.std.specs.Result.{IsErr, IsErrAnd}
 use Rattle.std.specs.Option.{unwrap_or}
-use Rattle.rules.specs.declared.Refusal.{Refusal}
+use Rattle.rules.specs.Verdict.{Verdict}
 use Rattle.rules.specs.Verdict.{Accepted, Question, Room}
 use Rattle.rules.specs.declared.Screened.{Screened}
 use Rattle.rules.specs.Refusal.{accepted}
@@ -51,7 +50,7 @@ module _ (T r : ℕ) (ts : List ℕ) where
 
 module _ (s : List ℕ) (b n : ℕ) (ts pages counts : List ℕ) where
   -- what a `?` makes of the card's verdict
-  pub screen_card : (r : Verdict) (e : Refusal) (out : Result Screened Refusal) → r ≡ index_refusal s → r ≡ Err e
+  pub screen_card : (r : Verdict) (e : Verdict) (out : Result Screened Verdict) → r ≡ index_refusal s → r ≡ Err e
       → IsErr out × IsErrAnd out (λ d. d ≡ e) → screening out pages counts ≡ screen s b n ts pages counts
   unfolding screen unshown
   screen_card r e (Ok _) is was h = absurd h.1
@@ -111,21 +110,26 @@ module _ (n : ℕ) (ps cs pages counts : List ℕ) where
           counts = f i;
         })
 
--- the first n numbers of a list, put into room enough for them
-pub wrote_front : (n : ℕ) (list room : List ℕ) (r : ℕ) (after : List ℕ) → length (take n list) ≤ length room
-    → Wrote (take (n - 0) list) room r after → after ≡ laid (take n list) room
-wrote_front n list room r after h x =
-    let z : n - 0 ≡ n = omega arith in
-    let w = rw z at x in
-    elim (dec_lt 0 r) [
-      | yes l ↦ (w.whole l).2
-      | no l ↦ absurd (omega (arith, h, (w.none (omega (arith, l))).0))
-    ]
+-- an answer that was not put did not fit, and one that was did
+pub wrote_none : (a room after : List ℕ) (r : Option ℕ) → is_some r ≡ false → Wrote a room r after
+    → (length room < length a) × (after ≡ room)
+wrote_none a room after None e w = w
+wrote_none a room after (Some n) e w = absurd (true≢false e)
 
-pub laid_none : (a room : List ℕ) → length a ≡ 0 → room ≡ laid a room
-unfolding laid
-laid_none [] room e = refl
-laid_none (x ∷ a) room e = absurd (omega (arith, e))
+pub wrote_whole : (a room after : List ℕ) (r : Option ℕ) → is_some r ≡ true → Wrote a room r after
+    → (length a ≤ length room) × (after ≡ laid a room)
+wrote_whole a room after None e w = absurd (false≢true e)
+wrote_whole a room after (Some n) e w = (omega (arith, w.0, w.1), w.2)
+
+-- the first n numbers of a list, put into room enough for them
+pub wrote_front : (n : ℕ) (list room : List ℕ) (r : Option ℕ) (after : List ℕ) → length (take n list) ≤ length room
+    → Wrote (take (n - 0) list) room r after → after ≡ laid (take n list) room
+wrote_front n list room None after h x =
+    let z : n - 0 ≡ n = omega arith in
+    absurd (omega (arith, h, (rw z at x).0))
+wrote_front n list room (Some r) after h x =
+    let z : n - 0 ≡ n = omega arith in
+    (rw z at x).2
 
 -- ---- whether it is full
 
