@@ -17,7 +17,7 @@ fn put(room: &mut [u8], g: Shape, f: Filling, x: usize) -> Filling
     let next = storing::put_pointers(room, f.ups.next, high, f.count);
     let place = high + f.count;
     let word = storing::put_words(room, g.upper, f.ups.words, place / 64, f.ups.acc);
-    let stop = storing::lesser(64 * (place / 64) + 64, 256 * next + f.count);
+    let stop = (64 * (place / 64) + 64).min(256 * next + f.count);
     Filling {
         count: f.count + 1,
         lows,

@@ -57,7 +57,7 @@ fn place_after(run: &[u8], b: usize, h: usize, at: Passed) -> usize
     }
     let x = runs::run_word(run, 0, at.words);
     let place = 64 * at.words + after_zero(x, h - at.zeros - 1);
-    storing::lesser(b, place)
+    b.min(place)
 }
 
 // Writes the pointers that the upper run gives; where its zeros do not suffice, they are the run's end.

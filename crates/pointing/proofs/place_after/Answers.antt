@@ -65,7 +65,7 @@ returns c =
     let start = w in
     let a = start.args in
     let b = start.requires.2.before in
-    c.lesser.ensures
+    c.min.ensures
     ∙ place_word (words_for a.b) a.h a.run.now a.at b (bytes_at w.before.before.before.before.before.before) (inside w.before.before.before.before.before.before)
     w.run_word-x.result w.run_word-x.ensures (a.h - a.at.zeros - 1 + 1) z.after_zero.result a.b
     (omega (arith, b.short)) z.after_zero.ensures.0 z.after_zero.ensures.1
