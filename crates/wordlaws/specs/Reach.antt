@@ -5,7 +5,7 @@
 --   fall_at ps i        1 where element i does not rise above the one before it, else 0; the first has none before it
 --   falls_in ps i k     how many of the k elements from number i on do not rise
 --   Reached v e r      r is e, capped, where v, and else there is none
-use Rattle.std.specs.Prelude.{Bool, true, cond, ◌&&◌, ◌≡◌, List, Option, ℕ, zero, suc, ◌+◌, min, leb, eqb, get_or}
+use Rattle.std.specs.Prelude.{Bool, cond, ◌&&◌, ◌≡◌, List, Option, ℕ, zero, suc, ◌+◌, min, leb, eqb, get_or}
 use Rattle.std.specs.Bool.{then_some}
 use Rattle.rules.specs.Limits.{limit}
 use Rattle.rules.specs.Term.{total, positive}
