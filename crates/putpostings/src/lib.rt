@@ -117,15 +117,14 @@ pub fn put_postings(
             stream: s,
         };
     }
-    let word = following::follow(s, pages, counts, positions);
-    if !word.ok {
+    let Some(base) = following::follow(s, pages, counts, positions) else {
         sessions::clear(room, size);
         return sessions::ended(Refusal::Lists, 0);
-    }
+    };
     add_run(room, g, s, pages, counts, positions);
     Streamed {
         refusal: Refusal::Accepted,
         size: 0,
-        stream: following::advance(s, pages, positions, word.next),
+        stream: following::advance(s, pages, positions, base),
     }
 }

@@ -90,20 +90,17 @@ pub fn write_term(
             size: 0,
         };
     }
-    let word = testword::check_word(n as usize, pages, counts, positions);
-    if !word.ok {
+    let Some(reach) = testword::check_word(n as usize, pages, counts, positions) else {
         return Written {
             refusal: Refusal::Lists,
             size: 0,
         };
-    }
-    if LIMIT < word.next {
+    };
+    if LIMIT < reach {
         return Written {
             refusal: Refusal::Limit,
             size: 0,
         };
     }
-    write_tested(
-        version, n as usize, word.next, pages, counts, positions, room,
-    )
+    write_tested(version, n as usize, reach, pages, counts, positions, room)
 }
