@@ -1,6 +1,5 @@
--- Laws of finding a question's terms: the least term from a number on, the starts put for a term, and the walk that
--- goes on.
-use mathlib.Core.Path.{◌≡◌, refl, sym, ap, ◌∙◌}
+-- Laws of finding a question's terms: the least term from a number on, and the walk that goes on.
+use mathlib.Core.Path.{◌≡◌, refl, ap, ◌∙◌}
 use mathlib.Core.Bool.{Bool, true, false, cond}
 use mathlib.Core.List.{List, [], ◌∷◌}
 use mathlib.Core.Logic.{◌⊎◌, inl, inr}
@@ -8,8 +7,7 @@ use Prim.Native.Nat.{ℕ, zero, suc, ◌+◌, ◌-◌, ◌≤◌, ◌<◌, min}
 use native.Mathlib.Decide.{ℕ_discrete, dec_lt}
 use native.Mathlib.Omega.{arith}
 use lib.Dec.{leb}
-use lib.ListN.{length, get_or, take, drop, set, length-set}
-use lib.Seq.{get_or-set_same, get_or-set_other}
+use lib.ListN.{length, get_or, take, drop}
 use borrow.Author.Tests.{leb-true, leb-false}
 use Rattle.std.specs.Prelude.{Option, Some, None, IfSome}
 use Rattle.std.specs.Option.{option_map_or}
@@ -20,7 +18,7 @@ use Rattle.rules.specs.Index.{index_t, index_refusal}
 use Rattle.laws.specs.Blocks.{block_at}
 use Rattle.parts.specs.Places.{Walkable}
 use Rattle.parts.proofs.PlaceLaws.{part_behind, after_on, walk_rest, after_length}
-use Rattle.findlaws.specs.Starts.{Starts, Below, LeastOf, LeastFrom, PutOf, Put}
+use Rattle.findlaws.specs.Starts.{Starts, Below, LeastOf, LeastFrom, Put}
 use Rattle.findlaws.proofs.FindLaws.{index_walks}
 
 -- ---- the least term from a number on
@@ -96,29 +94,6 @@ least_filtered t (x ∷ xs) = go (least_filtered t xs) (leb t x) refl
     go : LeastFrom xs t (reduce min (filter (leb t) xs)) → (b : Bool) → leb t x ≡ b → LeastFrom (x ∷ xs) t (reduce min (cond b (x ∷ filter (leb t) xs) (filter (leb t) xs)))
     go ih true e = least_folded t xs x (leb-true t x e)
     go ih false e = below_front t x xs (leb-false t x e) (reduce min (filter (leb t) xs)) ih
-
--- ---- the starts put for a term
-
-module _ (ts : List ℕ) (n t at : ℕ) (ps after : List ℕ) (p : PutOf ts n t at ps after) where
-  pub put_more : n < length ps → get_or ts n 0 ≡ t → PutOf ts (n + 1) t at ps (set after n at)
-  put_more h g = record {
-    same = length-set after n at ∙ p.same;
-    here = λ i l e. elim (ℕ_discrete i n) [
-      | yes x ↦ rw x (get_or-set_same after n at 0 (omega (arith, p.same)))
-      | no x ↦ get_or-set_other after n i at 0 x ∙ p.here i (omega arith) e
-    ];
-    others = λ i o. elim (ℕ_discrete i n) [
-      | yes x ↦ absurd (o (omega arith) (rw x g))
-      | no x ↦ get_or-set_other after n i at 0 x ∙ p.others i (λ l e. o (omega arith) e)
-    ];
-  }
-
-  pub put_kept : (get_or ts n 0 ≡ t → ⊥) → PutOf ts (n + 1) t at ps after
-  put_kept g = record {
-    same = p.same;
-    here = λ i l e. elim (ℕ_discrete i n) [ yes x ↦ absurd (g (rw (sym x) e)) | no x ↦ p.here i (omega arith) e ];
-    others = λ i o. p.others i (λ l e. o (omega arith) e);
-  }
 
 -- ---- the walk that goes on
 
@@ -226,7 +201,3 @@ module _ (s ts : List ℕ) (a : index_refusal s ≡ Accepted) (b : Below s ts) w
           rising : (o : Option ℕ) → LeastFrom ts (next + 1) o → IfSome o (λ m. next ≤ m)
           rising None l = tt
           rising (Some r) l = omega (arith, l.onward)
-
-    pub finding_ends : (then : Option ℕ) → LeastFrom ts (next + 1) then → ahead s then < ahead s (Some next)
-    finding_ends None l = omega (arith, f.on_card)
-    finding_ends (Some r) l = omega (arith, f.on_card, l.onward)

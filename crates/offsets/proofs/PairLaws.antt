@@ -180,15 +180,6 @@ module _ (args : List ℕ) where
     pub terms : (j : ℕ) → j < i → get_or ts j 0 ≡ get_or args (2 * j) 0
     pub offsets : (j : ℕ) → j < i → get_or ds j 0 ≡ get_or args (2 * j + 1) 0
 
-  pub apart_none : (ts ds : List ℕ) → length ts ≡ 8 → length ds ≡ 8 → Apart 0 ts ds
-  apart_none ts ds r q = record {
-    terms_room = r;
-    offsets_room = q;
-    within = omega arith;
-    terms = λ j h. absurd (omega arith);
-    offsets = λ j h. absurd (omega arith);
-  }
-
   pub apart_more : (i : ℕ) (ts ds pair left : List ℕ) → Apart i ts ds → length args ≤ 16 → drop (2 * i) args ≡ pair ++ left
       → length pair ≡ 2 → Apart (i + 1) (set ts i (get_or pair 0 0)) (set ds i (get_or pair 1 0))
   apart_more i ts ds pair left a few e l =

@@ -1,12 +1,12 @@
 -- `read_numbers` reads four bytes after the other: the numbers of those that are left are still to be read.
-use mathlib.Core.Path.{◌≡◌, sym, ap, ◌∙◌}
+use mathlib.Core.Path.{sym, ap, ◌∙◌}
 use mathlib.Core.List.{◌∷◌}
 use native.Mathlib.Omega.{arith}
 use lib.ListN.{length, length-append}
 use Rattle.std.specs.Iterator.Adapters.{enumerate_source}
 use Rattle.std.specs.Slice.Iter.{chunks_exact_rest}
 use Rattle.files.specs.Laid.{words_of}
-use Rattle.files.proofs.PutLaws.{put_one, partly_none, partly_same, partly_more, partly_all}
+use Rattle.files.proofs.PutLaws.{put_one, partly_same, partly_more, partly_all}
 use Rattle.files.proofs.WordLaws.{words_front, words_none}
 use Rattle.files.proofs.read_numbers.Goals as goal
 

@@ -1,5 +1,4 @@
 -- `find_terms` walks from term to term in rising order. The loop's invariant: `Finding`.
-use Prim.Native.Nat.{◌≤◌}
 use native.Mathlib.Omega.{arith}
 use lib.ListN.{length}
 use Rattle.cardlaws.proofs.PassedLaws.{accepted_passed}
