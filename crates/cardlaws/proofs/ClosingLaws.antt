@@ -9,7 +9,7 @@ use lib.ListN.{length, take, drop, set, length-append}
 use lib.Seq.{sets}
 use Rattle.std.specs.Prelude.{Result, Ok, Err}
 use Rattle.std.specs.Result.{IsErr, IsErrAnd}
-use Rattle.rules.specs.Verdict.{Verdict}
+use Rattle.rules.specs.declared.Refusal.{Refusal}
 use Rattle.rules.specs.Verdict.{Verdict}
 use Rattle.rules.specs.Verdict.{Accepted, Short, Version, Limit, Room}
 use Rattle.rules.specs.Refusal.{accepted}
@@ -80,7 +80,7 @@ front_stored d a b c e used ver N T h p q r s =
 
 module _ (buffer : List ℕ) (used ver N T : ℕ) (r : Verdict) (is : r ≡ close_refusal buffer used ver N T) where
   -- what a `?` makes of the refusal
-  pub close_refused : (out : Result ℕ Verdict) (e : Verdict) → r ≡ Err e → IsErr out × IsErrAnd out (λ d. d ≡ e)
+  pub close_refused : (out : Result ℕ Refusal) (e : Refusal) → r ≡ Err e → IsErr out × IsErrAnd out (λ d. d ≡ e)
       → made out buffer ≡ close_index buffer used ver N T
   unfolding close_index
   close_refused (Ok _) e was h = absurd h.1

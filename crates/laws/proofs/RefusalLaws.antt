@@ -9,7 +9,7 @@ use lib.ListN.{get_or}
 use borrow.Author.Tests.{eqb-true, not-true, not-false}
 use Rattle.std.specs.Prelude.{Ok, Err, is_err}
 use Rattle.std.specs.Result.{IsErr, IsErrAnd}
-use Rattle.rules.specs.Verdict.{Verdict}
+use Rattle.rules.specs.declared.Refusal.{Refusal}
 use Rattle.rules.specs.declared.Refusal.TheVariants as Named
 use Rattle.rules.specs.Verdict.{Verdict}
 use Rattle.rules.specs.Verdict.{Accepted, Short, Length, Version, Limit}
@@ -50,7 +50,7 @@ pub true_accepted : (r : Verdict) → r ≡ Accepted → accepted r ≡ true
 unfolding accepted
 true_accepted r e = rw e
 
-pub refusal_told : (e : Verdict) → accepted (Err e) ≡ false
+pub refusal_told : (e : Refusal) → accepted (Err e) ≡ false
 unfolding accepted
 refusal_told Named.Short = refl
 refusal_told Named.Length = refl
@@ -82,7 +82,7 @@ and_then_stop r q e = rw e
 -- what a `?` makes of a test that tells r, where r is q: it hands the refusal on, which is the answer of q and then x; or
 -- q has passed
 module _ (r q : Verdict) (is : r ≡ q) where
-  pub handed_on : (out x : Verdict) (e : Verdict) → r ≡ Err e → IsErr out × IsErrAnd out (λ d. d ≡ e) → out ≡ and_then q x
+  pub handed_on : (out x : Verdict) (e : Refusal) → r ≡ Err e → IsErr out × IsErrAnd out (λ d. d ≡ e) → out ≡ and_then q x
   handed_on (Ok _) x e was h = absurd h.1
   handed_on (Err d) x e was h =
       let t = sym is ∙ was in

@@ -10,7 +10,7 @@ use Rattle.rules.specs.Verdict.{Verdict}
 use Rattle.std.specs.Prelude.{Result, Ok, Err, Option, Some, None, is_some}
 use Rattle.std.specs.Result.{IsErr, IsErrAnd}
 use Rattle.std.specs.Option.{unwrap_or}
-use Rattle.rules.specs.Verdict.{Verdict}
+use Rattle.rules.specs.declared.Refusal.{Refusal}
 use Rattle.rules.specs.Verdict.{Accepted, Question, Room}
 use Rattle.rules.specs.declared.Screened.{Screened}
 use Rattle.rules.specs.Refusal.{accepted}
@@ -50,7 +50,7 @@ module _ (T r : ℕ) (ts : List ℕ) where
 
 module _ (s : List ℕ) (b n : ℕ) (ts pages counts : List ℕ) where
   -- what a `?` makes of the card's verdict
-  pub screen_card : (r : Verdict) (e : Verdict) (out : Result Screened Verdict) → r ≡ index_refusal s → r ≡ Err e
+  pub screen_card : (r : Verdict) (e : Refusal) (out : Result Screened Refusal) → r ≡ index_refusal s → r ≡ Err e
       → IsErr out × IsErrAnd out (λ d. d ≡ e) → screening out pages counts ≡ screen s b n ts pages counts
   unfolding screen unshown
   screen_card r e (Ok _) is was h = absurd h.1

@@ -11,7 +11,7 @@ use lib.ListN.{length, take, drop, length-take, length-drop}
 use lib.Seq.{take-length, get_or-take, get_or-drop, drop-drop, ext_get_or}
 use Rattle.std.specs.Prelude.{Ok, Err}
 use Rattle.std.specs.Result.{IsErr, IsErrAnd}
-use Rattle.rules.specs.Verdict.{Verdict}
+use Rattle.rules.specs.declared.Refusal.{Refusal}
 use Rattle.rules.specs.Verdict.{Verdict}
 use Rattle.rules.specs.Verdict.{Accepted}
 use Rattle.rules.specs.Refusal.{accepted, and_then}
@@ -100,7 +100,7 @@ module _ (h at : ℕ) (s : List ℕ) (r : Verdict) (is : r ≡ front_refusal h (
   front_held k l u was = inside_held h (λ _. Accepted) at s k l (went_on r (front_refusal h (drop at s)) is u was)
 
   module _ (f : List ℕ → Verdict) where
-    pub front_refused : (out : Verdict) (e : Verdict) → r ≡ Err e → IsErr out × IsErrAnd out (λ d. d ≡ e)
+    pub front_refused : (out : Verdict) (e : Refusal) → r ≡ Err e → IsErr out × IsErrAnd out (λ d. d ≡ e)
         → out ≡ inside h f (drop at s)
     front_refused out e was gives =
         handed_on r (front_refusal h (drop at s)) is out (f (take (be_at 4 s at) (drop at s))) e was gives

@@ -5,7 +5,7 @@ use Rattle.std.specs.Prelude.{Result, Ok, Err, Option, Some, None, cond, eqb, is
 use Rattle.std.specs.Option.{unwrap_or}
 use mathlib.Core.List.{List}
 use Prim.Native.Nat.{ℕ}
-use Rattle.rules.specs.Verdict.{Verdict}
+use Rattle.rules.specs.declared.Refusal.{Refusal}
 use Rattle.std.specs.Result.{result_unwrap_or}
 use Rattle.rules.specs.Verdict.{Verdict, verdict}
 use Rattle.rules.specs.declared.Outcome.{Outcome}
@@ -35,16 +35,16 @@ pub check_index_unique : (s : List ℕ) → Determined {A = Verdict} (λ r. Inde
 check_index_unique s = by_equation (λ r. r) (λ r. r) (λ r. refl) _
 
 -- a result that tells this, with this value where nothing is refused
-abbrev valued : {A : Type 0} → Verdict → A → Result A Verdict
+abbrev valued : {A : Type 0} → Verdict → A → Result A Refusal
 valued (Ok _) x = Ok x
 valued (Err r) x = Err r
 
-valued_back : (r : Result ℕ Verdict) → valued (verdict r) (result_unwrap_or r 0) ≡ r
+valued_back : (r : Result ℕ Refusal) → valued (verdict r) (result_unwrap_or r 0) ≡ r
 valued_back (Ok n) = refl
 valued_back (Err r) = refl
 
 -- what the writers and closing promise, of an answer and its room
-made_unique : (m : Made) → Determined {A = Result ℕ Verdict × List ℕ} (λ p. made p.0 p.1 ≡ m)
+made_unique : (m : Made) → Determined {A = Result ℕ Refusal × List ℕ} (λ p. made p.0 p.1 ≡ m)
 made_unique =
     by_equation
     (λ p. made p.0 p.1)
@@ -52,11 +52,11 @@ made_unique =
     (λ p i. (valued_back p.0 i, p.1))
 
 pub write_list_unique : (U : ℕ) (xs room : List ℕ)
-    → Determined {A = Result ℕ Verdict × List ℕ} (λ p. ListWritten U xs room p.0 p.1)
+    → Determined {A = Result ℕ Refusal × List ℕ} (λ p. ListWritten U xs room p.0 p.1)
 write_list_unique U xs room = made_unique _
 
 pub write_term_unique : (v N : ℕ) (t : Word) (room : List ℕ)
-    → Determined {A = Result ℕ Verdict × List ℕ} (λ p. TermWritten v N t room p.0 p.1)
+    → Determined {A = Result ℕ Refusal × List ℕ} (λ p. TermWritten v N t room p.0 p.1)
 write_term_unique v N t room = made_unique _
 
 -- what the calls of a session promise
@@ -80,7 +80,7 @@ pub end_term_unique : (s : Stream) (room : List ℕ)
 end_term_unique s room = streaming_unique _
 
 pub close_index_unique : (buffer : List ℕ) (used v N T : ℕ)
-    → Determined {A = Result ℕ Verdict × List ℕ} (λ p. IndexClosed buffer used v N T p.0 p.1)
+    → Determined {A = Result ℕ Refusal × List ℕ} (λ p. IndexClosed buffer used v N T p.0 p.1)
 close_index_unique buffer used v N T = made_unique _
 
 pub ask_unique : (s qs room : List ℕ)
@@ -93,17 +93,17 @@ ask_unique s qs room =
     _
 
 pub screen_unique : (s : List ℕ) (b n : ℕ) (ts pages counts : List ℕ)
-    → Determined {A = Result Screened Verdict × List ℕ × List ℕ}
+    → Determined {A = Result Screened Refusal × List ℕ × List ℕ}
     (λ p. ScreenShown s b n ts pages counts p.0 p.1 p.2)
 screen_unique s b n ts pages counts = by_equation (λ p. screening p.0 p.1 p.2) back same _
   where
     screened : Screening → Screened
     screened m = record { found = m.found; next = cond (eqb m.full 1) (Some m.next) None }
 
-    back : Screening → Result Screened Verdict × List ℕ × List ℕ
+    back : Screening → Result Screened Refusal × List ℕ × List ℕ
     back m = (valued m.refusal (screened m), m.pages, m.counts)
 
-    same : (p : Result Screened Verdict × List ℕ × List ℕ) → back (screening p.0 p.1 p.2) ≡ p
+    same : (p : Result Screened Refusal × List ℕ × List ℕ) → back (screening p.0 p.1 p.2) ≡ p
     same (Ok x, pages, counts) = λ i. (Ok (record { found = x.found; next = bound x.next i }), pages, counts)
       where
         bound : (b : Option ℕ) → cond (eqb (cond (is_some b) 1 0) 1) (Some (unwrap_or b 0)) None ≡ b

@@ -17,7 +17,7 @@
 --                                   card s, and leaves the rooms as `pages'` and `counts'`
 --   Printed s qs text r after       r is the length of what the program prints for two files, laid into the text
 use Rattle.std.specs.Prelude.{◌≡◌, List, ℕ, length, Result}
-use Rattle.rules.specs.Verdict.{Verdict}
+use Rattle.rules.specs.declared.Refusal.{Refusal}
 use Rattle.rules.specs.Verdict.{Verdict}
 use Rattle.rules.specs.declared.Outcome.{Outcome}
 use Rattle.rules.specs.declared.Screened.{Screened}
@@ -39,13 +39,13 @@ Determined P = (p q : _) → P p → P q → p ≡ q
 abbrev pub ListChecked : List ℕ → Verdict → Type 0
 ListChecked s r = r ≡ list_refusal s
 
-abbrev pub ListWritten : ℕ → List ℕ → List ℕ → Result ℕ Verdict → List ℕ → Type 0
+abbrev pub ListWritten : ℕ → List ℕ → List ℕ → Result ℕ Refusal → List ℕ → Type 0
 ListWritten U xs room r after = made r after ≡ write_list U xs room
 
 abbrev pub TermChecked : ℕ → List ℕ → Verdict → Type 0
 TermChecked v s r = r ≡ term_refusal v s
 
-abbrev pub TermWritten : ℕ → ℕ → Word → List ℕ → Result ℕ Verdict → List ℕ → Type 0
+abbrev pub TermWritten : ℕ → ℕ → Word → List ℕ → Result ℕ Refusal → List ℕ → Type 0
 TermWritten v N t room r after = made r after ≡ write_term v N t room
 
 abbrev pub TermBegun : ℕ → ℕ → ℕ → ℕ → ℕ → List ℕ → Streamed → List ℕ → Type 0
@@ -60,13 +60,13 @@ TermEnded s room r after = streaming r after ≡ end_term s room
 abbrev pub IndexChecked : List ℕ → Verdict → Type 0
 IndexChecked s r = r ≡ index_refusal s
 
-abbrev pub IndexClosed : List ℕ → ℕ → ℕ → ℕ → ℕ → Result ℕ Verdict → List ℕ → Type 0
+abbrev pub IndexClosed : List ℕ → ℕ → ℕ → ℕ → ℕ → Result ℕ Refusal → List ℕ → Type 0
 IndexClosed buffer used v N T r after = made r after ≡ close_index buffer used v N T
 
 abbrev pub Answered : List ℕ → List ℕ → List ℕ → Outcome → List ℕ → Type 0
 Answered s qs room r after = asked r after ≡ ask s qs room
 
-abbrev pub ScreenShown : List ℕ → ℕ → ℕ → List ℕ → List ℕ → List ℕ → Result Screened Verdict → List ℕ → List ℕ → Type 0
+abbrev pub ScreenShown : List ℕ → ℕ → ℕ → List ℕ → List ℕ → List ℕ → Result Screened Refusal → List ℕ → List ℕ → Type 0
 ScreenShown s b n ts pages counts r pages' counts' = screening r pages' counts' ≡ screen s b n ts pages counts
 
 abbrev pub Printed : List ℕ → List ℕ → List ℕ → ℕ → List ℕ → Type 0

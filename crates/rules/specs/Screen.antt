@@ -14,7 +14,7 @@
 use Rattle.std.specs.Prelude.{Bool, cond, not, ◌&&◌, ◌||◌, List, [], ◌∷◌, ℕ, ◌+◌, ◌-◌, ltb, leb, eqb, length, get_or, take}
 use Rattle.std.specs.Prelude.{Result, Ok, Err, is_some}
 use Rattle.std.specs.Option.{unwrap_or}
-use Rattle.rules.specs.Verdict.{Verdict}
+use Rattle.rules.specs.declared.Refusal.{Refusal}
 use Rattle.rules.specs.Verdict.{Verdict}
 use Rattle.rules.specs.Verdict.{Accepted, Question, Room}
 use Rattle.rules.specs.declared.Screened.{Screened}
@@ -46,7 +46,7 @@ pub record Screening : Type 0 where
   pub pages : List ℕ
   pub counts : List ℕ
 
-abbrev pub screening : Result Screened Verdict → List ℕ → List ℕ → Screening
+abbrev pub screening : Result Screened Refusal → List ℕ → List ℕ → Screening
 screening (Ok x) pages counts = record {
   refusal = Accepted;
   found = x.found;

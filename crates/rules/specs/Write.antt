@@ -8,7 +8,7 @@
 --   write_list U xs room  the writer of a list
 use Rattle.std.specs.Prelude.{cond, not, List, ◌++◌, ℕ, ltb, length, drop, Result}
 use Rattle.std.specs.Result.{result_unwrap_or}
-use Rattle.rules.specs.Verdict.{Verdict}
+use Rattle.rules.specs.declared.Refusal.{Refusal}
 use Rattle.rules.specs.Verdict.{Verdict, verdict}
 use Rattle.rules.specs.Verdict.{Accepted, Limit, Room, Lists}
 use Rattle.rules.specs.Limits.{limit}
@@ -19,7 +19,7 @@ pub record Made : Type 0 where
   pub size : ℕ
   pub room : List ℕ
 
-abbrev pub made : Result ℕ Verdict → List ℕ → Made
+abbrev pub made : Result ℕ Refusal → List ℕ → Made
 made r room = record { refusal = verdict r; size = result_unwrap_or r 0; room = room }
 
 abbrev pub refused : Verdict → List ℕ → Made
