@@ -5,7 +5,6 @@ ghost use Rattle.std.specs.Prelude.{◌≡◌, true, length, get_or};
 ghost use Rattle.rules.specs.Verdict.{Accepted};
 ghost use Rattle.rules.specs.Index.{index_t, index_refusal};
 ghost use Rattle.rules.specs.Questions.{by_phrase, phrase_in, answer, words_good, phrase_good, good_question};
-ghost use Rattle.bytetable.specs.Places.{PlacesOfOnes};
 ghost use Rattle.questions.specs.Wrote.{Wrote};
 ghost use Rattle.triallaws.specs.Asked.{offsets_in, AskedIn, PhraseOpened};
 
@@ -41,9 +40,8 @@ fn open_phrase(card: &[u8], pairs: &[u32], terms: &mut [u32], lists: &mut [u32])
 }
 
 // Kind 4: the pages with a start of the phrase, each with the number of its starts.
-fn by_phrase(table: &Table, card: &[u8], pairs: &[u32], room: &mut [u32]) -> usize
-    requires { (index_refusal card.now ≡ Accepted) × (phrase_good (index_t card.now) pairs.now ≡ true)
-        × PlacesOfOnes table.now }
+fn by_phrase(table: &Table, card: &[u8], pairs: &[u32], room: &mut [u32]) -> Option<usize>
+    requires { (index_refusal card.now ≡ Accepted) × (phrase_good (index_t card.now) pairs.now ≡ true) }
     ensures { Wrote (by_phrase (phrase_in card.now pairs.now)) room.old result
         room.new }
 {
@@ -53,21 +51,22 @@ fn by_phrase(table: &Table, card: &[u8], pairs: &[u32], room: &mut [u32]) -> usi
     pairs::put_starts(table, card, &terms[0..k], &lists, room)
 }
 
-// The answer of a question that may be asked, whole at the front of the room; 0 where it does not fit.
-pub fn answer_one(table: &Table, card: &[u8], kind: u32, args: &[u32], room: &mut [u32]) -> usize
-    requires { (index_refusal card.now ≡ Accepted) × (good_question (index_t card.now) kind args.now ≡ true)
-        × PlacesOfOnes table.now }
+// The answer of a question that may be asked, whole at the front of the room, if it fits.
+pub fn answer_one(
+    table: &Table,
+    card: &[u8],
+    kind: u32,
+    args: &[u32],
+    room: &mut [u32],
+) -> Option<usize>
+    requires { (index_refusal card.now ≡ Accepted) × (good_question (index_t card.now) kind args.now ≡ true) }
     ensures { Wrote (answer card.now kind args.now) room.old result
         room.new }
 {
-    if kind == 1 {
-        return kinds::by_rank(table, card, args[0] as usize, args[1] as usize, room);
+    match kind {
+        1 => kinds::by_rank(table, card, args[0] as usize, args[1] as usize, room),
+        2 => kinds::by_bound(table, card, args[0], args[1] as usize, room),
+        3 => bycommon::by_common(table, card, args, room),
+        _ => by_phrase(table, card, args, room),
     }
-    if kind == 2 {
-        return kinds::by_bound(table, card, args[0], args[1] as usize, room);
-    }
-    if kind == 3 {
-        return bycommon::by_common(table, card, args, room);
-    }
-    by_phrase(table, card, args, room)
 }

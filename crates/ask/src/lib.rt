@@ -6,7 +6,6 @@ ghost use Rattle.rules.specs.Verdict.{Accepted};
 ghost use Rattle.rules.specs.Index.{index_t, index_refusal};
 ghost use Rattle.rules.specs.Ask.{asked, put, fitted};
 ghost use Rattle.rules.specs.Promises.{Answered};
-ghost use Rattle.bytetable.specs.Places.{PlacesOfOnes};
 ghost use Rattle.questions.specs.Formed.{formed, answers_to};
 
 use bytetable::Table;
@@ -14,8 +13,7 @@ use rules::{INDEX_T_AT, Outcome, Refusal};
 
 // Answers well-formed questions in turn, each behind the answers before it.
 fn answer_all(table: &Table, card: &[u8], questions: &[u32], room: &mut [u32]) -> Outcome
-    requires { (index_refusal card.now ≡ Accepted) × (formed (index_t card.now) questions.now ≡ true)
-        × PlacesOfOnes table.now }
+    requires { (index_refusal card.now ≡ Accepted) × (formed (index_t card.now) questions.now ≡ true) }
     ensures { asked result room.new
         ≡ put (fitted (length room.old) (answers_to card.now questions.now))
         room.old }
@@ -26,16 +24,16 @@ fn answer_all(table: &Table, card: &[u8], questions: &[u32], room: &mut [u32]) -
         let from = at + 2;
         let to = questions::end_of(questions, at);
         let used = run.used;
-        let size = answer::answer_one(
+        let answered = answer::answer_one(
             table,
             card,
             questions[at],
             &questions[from..to],
             &mut room[used..],
         );
-        if size == 0 {
+        let Some(size) = answered else {
             return replies::stopped(run);
-        }
+        };
         run = replies::further(run, to, size);
     }
     replies::ended(run)

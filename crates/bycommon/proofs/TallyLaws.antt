@@ -14,8 +14,9 @@ use Rattle.querylaws.specs.Listings.{whole_in, laid_within}
 use Rattle.querylaws.proofs.ListingLaws.{laid_within_all}
 use Rattle.wordlists.specs.Opened.{OpenedPages}
 use Rattle.wordlists.proofs.OpenLaws.{opened_some, opened_whole}
+use Rattle.std.specs.Prelude.{Some}
 use Rattle.questions.specs.Wrote.{Wrote}
-use Rattle.questions.proofs.WroteLaws.{wrote_whole, tail_part, tail_back}
+use Rattle.questions.proofs.WroteLaws.{tail_part, tail_back}
 use Rattle.bycommon.specs.Tallies.{tallied}
 
 -- three numbers in front of a list that is laid behind them
@@ -31,17 +32,18 @@ front_laid a b c xs (x ∷ y ∷ z ∷ room) h = refl
 pub put_tally : (t : Tally) (room ys : List ℕ) (n a b : ℕ) → length t.listed + 3 ≤ length room → ys
     ≡ laid_within t.listed (mid_of 3 (length room - 3) room)
     → n ≡ length t.listed → a ≡ t.seeks → b ≡ t.looks
-    → Wrote (tallied t) room (n + 3) (set (set (set (put_mid 3 (length room - 3) room ys) 0 (n + 2)) 1 a) 2 b)
+    → Wrote (tallied t) room (Some (n + 3)) (set (set (set (put_mid 3 (length room - 3) room ys) 0 (n + 2)) 1 a) 2 b)
 unfolding tallied numbered
 put_tally t room ys n a b h e f g k =
     let whole = laid_within_all t.listed (drop 3 room) (omega (arith, length-drop 3 room)) in
     let y : ys ≡ laid t.listed (drop 3 room) = rw (tail_part 3 room) at e ∙ whole in
     let m : n + 2 ≡ length (t.seeks ∷ t.looks ∷ t.listed) = omega arith in
     let l : put_mid 3 (length room - 3) room ys ≡ take 3 room ++ laid t.listed (drop 3 room) =
-    tail_back 3 room ys ∙ ap (λ (z : List ℕ). take 3 room ++ z) y in
-    wrote_whole (tallied t) room (n + 3) _ (omega arith) (omega arith) (omega arith)
-    (rw (l, m, g, k) (front_laid (length (t.seeks ∷ t.looks ∷ t.listed)) t.seeks t.looks t.listed room
-    (omega arith)))
+    tail_back 3 room ys ∙ ap (λ (z : List ℕ). take 3 room ++ z) y in (
+      omega arith,
+      omega arith,
+      rw (l, m, g, k) (front_laid (length (t.seeks ∷ t.looks ∷ t.listed)) t.seeks t.looks t.listed room (omega arith)),
+    )
 
 -- ---- the words' lists, opened
 

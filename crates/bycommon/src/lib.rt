@@ -1,11 +1,10 @@
 // Kind 3: the pages that a question's words share, with the seeks and looks that finding them took.
 #![tactic(auto)]
 
-ghost use Rattle.std.specs.Prelude.{◌≡◌, true, ◌+◌, ◌≤◌, length};
+ghost use Rattle.std.specs.Prelude.{◌≡◌, true, ◌+◌, ◌≤◌, length, Some};
 ghost use Rattle.rules.specs.Verdict.{Accepted};
 ghost use Rattle.rules.specs.Index.{index_v, index_n, index_t, index_refusal};
 ghost use Rattle.rules.specs.Questions.{lists_in, by_common, words_good};
-ghost use Rattle.bytetable.specs.Places.{PlacesOfOnes};
 ghost use Rattle.questions.specs.Wrote.{Wrote};
 ghost use Rattle.querylaws.specs.Lists.{Lists};
 ghost use Rattle.querylaws.specs.Listings.{whole_in};
@@ -14,11 +13,11 @@ ghost use Rattle.bycommon.specs.Tallies.{tallied};
 use bytetable::Table;
 use querylaws::LENGTH;
 
-// Puts the answer into room that is enough for it.
+// Puts the answer into room that is enough for it; how many numbers it has.
 fn put_common(table: &Table, card: &[u8], shapes: &[u32], k: usize, room: &mut [u32]) -> usize
     requires { Lists card.now shapes.now k
-        × (length (whole_in card.now shapes.now k).listed + 3 ≤ length room.old) × PlacesOfOnes table.now }
-    ensures { Wrote (tallied (whole_in card.now shapes.now k)) room.old result
+        × (length (whole_in card.now shapes.now k).listed + 3 ≤ length room.old) }
+    ensures { Wrote (tallied (whole_in card.now shapes.now k)) room.old (Some result)
         room.new }
 {
     let listed = query::list_common(table, card, shapes, k, &mut room[3..]);
@@ -29,9 +28,8 @@ fn put_common(table: &Table, card: &[u8], shapes: &[u32], k: usize, room: &mut [
 }
 
 // The pages of the words; they are counted first only where the room may be too small for them.
-pub fn by_common(table: &Table, card: &[u8], terms: &[u32], room: &mut [u32]) -> usize
-    requires { (index_refusal card.now ≡ Accepted) × (words_good (index_t card.now) terms.now ≡ true)
-        × PlacesOfOnes table.now }
+pub fn by_common(table: &Table, card: &[u8], terms: &[u32], room: &mut [u32]) -> Option<usize>
+    requires { (index_refusal card.now ≡ Accepted) × (words_good (index_t card.now) terms.now ≡ true) }
     ensures { Wrote
         (by_common (index_v card.now) (index_n card.now)
         (lists_in card.now terms.now))
@@ -41,12 +39,12 @@ pub fn by_common(table: &Table, card: &[u8], terms: &[u32], room: &mut [u32]) ->
     let mut shapes = [0u32; 64];
     wordlists::open_pages(card, terms, &mut shapes);
     if rows::number(&shapes, 0, LENGTH) + 3 <= room.len() {
-        return put_common(table, card, &shapes, k, room);
+        return Some(put_common(table, card, &shapes, k, room));
     }
     let mut none = [0u32; 0];
     let counted = query::list_common(table, card, &shapes, k, &mut none);
     if room.len() < counted.found + 3 {
-        return 0;
+        return None;
     }
-    put_common(table, card, &shapes, k, room)
+    Some(put_common(table, card, &shapes, k, room))
 }

@@ -4,7 +4,6 @@
 ghost use Rattle.std.specs.Prelude.{◌≡◌, ◌*◌, ◌/◌, ◌^◌, ◌≤◌, ◌<◌, length, get_or};
 ghost use Rattle.rules.specs.Counts.{ones_below};
 ghost use Rattle.rules.specs.ReadList.{form_at, decode};
-ghost use Rattle.bytetable.specs.Places.{PlacesOfOnes};
 ghost use Rattle.readlaws.specs.Open.{Open, FormOpen, zeros_per, jump_from, Sought, JumpsIn, OneAt, OneAhead};
 
 use bytetable::Table;
@@ -12,7 +11,7 @@ use shape::{BITMAP, Shape};
 
 // The place of the one number `rank` of a run, of whose ones `before` lie below place `start`.
 fn one_past(table: &Table, run: &[u8], start: usize, before: usize, rank: usize) -> usize
-    requires { OneAhead run.now start before rank × PlacesOfOnes table.now }
+    requires { OneAhead run.now start before rank }
     ensures { OneAt run.now 0 rank result × (result < 64 * (length run.now / 8)) }
 {
     let mut k = start / 64;
@@ -44,7 +43,7 @@ fn led_to(zeros: usize, v: usize, i: usize) -> usize
 // in registers.
 fn place_of(table: &Table, block: &[u8], last: usize, n: usize, upper: usize, rank: usize) -> usize
     requires { Sought block.now last n (zeros_per (form_at block.now)) rank
-        × JumpsIn block.now upper n last (zeros_per (form_at block.now)) × PlacesOfOnes table.now }
+        × JumpsIn block.now upper n last (zeros_per (form_at block.now)) }
     ensures { OneAt block.now upper rank result }
 {
     let end = block.len();
@@ -60,7 +59,7 @@ fn place_of(table: &Table, block: &[u8], last: usize, n: usize, upper: usize, ra
 
 // Element number `rank`, found without reading the elements before it.
 pub fn element_at(table: &Table, block: &[u8], g: Shape, rank: usize) -> usize
-    requires { FormOpen (form_at block.now) block.now g × (rank < g.n) × PlacesOfOnes table.now }
+    requires { FormOpen (form_at block.now) block.now g × (rank < g.n) }
     ensures { result ≡ get_or (decode block.now) rank 0 }
 {
     let found = place_of(table, block, pointers::last_number(g), g.n, g.upper, rank);
@@ -81,7 +80,7 @@ pub fn place_near(
     rank: usize,
 ) -> usize
     requires { Open block.now g × (rank < g.n) × (ones_below block.now g.upper start ≡ before)
-        × (before ≤ rank) × PlacesOfOnes table.now }
+        × (before ≤ rank) }
     ensures { OneAt block.now g.upper rank result }
 {
     if before + 256 < rank {

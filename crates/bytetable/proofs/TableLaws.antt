@@ -30,7 +30,6 @@ tested_at (x ∷ xs) k (suc i) t h =
     (tested_at xs (suc k) i (both (eqb x (place k)) (tested (suc k) xs) t).1 (omega arith))
 
 pub tested_places : (xs : List ℕ) → length xs ≡ 2048 → T (tested 0 xs) → PlacesOfOnes xs
-unfolding PlacesOfOnes
 tested_places xs l t b j hb hj =
     let q : (0 + (b * 8 + j)) / 8 ≡ b = omega arith in
     let r : (0 + (b * 8 + j)) % 8 ≡ j = omega arith in

@@ -5,5 +5,5 @@
 use Rattle.std.specs.Prelude.{◌≡◌, List, ℕ, ◌+◌, ◌*◌, ◌<◌, get_or}
 use Rattle.fields.specs.Words.{place_of_one}
 
-unfoldable pub PlacesOfOnes : List ℕ → Type 0
+abbrev pub PlacesOfOnes : List ℕ → Type 0
 PlacesOfOnes t = (b j : ℕ) → b < 256 → j < 8 → get_or t (b * 8 + j) 0 ≡ place_of_one 8 b j

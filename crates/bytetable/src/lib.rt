@@ -1,13 +1,18 @@
 // The places of a byte's ones, as a constant table.
 #![tactic(auto)]
 
+ghost use Rattle.std.proofs.Props.{props};
 ghost use Rattle.bytetable.specs.Places.{PlacesOfOnes};
 
-// A number for each byte and each j from 0 to 7.
-pub type Table = [u8; 2048];
-
 // A row for each byte: at byte · 8 + j the place of its one number j, counted from 0, and 8 where there is none.
-const PLACES: Table = *b"\x08\x08\x08\x08\x08\x08\x08\x08\
+#[derive(Clone, Copy)]
+pub struct Table {
+    pub rows: [u8; 2048],
+    pub ghost places: { PlacesOfOnes rows } by { Prim.hlevel props },
+}
+
+// The rows, as they are stored.
+const PLACES: [u8; 2048] = *b"\x08\x08\x08\x08\x08\x08\x08\x08\
     \x00\x08\x08\x08\x08\x08\x08\x08\
     \x01\x08\x08\x08\x08\x08\x08\x08\
     \x00\x01\x08\x08\x08\x08\x08\x08\
@@ -265,8 +270,6 @@ const PLACES: Table = *b"\x08\x08\x08\x08\x08\x08\x08\x08\
     \x00\x01\x02\x03\x04\x05\x06\x07";
 
 // The table. A constant is stored anew wherever it is named, so a run of questions takes it once and lends it.
-pub fn places() -> Table
-    ensures { PlacesOfOnes result }
-{
-    PLACES
+pub fn places() -> Table {
+    Table { rows: PLACES }
 }

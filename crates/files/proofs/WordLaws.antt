@@ -1,16 +1,15 @@
 -- Laws of the four-byte numbers of a file.
 use mathlib.Core.Path.{◌≡◌, refl, sym, ap, ◌∙◌}
-use mathlib.Core.List.{List, [], ◌∷◌}
-use Prim.Native.Nat.{ℕ, zero, suc, ◌+◌, ◌*◌, ◌/◌, ◌≤◌, ◌<◌}
-use native.Mathlib.Nat.{add-zero}
+use mathlib.Core.List.{List, [], ◌∷◌, ◌++◌}
+use Prim.Native.Nat.{ℕ, zero, suc, ◌*◌, ◌≤◌, ◌<◌}
 use native.Mathlib.Decide.{dec_lt}
 use native.Mathlib.Omega.{arith}
 use borrow.Author.Tests.{lt-ltb, le-ltb}
-use lib.ListN.{length, drop, length-drop}
-use lib.Seq.{drop-drop}
+use lib.ListN.{length, drop, length-drop, length-append}
+use lib.Seq.{drop-append_seam}
 use Rattle.rules.specs.Bytes.{be_at}
 use Rattle.rules.specs.Program.{numbers_of}
-use Rattle.laws.proofs.ByteLaws.{be_at_drop}
+use Rattle.laws.proofs.ByteLaws.{be_at_front}
 use Rattle.files.specs.Laid.{words_of}
 
 numbers_stop : (qs : List ℕ) → numbers_of zero qs ≡ []
@@ -51,16 +50,15 @@ words_cons qs h =
     ∙ ap (λ l. be_at 4 qs 0 ∷ l)
     (numbers_more (length qs) (length (drop 4 qs)) (drop 4 qs) (rw length-drop (omega arith)) (omega arith))
 
-module _ (i : ℕ) (qs : List ℕ) where
-  pub words_at : i < length qs / 4 → words_of (drop (4 * i) qs) ≡ be_at 4 qs (4 * i) ∷ words_of (drop (4 * (i + 1)) qs)
-  words_at h =
-      let l : 4 ≤ length (drop (4 * i) qs) = rw length-drop (omega arith) in
-      let e : 4 * i + 4 ≡ 4 * (i + 1) = omega arith in
-      let b : be_at 4 (drop (4 * i) qs) 0 ≡ be_at 4 qs (4 * i) = rw (add-zero (4 * i)) at (be_at_drop 4 (4 * i) qs 0) in
-      words_cons (drop (4 * i) qs) l ∙ rw (b, drop-drop 4 (4 * i) qs, e)
+pub words_front : (qs four left : List ℕ) → qs ≡ four ++ left → length four ≡ 4
+    → words_of qs ≡ be_at 4 four 0 ∷ words_of left
+words_front qs four left e h =
+    let l : 4 ≤ length (four ++ left) = rw length-append (omega arith) in
+    let d : drop 4 (four ++ left) ≡ left = rw h at (drop-append_seam four left) in
+    ap words_of e ∙ words_cons (four ++ left) l ∙ rw (be_at_front 4 four left 0 (omega arith), d)
 
-  pub words_none : length qs / 4 ≤ i → words_of (drop (4 * i) qs) ≡ []
-  words_none h = numbers_few (length (drop (4 * i) qs)) (drop (4 * i) qs) (rw length-drop (omega arith))
+pub words_none : (qs : List ℕ) → length qs < 4 → words_of qs ≡ []
+words_none qs h = numbers_few (length qs) qs h
 
 pub words_length : (qs : List ℕ) → 4 * length (words_of qs) ≤ length qs
 words_length qs = numbers_length (length qs) qs

@@ -28,9 +28,8 @@ pub fn read_numbers(bytes: &[u8], numbers: &mut [u32; 8192]) -> usize
     requires { length bytes.now ≤ file_limit }
     ensures { Put (words_of bytes.now) 0 result numbers.old numbers.new }
 {
-    let count = bytes.len() / 4;
-    for i in 0..count {
-        numbers[i] = numbers::read_u32(bytes, 4 * i) as u32;
+    for (i, four) in bytes.chunks_exact(4).enumerate() {
+        numbers[i] = numbers::read_u32(four, 0) as u32;
     }
-    count
+    bytes.len() / 4
 }

@@ -40,11 +40,7 @@ pub fn begin(room: &mut [u8], g: Shape) -> Filling
     put_header(room, g);
     Filling {
         count: 0,
-        lows: Lows {
-            acc: 0,
-            have: 0,
-            words: 0,
-        },
+        lows: Lows::default(),
         ups: Ups {
             acc: 0,
             words: 0,

@@ -2,7 +2,7 @@
 #![tactic(auto)]
 
 // The lower run so far: its words that stand in the room, and the `have` bits above them.
-#[derive(Clone, Copy)]
+#[derive(Clone, Copy, Default)]
 pub struct Lows {
     pub acc: u64,
     pub have: usize,

@@ -25,12 +25,15 @@ fn gather(list: &[u32], from: usize, k: usize) -> Gathered
 {
     let end = 64 * k + 64;
     let mut word = 0u64;
-    for i in from..list.len() {
-        let x = list[i] as usize;
+    for (i, &element) in list[from..].iter().enumerate() {
+        let x = element as usize;
         if end <= x {
-            return Gathered { word, next: i };
+            return Gathered {
+                word,
+                next: from + i,
+            };
         }
-        word = word | (1u64 << (x % 64));
+        word |= 1u64 << (x % 64);
     }
     Gathered {
         word,

@@ -6,11 +6,11 @@
 --   TermAt s at b       the bytes b are the part of s that is the term which starts at byte `at`
 --   Below s ts          each of the terms ts is a term of s
 --   Found s ts ps       each of the terms ts starts at its number of ps
---   LeastOf ts n t r    r is the least at or above t of the first n terms of ts, or 2 ^ 32 where none is below that
---   LeastFrom ts t r    so it is of all of ts
+--   LeastOf ts t r      r is the least at or above t of the terms ts
+--   LeastFrom ts t o    o is that least term, or none where all of ts are below t
 --   PutOf ts n t at ps after  `after` is ps with `at` as the number of each of the first n terms of ts that is t
 --   Put ts t at ps after  so it is of all of ts
-use Rattle.std.specs.Prelude.{◌≡◌, List, ℕ, ◌^◌, ◌≤◌, ◌<◌, length, get_or}
+use Rattle.std.specs.Prelude.{◌≡◌, List, ℕ, ◌≤◌, ◌<◌, length, get_or, Option, MatchOption}
 use Rattle.rules.specs.Verdict.{Accepted}
 use Rattle.rules.specs.ReadTerm.{term_refusal}
 use Rattle.rules.specs.Index.{index_t, term_part}
@@ -38,14 +38,13 @@ Below s ts = (i : ℕ) → i < length ts → get_or ts i 0 < index_t s
 abbrev pub Found : List ℕ → List ℕ → List ℕ → Type 0
 Found s ts ps = (i : ℕ) → i < length ts → Starts s (get_or ts i 0) (get_or ps i 0)
 
-pub record LeastOf (ts : List ℕ) (n t r : ℕ) : Type 0 where
+pub record LeastOf (ts : List ℕ) (t r : ℕ) : Type 0 where
   pub onward : t ≤ r
-  pub within : r ≤ 2 ^ 32
-  pub least : (i : ℕ) → i < n → t ≤ get_or ts i 0 → r ≤ get_or ts i 0
-  pub among : r < 2 ^ 32 → (i : ℕ) × (i < n) × (get_or ts i 0 ≡ r)
+  pub least : (i : ℕ) → i < length ts → t ≤ get_or ts i 0 → r ≤ get_or ts i 0
+  pub among : (i : ℕ) × (i < length ts) × (get_or ts i 0 ≡ r)
 
-abbrev pub LeastFrom : List ℕ → ℕ → ℕ → Type 0
-LeastFrom ts t r = LeastOf ts (length ts) t r
+abbrev pub LeastFrom : List ℕ → ℕ → Option ℕ → Type 0
+LeastFrom ts t o = MatchOption o ((i : ℕ) → i < length ts → get_or ts i 0 < t) (λ r. LeastOf ts t r)
 
 pub record PutOf (ts : List ℕ) (n t at : ℕ) (ps after : List ℕ) : Type 0 where
   pub same : length after ≡ length ps

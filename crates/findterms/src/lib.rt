@@ -1,31 +1,22 @@
 // The starts of several terms, found on one way over the card.
 #![tactic(auto)]
 
-ghost use Rattle.std.specs.Prelude.{◌≡◌, ◌^◌, ◌≤◌, ◌<◌, length};
+ghost use Rattle.std.specs.Prelude.{◌≡◌, ◌≤◌, length};
 ghost use Rattle.rules.specs.Verdict.{Accepted};
 ghost use Rattle.rules.specs.Index.{index_refusal};
 ghost use Rattle.findlaws.specs.Starts.{Below, Found, LeastFrom, Put};
 
 use rules::INDEX_HEADER;
 
-// More than any number of a term.
-const NO_TERM: usize = 4294967296;
-
-// The least of the terms at or above t, or NO_TERM.
-fn least_from(terms: &[u32], t: usize) -> usize
-    requires { t ≤ 2 ^ 32 }
+// The least of the terms at or above t, if there is one.
+fn least_from(terms: &[u32], t: usize) -> Option<usize>
     ensures { LeastFrom terms.now t result }
 {
-    let mut least = NO_TERM;
-    let mut i = 0;
-    while i < terms.len() {
-        let term = terms[i] as usize;
-        if t <= term && term < least {
-            least = term;
-        }
-        i += 1;
-    }
-    least
+    terms
+        .iter()
+        .map(|&term| term as usize)
+        .filter(|&term| t <= term)
+        .min()
 }
 
 // Puts the byte at which term number t starts, for each of the terms that it is.
@@ -33,12 +24,10 @@ fn put_start(terms: &[u32], t: usize, at: usize, starts: &mut [usize])
     requires { length terms.now ≤ length starts.old }
     ensures { Put terms.now t at starts.old starts.new }
 {
-    let mut i = 0;
-    while i < terms.len() {
-        if terms[i] as usize == t {
+    for (i, &term) in terms.iter().enumerate() {
+        if term as usize == t {
             starts[i] = at;
         }
-        i += 1;
     }
 }
 
@@ -52,10 +41,9 @@ pub fn find_terms(card: &[u8], terms: &[u32], starts: &mut [usize])
     let mut t = 0;
     let mut rest = &card[INDEX_HEADER..];
     let mut next = least_from(terms, 0);
-    while next < NO_TERM {
-        let left = parts::blocks_from(rest, 0, next - t);
-        rest = left;
-        t = next;
+    while let Some(term) = next {
+        rest = parts::blocks_from(rest, 0, term - t);
+        t = term;
         put_start(terms, t, card.len() - rest.len(), starts);
         next = least_from(terms, t + 1);
     }

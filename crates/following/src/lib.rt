@@ -9,87 +9,74 @@ ghost use Rattle.rules.specs.Stream.{live};
 ghost use Rattle.sessionlaws.specs.Follow.{starts, Followed, stepped};
 
 use rules::Stream;
-use wordlaws::Reach;
 
 // Whether the pages start at `least` or above.
 fn above(least: usize, pages: &[u32]) -> bool
     ensures { result ≡ starts least pages.now }
 {
-    if pages.len() == 0 {
+    let Some(&first) = pages.first() else {
         return true;
-    }
-    least <= pages[0] as usize
+    };
+    least <= first as usize
 }
 
-// Whether the postings of any number of pages may follow, and if so the base behind them.
-fn follow_word(s: Stream, pages: &[u32], counts: &[u32], positions: &[u32]) -> Reach
+// The base behind the postings of any number of pages; nothing where they may not follow.
+fn follow_word(s: Stream, pages: &[u32], counts: &[u32], positions: &[u32]) -> Option<usize>
     requires { live s ≡ true }
     ensures { Followed s (lent_word pages.now counts.now positions.now) result }
 {
     let pages_left = (s.pages - s.laid) as usize;
     if pages_left < pages.len() {
-        return Reach { ok: false, next: 0 };
+        return None;
     }
     let positions_left = (s.positions - s.filled) as usize;
     if positions_left < positions.len() {
-        return Reach { ok: false, next: 0 };
+        return None;
     }
-    let word = testword::check_word(s.n as usize, pages, counts, positions);
-    if !word.ok {
-        return Reach { ok: false, next: 0 };
-    }
+    let reach = testword::check_word(s.n as usize, pages, counts, positions)?;
     if !above(s.page as usize, pages) {
-        return Reach { ok: false, next: 0 };
+        return None;
     }
-    let next = s.base as usize + word.next;
-    Reach {
-        ok: next <= s.u as usize,
-        next,
-    }
+    let next = s.base as usize + reach;
+    (next <= s.u as usize).then_some(next)
 }
 
 // The same for one page, whose positions rise to below what is left of U.
-fn follow_page(s: Stream, pages: &[u32], counts: &[u32], positions: &[u32]) -> Reach
+fn follow_page(s: Stream, pages: &[u32], counts: &[u32], positions: &[u32]) -> Option<usize>
     requires { (live s ≡ true) × (length pages.now ≡ 1) }
     ensures { Followed s (lent_word pages.now counts.now positions.now) result }
 {
-    let no = Reach { ok: false, next: 0 };
     if s.laid == s.pages {
-        return no;
+        return None;
     }
     let positions_left = (s.positions - s.filled) as usize;
     if positions_left < positions.len() {
-        return no;
+        return None;
     }
     if counts.len() != 1 {
-        return no;
+        return None;
     }
     if counts[0] as usize != positions.len() {
-        return no;
+        return None;
     }
-    if positions.len() == 0 {
-        return no;
-    }
+    let last = *positions.last()?;
     if pages[0] < s.page {
-        return no;
+        return None;
     }
     if s.n <= pages[0] {
-        return no;
+        return None;
     }
     if s.u < s.base {
-        return no;
+        return None;
     }
     if !rising::rises((s.u - s.base) as usize, positions) {
-        return no;
+        return None;
     }
-    Reach {
-        ok: true,
-        next: s.base as usize + positions[positions.len() - 1] as usize + 1,
-    }
+    Some(s.base as usize + last as usize + 1)
 }
 
-// Whether the postings may follow, and if so the base behind them.
-pub fn follow(s: Stream, pages: &[u32], counts: &[u32], positions: &[u32]) -> Reach
+// The base behind the postings; nothing where they may not follow.
+pub fn follow(s: Stream, pages: &[u32], counts: &[u32], positions: &[u32]) -> Option<usize>
     requires { live s ≡ true }
     ensures { Followed s (lent_word pages.now counts.now positions.now) result }
 {
@@ -104,10 +91,10 @@ fn behind(n: usize, least: u32, pages: &[u32]) -> u32
     requires { (rising 0 n pages.now ≡ true) × (n ≤ limit) }
     ensures { result ≡ next least pages.now }
 {
-    if pages.len() == 0 {
+    let Some(&last) = pages.last() else {
         return least;
-    }
-    pages[pages.len() - 1] + 1
+    };
+    last + 1
 }
 
 // The session behind postings that follow, where `base` is the base behind them.

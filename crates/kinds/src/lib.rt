@@ -8,7 +8,6 @@ ghost use Rattle.rules.specs.ReadTerm.{pages_of};
 ghost use Rattle.rules.specs.Index.{index_t, term_part, index_refusal};
 ghost use Rattle.rules.specs.Questions.{pages_in, by_rank, by_bound};
 ghost use Rattle.maplaws.specs.Maps.{FormValid};
-ghost use Rattle.bytetable.specs.Places.{PlacesOfOnes};
 ghost use Rattle.questions.specs.Wrote.{Wrote};
 ghost use Rattle.kinds.specs.Alone.{OpenedAlone};
 
@@ -25,8 +24,8 @@ fn pages_in(card: &[u8], t: usize) -> &[u8]
 }
 
 // The element of that rank, if there is one.
-fn put_ranked(table: &Table, pages: &[u8], rank: usize, room: &mut [u32]) -> usize
-    requires { FormValid (form_at pages.now) pages.now × PlacesOfOnes table.now }
+fn put_ranked(table: &Table, pages: &[u8], rank: usize, room: &mut [u32]) -> Option<usize>
+    requires { FormValid (form_at pages.now) pages.now }
     ensures { Wrote (by_rank (decode pages.now) rank) room.old result room.new }
 {
     let g = reading::shape_at(pages);
@@ -38,8 +37,8 @@ fn put_ranked(table: &Table, pages: &[u8], rank: usize, room: &mut [u32]) -> usi
 }
 
 // Kind 1: the page of that rank of word t, if there is one.
-pub fn by_rank(table: &Table, card: &[u8], t: usize, rank: usize, room: &mut [u32]) -> usize
-    requires { (index_refusal card.now ≡ Accepted) × (t < index_t card.now) × PlacesOfOnes table.now }
+pub fn by_rank(table: &Table, card: &[u8], t: usize, rank: usize, room: &mut [u32]) -> Option<usize>
+    requires { (index_refusal card.now ≡ Accepted) × (t < index_t card.now) }
     ensures { Wrote (by_rank (pages_in card.now t) rank) room.old result room.new }
 {
     put_ranked(table, pages_in(card, t), rank, room)
@@ -54,8 +53,8 @@ fn open_alone(pages: &[u8]) -> [u32; 8]
 }
 
 // Kind 2: the first page at or above the bound, and its rank; or the number of all pages where there is none.
-pub fn by_bound(table: &Table, card: &[u8], t: u32, bound: usize, room: &mut [u32]) -> usize
-    requires { (index_refusal card.now ≡ Accepted) × (t < index_t card.now) × PlacesOfOnes table.now }
+pub fn by_bound(table: &Table, card: &[u8], t: u32, bound: usize, room: &mut [u32]) -> Option<usize>
+    requires { (index_refusal card.now ≡ Accepted) × (t < index_t card.now) }
     ensures { Wrote (by_bound (pages_in card.now t) bound) room.old result room.new }
 {
     let pages = pages_in(card, t as usize);

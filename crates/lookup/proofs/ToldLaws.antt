@@ -41,7 +41,7 @@ module _ (qs : List ℕ) {r : ℕ} (d : List ℕ) {e : List ℕ} (p : Put (words
 -- the outcome o and the room are those of the reply p
 pub record Told (p : Replied) (o : Outcome) (room : List ℕ) : Type 0 where
   pub fits : Fitting answer_room p.answers
-  pub refusal : o.refusal ≡ p.refusal
+  pub refusal : o.verdict ≡ p.refusal
   pub within : o.used ≤ length room
   pub numbers : answers_in (take (o.used - 0) room) ≡ p.answers
 
@@ -80,6 +80,6 @@ module _ (p : Replied) (o : Outcome) (room : List ℕ) (t : Told p o room) where
   told_lines = rw t.numbers (lines_fit p t.fits)
 
   pub put_told : {m n : ℕ} {d e f : List ℕ} → Put (lines (answers_in (take (o.used - 0) room))) 0 m d e
-      → Put (refused_line o.refusal) m n e f → Put (printed_reply p) 0 n d f
+      → Put (refused_line o.verdict) m n e f → Put (printed_reply p) 0 n d f
   unfolding printed_reply
   put_told x y = put_cat (put_same (ap lines t.numbers) x) (put_same (ap refused_line t.refusal) y)

@@ -2,14 +2,15 @@
 use mathlib.Core.Bool.{Bool, true, false, ◌&&◌, and-false}
 use mathlib.Core.Logic.{◌⊎◌, inl, inr}
 use mathlib.Core.Path.{◌≡◌, refl, sym, ap, ◌∙◌}
-use mathlib.Core.List.{List, [], ◌∷◌}
-use Prim.Native.Nat.{ℕ, zero, suc, ◌+◌, ◌*◌, ◌≤◌, ◌<◌}
+use mathlib.Core.List.{List, [], ◌∷◌, ◌++◌}
+use Prim.Native.Nat.{ℕ, zero, suc, ◌+◌, ◌*◌, ◌/◌, ◌≤◌, ◌<◌}
 use native.Mathlib.Decide.{ℕ_discrete}
 use native.Mathlib.Omega.{arith}
 use borrow.Author.Tests.{eq-eqb, ne_eqb, eqb-true, lt-leb, le-leb}
 use lib.Dec.{ltb, leb, eqb}
-use lib.ListN.{length, get_or, take, drop, set, length-set}
-use lib.Seq.{drop-cons, ext_get_or, get_or-take, length-take-le, get_or-set_same, get_or-set_other}
+use lib.ListN.{length, get_or, take, drop, set, length-set, length-drop, length-append, get_or-append}
+use lib.Seq.{get_or-drop, drop-drop, drop-append_seam, ext_get_or, get_or-take, length-take-le, get_or-set_same, get_or-set_other}
+use Rattle.std.proofs.Common.{add-zero}
 use Rattle.rules.specs.Limits.{phrase_limit, offset_limit}
 use Rattle.rules.specs.List.{rising}
 use Rattle.rules.specs.Questions.{terms_of, offsets_of, all_below, words_good, offsets_good, phrase_good}
@@ -52,15 +53,44 @@ offset_at (t ∷ (d ∷ args)) (suc i) h =
     let e : 2 * suc i + 1 ≡ suc (suc (2 * i + 1)) = omega arith in
     rw e (offset_at args i (omega arith))
 
-pub pairs_at : (T b : ℕ) (args : List ℕ) (i : ℕ) → i + 1 < length args → pairs_good T b (drop i args)
-    ≡ ltb (get_or args i 0) T
-    && (leb b (get_or args (i + 1) 0)
-    && (ltb (get_or args (i + 1) 0) (offset_limit + 1) && pairs_good T (get_or args (i + 1) 0 + 1) (drop (i + 2) args)))
-unfolding pairs_good
-pairs_at T b args i h =
-    let e : i + 1 ≡ suc i = omega arith in
-    let f : i + 2 ≡ suc (suc i) = omega arith in
-    rw (e, f, drop-cons args i 0 (omega arith), drop-cons args (suc i) 0 (omega arith))
+-- what pairs say is what the first of them says and what those behind it say
+module _ (T b : ℕ) (args pair left : List ℕ) (e : args ≡ pair ++ left) (h : length pair ≡ 2) where
+  abbrev t : ℕ
+  t = get_or pair 0 0
+
+  abbrev d : ℕ
+  d = get_or pair 1 0
+
+  pub pairs_front : pairs_good T b args
+      ≡ ltb t T && (leb b d && (ltb d (offset_limit + 1) && pairs_good T (d + 1) left))
+  unfolding pairs_good
+  pairs_front = rw e (go pair h)
+    where
+      go : (pair : List ℕ) → length pair ≡ 2 → pairs_good T b (pair ++ left)
+          ≡ ltb (get_or pair 0 0) T
+          && (leb b (get_or pair 1 0)
+          && (ltb (get_or pair 1 0) (offset_limit + 1) && pairs_good T (get_or pair 1 0 + 1) left))
+      go [] h = absurd (omega arith)
+      go (t ∷ []) h = absurd (omega arith)
+      go (t ∷ (d ∷ [])) h = refl
+      go (t ∷ (d ∷ (x ∷ xs))) h = absurd (omega arith)
+
+pub even_front : (args pair left : List ℕ) → args ≡ pair ++ left → length pair ≡ 2 → Even args → Even left
+unfolding terms_of
+even_front args pair left e h even = go pair h (rw e at even)
+  where
+    go : (pair : List ℕ) → length pair ≡ 2 → Even (pair ++ left) → Even left
+    go [] h e = absurd (omega arith)
+    go (t ∷ []) h e = absurd (omega arith)
+    go (t ∷ (d ∷ [])) h e = omega arith
+    go (t ∷ (d ∷ (x ∷ xs))) h e = absurd (omega arith)
+
+-- less than a pair is no pair, where none is half
+pub pairs_end : (T b : ℕ) (args : List ℕ) → Even args → length args < 2 → pairs_good T b args ≡ true
+unfolding pairs_good terms_of
+pairs_end T b [] e h = refl
+pairs_end T b (t ∷ []) e h = absurd (omega arith)
+pairs_end T b (t ∷ (d ∷ args)) e h = absurd (omega arith)
 
 -- ---- a good phrase
 
@@ -150,25 +180,26 @@ module _ (args : List ℕ) where
     pub terms : (j : ℕ) → j < i → get_or ts j 0 ≡ get_or args (2 * j) 0
     pub offsets : (j : ℕ) → j < i → get_or ds j 0 ≡ get_or args (2 * j + 1) 0
 
-  pub apart_none : (ts ds : List ℕ) → length ts ≡ 8 → length ds ≡ 8 → Apart 0 ts ds
-  apart_none ts ds r q = record {
-    terms_room = r;
-    offsets_room = q;
-    within = omega arith;
-    terms = λ j h. absurd (omega arith);
-    offsets = λ j h. absurd (omega arith);
-  }
-
-  pub apart_more : (i : ℕ) (ts ds : List ℕ) → Apart i ts ds → i < 8 → 2 * i + 1 < length args
-      → Apart (i + 1) (set ts i (get_or args (2 * i) 0)) (set ds i (get_or args (2 * i + 1) 0))
-  apart_more i ts ds a few l = record {
-    terms_room = length-set ts i (get_or args (2 * i) 0) ∙ a.terms_room;
-    offsets_room = length-set ds i (get_or args (2 * i + 1) 0) ∙ a.offsets_room;
-    within = omega arith;
-    terms = put (λ j. 2 * j) ts (omega (arith, a.terms_room)) a.terms;
-    offsets = put (λ j. 2 * j + 1) ds (omega (arith, a.offsets_room)) a.offsets;
-  }
+  pub apart_more : (i : ℕ) (ts ds pair left : List ℕ) → Apart i ts ds → length args ≤ 16 → drop (2 * i) args ≡ pair ++ left
+      → length pair ≡ 2 → Apart (i + 1) (set ts i (get_or pair 0 0)) (set ds i (get_or pair 1 0))
+  apart_more i ts ds pair left a few e l =
+      let two : 2 * i + 2 ≤ length args = omega (arith, simp (length-drop, length-append) at (ap length e)) in
+      rw (first, pair_at 1 (omega arith)) record {
+        terms_room = length-set ts i (get_or args (2 * i) 0) ∙ a.terms_room;
+        offsets_room = length-set ds i (get_or args (2 * i + 1) 0) ∙ a.offsets_room;
+        within = omega arith;
+        terms = put (λ j. 2 * j) ts (omega (arith, a.terms_room)) a.terms;
+        offsets = put (λ j. 2 * j + 1) ds (omega (arith, a.offsets_room)) a.offsets;
+      }
     where
+      pair_at : (j : ℕ) → j < 2 → get_or pair j 0 ≡ get_or args (2 * i + j) 0
+      pair_at j h =
+          sym (get_or-append pair left 0 j (omega arith)) ∙ sym (ap (λ (xs : List ℕ). get_or xs j 0) e)
+          ∙ get_or-drop (2 * i) args j 0
+
+      first : get_or pair 0 0 ≡ get_or args (2 * i) 0
+      first = rw (add-zero) at (pair_at 0 (omega arith))
+
       put : (f : ℕ → ℕ) (xs : List ℕ) → i < length xs → ((j : ℕ) → j < i → get_or xs j 0 ≡ get_or args (f j) 0)
           → (j : ℕ) → j < i + 1 → get_or (set xs i (get_or args (f i) 0)) j 0 ≡ get_or args (f j) 0
       put f xs l h j m = elim (ℕ_discrete j i) [
@@ -176,14 +207,21 @@ module _ (args : List ℕ) where
         | no e ↦ get_or-set_other xs i j (get_or args (f i) 0) 0 e ∙ h j (omega (arith, e))
       ]
 
-  pub apart_all : (i : ℕ) (ts ds : List ℕ) → Apart i ts ds → Even args → length args ≤ 16 → length args ≤ 2 * i
-      → (i ≡ length (terms_of args)) × Split args ts ds
+  -- the pairs behind
+  pub left_more : (i : ℕ) (pair left : List ℕ) → drop (2 * i) args ≡ pair ++ left → length pair ≡ 2
+      → left ≡ drop (2 * (i + 1)) args
+  left_more i pair left e l =
+      let n : 2 * (i + 1) ≡ 2 * i + 2 = omega arith in
+      rw (n, ← drop-drop 2 (2 * i) args, e, ← l) (sym (drop-append_seam pair left))
+
+  pub apart_all : (i : ℕ) (ts ds : List ℕ) → Apart i ts ds → Even args → length args ≤ 16 → length (drop (2 * i) args) < 2
+      → (length args / 2 ≡ length (terms_of args)) × Split args ts ds
   apart_all i ts ds a even few l =
       let k : ℕ = length (terms_of args) in
-      let e : i ≡ k = omega (arith, a.within) in
+      let e : i ≡ k = omega (arith, a.within, length-drop (2 * i) args) in
       let n : length (take k ts) ≡ k = length-take-le k ts (omega (arith, a.terms_room)) in
       let m : length (take k ds) ≡ k = length-take-le k ds (omega (arith, a.offsets_room)) in (
-        e,
+        omega arith,
         record {
           terms_room = a.terms_room;
           offsets_room = a.offsets_room;

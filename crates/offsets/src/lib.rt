@@ -13,12 +13,11 @@ fn pairs_good(pairs: &[u32], t: usize) -> bool
     ensures { result ≡ pairs_good t 0 pairs.now }
 {
     let mut least = 0;
-    let mut i = 0;
-    while i < pairs.len() {
-        if t <= pairs[i] as usize {
+    for pair in pairs.chunks_exact(2) {
+        if t <= pair[0] as usize {
             return false;
         }
-        let offset = pairs[i + 1] as usize;
+        let offset = pair[1] as usize;
         if offset < least {
             return false;
         }
@@ -26,7 +25,6 @@ fn pairs_good(pairs: &[u32], t: usize) -> bool
             return false;
         }
         least = offset + 1;
-        i += 2;
     }
     true
 }
@@ -57,11 +55,9 @@ pub fn split_pairs(pairs: &[u32], terms: &mut [u32], offsets: &mut [u32]) -> usi
     ensures { (result ≡ length (terms_of pairs.now))
         × Split pairs.now terms.new offsets.new }
 {
-    let mut i = 0;
-    while 2 * i < pairs.len() {
-        terms[i] = pairs[2 * i];
-        offsets[i] = pairs[2 * i + 1];
-        i += 1;
+    for (i, pair) in pairs.chunks_exact(2).enumerate() {
+        terms[i] = pair[0];
+        offsets[i] = pair[1];
     }
-    i
+    pairs.len() / 2
 }

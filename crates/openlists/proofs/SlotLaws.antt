@@ -80,9 +80,6 @@ module _ (d ns : List ℕ) (at n : ℕ) (room : at + n ≤ length d) (some : n �
       ∙ get_or-append (take at d) (take n ns) 0 j m ∙ get_or-take at d j 0 h
 
 module _ (s ps : List ℕ) (lead : ℕ) where
-  pub slots_none : (r : List ℕ) → length r ≡ 64 → Slots s ps lead 0 r
-  slots_none r h = record { room = h; slot = λ i j l m. absurd (omega arith) }
-
   pub slots_more : (r : List ℕ) (t : ℕ) → t < 8 → Slots s ps lead t r
       → Slots s ps lead (t + 1) (paste r (8 * t) (numbers_at s ps (source_of lead t)) 8)
   slots_more r t h k = record {

@@ -7,7 +7,7 @@ use Prim.Native.Nat.{ℕ, zero, suc, ◌+◌, ◌≤◌, ◌<◌}
 use native.Mathlib.Omega.{arith}
 use lib.ListN.{length}
 use Rattle.rules.specs.List.{rising, Form, form_of}
-use Rattle.rules.specs.ReadList.{list_u, list_n, form_at}
+use Rattle.rules.specs.ReadList.{list_u, form_at}
 use Rattle.rules.specs.Seek.{fresh}
 use Rattle.rules.specs.Common.{Reader, reader, readers_of, common_from}
 use Rattle.maplaws.proofs.Theorems.{valid_rising, valid_length}

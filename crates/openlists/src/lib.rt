@@ -38,14 +38,12 @@ fn lead_of(card: &[u8], places: &[u32], k: usize) -> usize
 {
     let mut lead = 0;
     let mut least = length_of(card, places, 0);
-    let mut i = 1;
-    while i < k {
+    for i in 1..k {
         let n = length_of(card, places, i);
         if n < least {
             lead = i;
             least = n;
         }
-        i += 1;
     }
     lead
 }
@@ -80,14 +78,10 @@ fn open_list(card: &[u8], places: &[u32], i: usize) -> [u32; 8]
 
 // Puts a list's numbers into a slot.
 pub fn put_list(shapes: &mut [u32], slot: usize, numbers: [u32; 8])
-    requires { (length shapes.old ≡ 64) × (slot < 8) × (length numbers ≡ 8) }
+    requires { (length shapes.old ≡ 64) × (slot < 8) }
     ensures { shapes.new ≡ paste shapes.old (8 * slot) numbers 8 }
 {
-    let mut j = 0;
-    while j < 8 {
-        shapes[8 * slot + j] = numbers[j];
-        j += 1;
-    }
+    shapes[8 * slot..8 * slot + 8].copy_from_slice(&numbers);
 }
 
 // The place whose list stands in slot t: the lead's first, the others behind it in their order.
@@ -108,11 +102,9 @@ fn open_slots(card: &[u8], places: &[u32], k: usize, lead: usize, shapes: &mut [
     requires { Places card.now places.now k × (lead < k) × (length shapes.old ≡ 64) }
     ensures { Slots card.now places.now lead k shapes.new }
 {
-    let mut t = 0;
-    while t < k {
+    for t in 0..k {
         let numbers = open_list(card, places, source_of(lead, t));
         put_list(shapes, t, numbers);
-        t += 1;
     }
 }
 

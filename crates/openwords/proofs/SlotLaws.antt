@@ -1,7 +1,7 @@
 -- Laws of slots: a list's numbers put into one place its block, and the other slots stay as they are.
 use mathlib.Core.Path.{◌≡◌, refl, sym, ap, ◌∙◌}
 use mathlib.Core.List.{List}
-use Prim.Native.Nat.{ℕ, zero, suc, ◌+◌, ◌-◌, ◌*◌, ◌<◌}
+use Prim.Native.Nat.{ℕ, zero, suc, ◌+◌, ◌-◌, ◌*◌, ◌^◌, ◌<◌}
 use native.Mathlib.Decide.{ℕ_discrete}
 use native.Mathlib.Omega.{arith}
 use lib.ListN.{length, get_or, drop, length-drop}
@@ -20,7 +20,7 @@ use Rattle.readlaws.proofs.FormLaws.{alone_opens}
 use Rattle.querylaws.specs.Lists.{number_of, part_at, shape_in}
 use Rattle.openlists.specs.Places.{bytes_of, Within, numbers_of}
 use Rattle.openlists.proofs.SlotLaws.{paste_in, paste_before}
-use Rattle.wordlists.specs.Lying.{list_of}
+use Rattle.wordlists.specs.Lying.{list_of, Lying}
 use Rattle.openwords.specs.Slots.{Slot, Filled}
 
 -- counts and positions of a word are accepted, in two runs
@@ -32,6 +32,10 @@ list_accepted s t (suc zero) a h n l = (accepted_lists (index_v s) (term_part t 
 list_accepted s t (suc (suc zero)) a h n l =
     (accepted_lists (index_v s) (term_part t s) (accepted_term s a t h).accepts).positions
 list_accepted s t (suc (suc (suc k))) a h n l = absurd (omega arith)
+
+-- the place of what lies in a card lies in it, whose bytes are fewer than 2 ^ 32
+pub place_within : (s b : List ℕ) (from to : ℕ) → length s < 2 ^ 32 → Lying s b from to → Within s from to
+place_within s b from to h l = record { starts = l.starts; ends = l.ends; short = omega (arith, l.ends) }
 
 -- a list's shape by its eight numbers
 shape_from : (sh : List ℕ) (i : ℕ) (f : ℕ → ℕ) → ((j : ℕ) → j < 8 → number_of sh i j ≡ f j) → shape_in sh i ≡ (record {

@@ -4,7 +4,6 @@
 ghost use Rattle.std.specs.Prelude.{◌≡◌, ◌^◌, ◌<◌, ltb, length, ◌∷◌};
 ghost use Rattle.rules.specs.Questions.{numbered};
 ghost use Rattle.rules.specs.Write.{laid};
-ghost use Rattle.bytetable.specs.Places.{PlacesOfOnes};
 ghost use Rattle.questions.specs.Wrote.{Wrote};
 ghost use Rattle.triallaws.specs.Asked.{found_by, AskedIn};
 
@@ -15,7 +14,7 @@ use walklaws::SPENT;
 
 // Lists the pairs behind the room's first number, as far as there is room, and counts their numbers.
 fn list_starts(table: &Table, card: &[u8], terms: &[u32], lists: &[u32], room: &mut [u32]) -> usize
-    requires { AskedIn card.now terms.now lists.now × (0 < length room.old) × PlacesOfOnes table.now }
+    requires { AskedIn card.now terms.now lists.now × (0 < length room.old) }
     ensures { (result ≡ length (found_by card.now terms.now lists.now))
         × (result < 2 ^ 32) × (result < length room.old → room.new
         ≡ laid (0 ∷ found_by card.now terms.now lists.now) room.old) }
@@ -40,7 +39,7 @@ fn list_starts(table: &Table, card: &[u8], terms: &[u32], lists: &[u32], room: &
 
 // Whether the answer fits so many numbers; it is counted only where two numbers for each page of the lead may not fit.
 fn fits(table: &Table, card: &[u8], terms: &[u32], lists: &[u32], size: usize) -> bool
-    requires { AskedIn card.now terms.now lists.now × PlacesOfOnes table.now }
+    requires { AskedIn card.now terms.now lists.now }
     ensures { result ≡ ltb (length (found_by card.now terms.now lists.now)) size }
 {
     if 2 * rows::number(&lists[0..COUNTS], 0, LENGTH) < size {
@@ -50,22 +49,22 @@ fn fits(table: &Table, card: &[u8], terms: &[u32], lists: &[u32], size: usize) -
     list_starts(table, card, terms, lists, &mut none) < size
 }
 
-// Puts the pairs, with the number of their numbers before them, at the front of the room; 0 where they do not fit.
+// Puts the pairs, with the number of their numbers before them, at the front of the room, if they fit.
 pub fn put_starts(
     table: &Table,
     card: &[u8],
     terms: &[u32],
     lists: &[u32],
     room: &mut [u32],
-) -> usize
-    requires { AskedIn card.now terms.now lists.now × PlacesOfOnes table.now }
+) -> Option<usize>
+    requires { AskedIn card.now terms.now lists.now }
     ensures { Wrote (numbered (found_by card.now terms.now lists.now))
         room.old result room.new }
 {
     if !fits(table, card, terms, lists, room.len()) {
-        return 0;
+        return None;
     }
     let found = list_starts(table, card, terms, lists, room);
     room[0] = found as u32;
-    found + 1
+    Some(found + 1)
 }

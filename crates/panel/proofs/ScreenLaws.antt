@@ -1,14 +1,17 @@
 -- The call: a law for each way through its tests.
-use mathlib.Core.Bool.{true, false}
-use mathlib.Core.Path.{◌≡◌, refl}
+use mathlib.Core.Bool.{Bool, true, false, cond, true≢false, false≢true}
+use mathlib.Core.Path.{◌≡◌, refl, sym, ap, ◌∙◌}
 use mathlib.Core.List.{List, [], ◌∷◌}
-use Prim.Native.Nat.{ℕ, ◌-◌, ◌≤◌, ◌<◌}
-use native.Mathlib.Decide.{dec_lt}
+use Prim.Native.Nat.{ℕ, ◌+◌, ◌-◌, ◌≤◌, ◌<◌}
 use native.Mathlib.Omega.{arith}
 use borrow.Author.Tests.{lt-ltb, le-ltb, leb-true, le-leb, lt-leb, eq-eqb, ne_eqb}
-use lib.ListN.{length, take}
+use lib.ListN.{length, take, get_or}
 use Rattle.rules.specs.Verdict.{Verdict}
-use Rattle.rules.specs.Verdict.{Question, Room}
+use Rattle.std.specs.Prelude.{Result, Ok, Err, Option, Some, None, is_some}
+use Rattle.std.specs.Result.{IsErr, IsErrAnd}
+use Rattle.std.specs.Option.{unwrap_or}
+use Rattle.rules.specs.declared.Refusal.{Refusal}
+use Rattle.rules.specs.Verdict.{Accepted, Question, Room}
 use Rattle.rules.specs.declared.Screened.{Screened}
 use Rattle.rules.specs.Refusal.{accepted}
 use Rattle.rules.specs.Limits.{screen_limit}
@@ -16,6 +19,7 @@ use Rattle.rules.specs.Write.{laid}
 use Rattle.rules.specs.Index.{index_v, index_n, index_t, index_refusal}
 use Rattle.rules.specs.Questions.{lists_in, words_good}
 use Rattle.rules.specs.Screen.{screen_good, screen_pages, screen_counts, is_full, screening, unshown, showing, screen}
+use Rattle.laws.proofs.RefusalLaws.{refusal_told}
 use Rattle.listlaws.proofs.RisingLaws.{and_parts}
 use Rattle.questions.specs.Wrote.{Wrote}
 use Rattle.panel.specs.Listing.{Shows}
@@ -45,10 +49,15 @@ module _ (T r : ℕ) (ts : List ℕ) where
 -- ---- the card, then r and the words
 
 module _ (s : List ℕ) (b n : ℕ) (ts pages counts : List ℕ) where
-  pub screen_card : (r : Verdict) → r ≡ index_refusal s → accepted r ≡ false
-      → unshown r pages counts ≡ screen s b n ts pages counts
-  unfolding screen
-  screen_card r e a = rw (← e, a)
+  -- what a `?` makes of the card's verdict
+  pub screen_card : (r : Verdict) (e : Refusal) (out : Result Screened Refusal) → r ≡ index_refusal s → r ≡ Err e
+      → IsErr out × IsErrAnd out (λ d. d ≡ e) → screening out pages counts ≡ screen s b n ts pages counts
+  unfolding screen unshown
+  screen_card r e (Ok _) is was h = absurd h.1
+  screen_card r e (Err d) is was h =
+      let t = sym is ∙ was in
+      let f : accepted (index_refusal s) ≡ false = ap accepted t ∙ refusal_told e in
+      rw (f, t, h.1)
 
   module _ (a : accepted (index_refusal s) ≡ true) where
     pub screen_question : screen_good (index_t s) n ts ≡ false
@@ -62,6 +71,16 @@ module _ (s : List ℕ) (b n : ℕ) (ts pages counts : List ℕ) where
         ≡ screen s b n ts pages counts
     unfolding screen
     screen_good_lem g = rw (a, g)
+
+-- ---- the bound of the next screen
+
+full_by : (b : Bool) (z : ℕ) (o : Option ℕ) → o ≡ cond b (Some z) None → cond (is_some o) 1 0 ≡ cond b 1 0
+full_by true z o e = rw e
+full_by false z o e = rw e
+
+next_by : (b : Bool) (z : ℕ) (o : Option ℕ) → o ≡ cond b (Some z) None → unwrap_or o 0 ≡ cond b z 0
+next_by true z o e = rw e
+next_by false z o e = rw e
 
 -- ---- the rooms
 
@@ -77,34 +96,40 @@ module _ (n : ℕ) (ps cs pages counts : List ℕ) where
 
     pub both_fit : length cs ≤ length counts → (x : Screened) → Shows n ps x → (pages' counts' : List ℕ)
         → pages' ≡ laid ps pages → counts' ≡ laid cs counts
-        → screening x pages' counts' ≡ showing n ps cs pages counts
+        → screening (Ok x) pages' counts' ≡ showing n ps cs pages counts
     unfolding showing
     both_fit l x y pages' counts' e f =
+        let behind = get_or ps (n - 1) 0 + 1 in
         rw (le-ltb (length pages) (length ps) h, le-ltb (length counts) (length cs) l)
         (λ i. record {
-          refusal = y.accepts i;
+          refusal = Accepted;
           found = y.found i;
-          full = y.full i;
-          next = y.next i;
+          full = full_by (is_full n ps) behind x.next y.next i;
+          next = next_by (is_full n ps) behind x.next y.next i;
           pages = e i;
           counts = f i;
         })
 
--- the first n numbers of a list, put into room enough for them
-pub wrote_front : (n : ℕ) (list room : List ℕ) (r : ℕ) (after : List ℕ) → length (take n list) ≤ length room
-    → Wrote (take (n - 0) list) room r after → after ≡ laid (take n list) room
-wrote_front n list room r after h x =
-    let z : n - 0 ≡ n = omega arith in
-    let w = rw z at x in
-    elim (dec_lt 0 r) [
-      | yes l ↦ (w.whole l).2
-      | no l ↦ absurd (omega (arith, h, (w.none (omega (arith, l))).0))
-    ]
+-- an answer that was not put did not fit, and one that was did
+pub wrote_none : (a room after : List ℕ) (r : Option ℕ) → is_some r ≡ false → Wrote a room r after
+    → (length room < length a) × (after ≡ room)
+wrote_none a room after None e w = w
+wrote_none a room after (Some n) e w = absurd (true≢false e)
 
-pub laid_none : (a room : List ℕ) → length a ≡ 0 → room ≡ laid a room
-unfolding laid
-laid_none [] room e = refl
-laid_none (x ∷ a) room e = absurd (omega (arith, e))
+pub wrote_whole : (a room after : List ℕ) (r : Option ℕ) → is_some r ≡ true → Wrote a room r after
+    → (length a ≤ length room) × (after ≡ laid a room)
+wrote_whole a room after None e w = absurd (false≢true e)
+wrote_whole a room after (Some n) e w = (omega (arith, w.0, w.1), w.2)
+
+-- the first n numbers of a list, put into room enough for them
+pub wrote_front : (n : ℕ) (list room : List ℕ) (r : Option ℕ) (after : List ℕ) → length (take n list) ≤ length room
+    → Wrote (take (n - 0) list) room r after → after ≡ laid (take n list) room
+wrote_front n list room None after h x =
+    let z : n - 0 ≡ n = omega arith in
+    absurd (omega (arith, h, (rw z at x).0))
+wrote_front n list room (Some r) after h x =
+    let z : n - 0 ≡ n = omega arith in
+    (rw z at x).2
 
 -- ---- whether it is full
 

@@ -2,9 +2,8 @@
 --
 --   Lists s b n ts list found seeks looks  the list begins with so many pages, those of a screen of n pages of the
 --                 words ts from b on of the card s, and these are its counts
---   Shows n ps x  x says how many the pages ps are, whether they fill a screen of n, and what bound the next one has
-use Rattle.std.specs.Prelude.{cond, ◌≡◌, List, [], ◌∷◌, ℕ, ◌+◌, ◌-◌, ◌≤◌, length, get_or, take}
-use Rattle.rules.specs.Verdict.{Accepted}
+--   Shows n ps x  x says how many the pages ps are, and where they fill a screen of n what bound the next one has
+use Rattle.std.specs.Prelude.{cond, ◌≡◌, List, [], ◌∷◌, ℕ, ◌+◌, ◌-◌, ◌≤◌, length, get_or, take, Some, None}
 use Rattle.rules.specs.declared.Screened.{Screened}
 use Rattle.rules.specs.Limits.{limit}
 use Rattle.rules.specs.Index.{index_v, index_n}
@@ -18,7 +17,5 @@ pub record Lists (s : List ℕ) (b n : ℕ) (ts list : List ℕ) (found seeks lo
   pub low : found ≡ n → get_or list (n - 1) 0 ≤ limit
 
 pub record Shows (n : ℕ) (ps : List ℕ) (x : Screened) : Type 0 where
-  pub accepts : x.refusal ≡ Accepted
   pub found : x.found ≡ length ps
-  pub full : x.full ≡ cond (is_full n ps) 1 0
-  pub next : x.next ≡ cond (is_full n ps) (get_or ps (n - 1) 0 + 1) 0
+  pub next : x.next ≡ cond (is_full n ps) (Some (get_or ps (n - 1) 0 + 1)) None

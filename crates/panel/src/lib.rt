@@ -83,11 +83,8 @@ fn put_screen(
     if pages.len() < found {
         return Err(Refusal::Room);
     }
-    if replies::put(&[listed.seeks, listed.looks], counts) == 0 {
+    if replies::put(&[listed.seeks, listed.looks], counts).is_none() {
         return Err(Refusal::Room);
-    }
-    if found == 0 {
-        return Ok(shown(r, list, found));
     }
     replies::put(&list[0..found], pages);
     Ok(shown(r, list, found))

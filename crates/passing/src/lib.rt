@@ -4,7 +4,6 @@
 ghost use Rattle.std.specs.Prelude.{◌≡◌, ◌+◌, ◌-◌, ◌*◌, ◌/◌, ◌^◌, ◌≤◌, ◌<◌};
 ghost use Rattle.std.specs.Int.Count.{ones};
 ghost use Rattle.selectlaws.specs.ByteCounts.{running_ones};
-ghost use Rattle.bytetable.specs.Places.{PlacesOfOnes};
 ghost use Rattle.readlaws.specs.Open.{Open};
 ghost use Rattle.walklaws.specs.Walks.{Started, Paid, Skipping, ZeroIn, AtZero, Skipped, Passed};
 
@@ -30,7 +29,7 @@ fn with_ones(x: usize, left: u64) -> usize
 
 // Goes on to zero number h of the run, counted from 1, which is in what is left of the word, whose counts are given.
 fn to_zero(table: &Table, at: Ones, counts: u64, h: usize) -> Ones
-    requires { ZeroIn h at × (counts ≡ running_ones 8 0 at.left) × PlacesOfOnes table.now }
+    requires { ZeroIn h at × (counts ≡ running_ones 8 0 at.left) }
     ensures { AtZero h at result }
 {
     let j = h + at.rank - 64 * at.k - 1;
@@ -46,8 +45,7 @@ fn to_zero(table: &Table, at: Ones, counts: u64, h: usize) -> Ones
 // of a word, with all bits before that, this zero has the number `wanted`. The counts of a word's bytes are taken where
 // its ones are counted, since both then are one sum.
 fn skip(table: &Table, s: &[u8], g: Shape, h: usize, from: Ones, looks: &mut u32) -> Ones
-    requires { Open s.now g × (h + g.n ≤ g.bits) × Skipping s.now g h from × (looks.old ≤ 2 ^ 31 + from.k)
-        × PlacesOfOnes table.now }
+    requires { Open s.now g × (h + g.n ≤ g.bits) × Skipping s.now g h from × (looks.old ≤ 2 ^ 31 + from.k) }
     ensures { Skipped s.now g h result × Paid from.k looks.old result.k looks.new }
 {
     let mut left = from.left;
@@ -73,7 +71,7 @@ fn skip(table: &Table, s: &[u8], g: Shape, h: usize, from: Ones, looks: &mut u32
 // zero before the bound's high part where that is not near.
 pub fn pass(table: &Table, s: &[u8], g: Shape, b: usize, from: StartPlace, looks: &mut u32) -> Ones
     requires { Open s.now g × (b < g.u) × Started s.now g b from × (from.bit < g.bits)
-        × (looks.old < 2 ^ 31) × PlacesOfOnes table.now }
+        × (looks.old < 2 ^ 31) }
     ensures { Passed s.now g b result
         × Paid (from.bit / 64) (looks.old + 1) result.k looks.new }
 {

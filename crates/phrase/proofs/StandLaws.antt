@@ -2,10 +2,11 @@
 use mathlib.Core.Bool.{Bool, true, false}
 use mathlib.Core.Path.{◌≡◌, refl, sym, ap, ◌∙◌}
 use mathlib.Core.List.{List}
-use Prim.Native.Nat.{ℕ, ◌+◌, ◌-◌, ◌*◌, ◌^◌, ◌≤◌, ◌<◌}
+use Prim.Native.Nat.{ℕ, ◌+◌, ◌-◌, ◌*◌, ◌≤◌, ◌<◌}
 use native.Mathlib.Omega.{arith}
 use borrow.Author.Tests.{lt-ltb}
 use lib.Dec.{ltb}
+use Rattle.std.specs.Prelude.{None, Some}
 use lib.ListN.{length}
 use Rattle.rules.specs.Limits.{limit}
 use Rattle.rules.specs.List.{rising}
@@ -112,21 +113,11 @@ module _ (s sh ws : List ℕ) (b i : ℕ) (r : Bool) (after : List ℕ)
         (stands_between (part_at s sh i) (shape_in sh i) (end_in after i) least (position_walk after i) p.ready.passing
         p.ready.short found (base_in after i + d) (omega (arith, same)) (omega (arith, same)))
 
-  pub sought_none : (position_walk after i).past ≤ least → Sought s sh ws i b (2 ^ 32) after
-  sought_none l = record {
-    ready = rw same p.ready;
-    kept = p.kept;
-    none = λ e. word_none l;
-    found = λ e. absurd (e refl);
-    first = λ e. absurd (e refl);
-  }
+  pub sought_none : (position_walk after i).past ≤ least → Sought s sh ws i b None after
+  sought_none l = record { ready = rw same p.ready; kept = p.kept; first = word_none l }
 
   pub sought_there : (n : ℕ) → least < (position_walk after i).past → n ≡ (position_walk after i).past - 1 - base_in ws i
-      → Sought s sh ws i b n after
-  sought_there n l is = record {
-    ready = rw same p.ready;
-    kept = p.kept;
-    none = λ e. absurd (omega (arith, (word_has l n is).1));
-    found = λ e. word_has l n is;
-    first = λ e. word_lacks l n is;
-  }
+      → Sought s sh ws i b (Some n) after
+  sought_there n l is =
+      let h = word_has l n is in
+      record { ready = rw same p.ready; kept = p.kept; first = (h.0, h.1, h.2, word_lacks l n is) }

@@ -4,9 +4,8 @@
 --   page_at s sh ws i    the positions of word i on the page
 --   Ready s sh ws i b   no element of word i at least b is passed but for the last, and none behind the page
 --   PassedOn s sh ws i b r after  what passing word i's elements up to b leaves; r: whether the page has one from b on
---   Sought s sh ws i b r after  what seeking a position of word i leaves: r is the page's first from b on, or 2 ^ 32
---                       where there is none
-use Rattle.std.specs.Prelude.{Bool, true, false, ◌≡◌, List, ℕ, ◌+◌, ◌*◌, ◌^◌, ◌≤◌, ◌<◌, ltb, length}
+--   Sought s sh ws i b r after  what seeking a position of word i leaves: r is the page's first from b on, if there is one
+use Rattle.std.specs.Prelude.{Bool, true, false, ◌≡◌, List, ℕ, ◌+◌, ◌*◌, ◌≤◌, ◌<◌, ltb, length, Option, MatchOption}
 use Rattle.std.proofs.Math.Seq.{slice}
 use Rattle.rules.specs.Limits.{limit}
 use Rattle.rules.specs.ReadTerm.{less}
@@ -33,9 +32,9 @@ pub record PassedOn (s sh ws : List ℕ) (i b : ℕ) (r : Bool) (after : List �
   pub all : (position_walk after i).past ≤ b → (position_walk after i).next ≡ end_in after i
   pub kept : Kept ws (8 * i + 3) (8 * i + 6) after
 
-pub record Sought (s sh ws : List ℕ) (i b r : ℕ) (after : List ℕ) : Type 0 where
+pub record Sought (s sh ws : List ℕ) (i b : ℕ) (r : Option ℕ) (after : List ℕ) : Type 0 where
   pub ready : Ready s sh after i (base_in after i + b)
   pub kept : Kept ws (8 * i + 3) (8 * i + 6) after
-  pub none : r ≡ 2 ^ 32 → (d : ℕ) → b ≤ d → member d (page_at s sh after i) ≡ false
-  pub found : (r ≡ 2 ^ 32 → ⊥) → (b ≤ r) × (r < limit) × (member r (page_at s sh after i) ≡ true)
-  pub first : (r ≡ 2 ^ 32 → ⊥) → (d : ℕ) → b ≤ d → d < r → member d (page_at s sh after i) ≡ false
+  pub first : MatchOption r ((d : ℕ) → b ≤ d → member d (page_at s sh after i) ≡ false)
+      (λ n. (b ≤ n) × (n < limit) × (member n (page_at s sh after i) ≡ true)
+      × ((d : ℕ) → b ≤ d → d < n → member d (page_at s sh after i) ≡ false))

@@ -28,11 +28,14 @@ fn pass_on(card: &[u8], shapes: &[u32], i: usize, b: usize, words: &mut [usize])
     b < v.past
 }
 
-// More than any position.
-pub const NO_POSITION: usize = 4294967296;
-
-// The first position of word i on the page that is at least b, or NO_POSITION.
-pub fn position_from(card: &[u8], shapes: &[u32], i: usize, b: usize, words: &mut [usize]) -> usize
+// The first position of word i on the page that is at least b, if it has one.
+pub fn position_from(
+    card: &[u8],
+    shapes: &[u32],
+    i: usize,
+    b: usize,
+    words: &mut [usize],
+) -> Option<usize>
     requires { BlockAt card.now shapes.now i × (base_in words.old i < 2 ^ 32) × (b < 2 ^ 33)
         × Ready card.now shapes.now words.old i (base_in words.old i + b) }
     ensures { Sought card.now shapes.now words.old i b result
@@ -40,7 +43,7 @@ pub fn position_from(card: &[u8], shapes: &[u32], i: usize, b: usize, words: &mu
 {
     let base = words[8 * i + BASE];
     if !pass_on(card, shapes, i, base + b, words) {
-        return NO_POSITION;
+        return None;
     }
-    words[8 * i + POSITIONS + 1] - 1 - base
+    Some(words[8 * i + POSITIONS + 1] - 1 - base)
 }

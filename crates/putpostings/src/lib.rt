@@ -116,14 +116,13 @@ pub fn put_postings(
             stream: s,
         };
     }
-    let word = following::follow(s, pages, counts, positions);
-    if !word.ok {
+    let Some(base) = following::follow(s, pages, counts, positions) else {
         sessions::clear(room, size);
         return sessions::ended(Err(Refusal::Lists));
-    }
+    };
     add_run(room, g, s, pages, counts, positions);
     Streamed {
         size: Ok(0),
-        stream: following::advance(s, pages, positions, word.next),
+        stream: following::advance(s, pages, positions, base),
     }
 }

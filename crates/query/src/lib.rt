@@ -3,7 +3,6 @@
 #![tactic(auto)]
 
 ghost use Rattle.std.specs.Prelude.{◌≡◌, ◌<◌, length};
-ghost use Rattle.bytetable.specs.Places.{PlacesOfOnes};
 ghost use Rattle.querylaws.specs.Lists.{Lists};
 ghost use Rattle.querylaws.specs.Queries.{moved_in, Seekable, Running};
 ghost use Rattle.querylaws.specs.Batches.{Batched};
@@ -23,7 +22,7 @@ struct InHand {
 // A seek for b on list i, by the cursor in hand: the query comes back as it was, and the hand moved. Behind the lead b is
 // a page of it, and so one that the others may well have.
 fn seek_in(table: &Table, card: &[u8], shapes: &[u32], mut s: InHand, i: usize, b: usize) -> InHand
-    requires { Seekable card.now shapes.now i s.hand × PlacesOfOnes table.now }
+    requires { Seekable card.now shapes.now i s.hand }
     ensures { (result.q ≡ s.q) × (result.hand ≡ moved_in card.now shapes.now i s.hand b) }
 {
     let from = rows::number(shapes, i, FROM);
@@ -63,7 +62,7 @@ pub fn batch(
     b0: usize,
     room: &mut [u32],
 ) -> Turn
-    requires { Running card.now shapes.now k q0 b0 × (0 < length room.old) × PlacesOfOnes table.now }
+    requires { Running card.now shapes.now k q0 b0 × (0 < length room.old) }
     ensures { Batched card.now shapes.now k q0 b0 room.old result
         room.new }
 {
@@ -105,7 +104,7 @@ pub fn batch(
 // Counts the pages that the first k lists share, and lists them at the room's front, as far as it goes; those behind its
 // end go to a room that is dropped.
 pub fn list_common(table: &Table, card: &[u8], shapes: &[u32], k: usize, room: &mut [u32]) -> Listed
-    requires { Lists card.now shapes.now k × PlacesOfOnes table.now }
+    requires { Lists card.now shapes.now k }
     ensures { Tells (whole_in card.now shapes.now k) result
         × (room.new ≡ laid_within (whole_in card.now shapes.now k).listed
         room.old) }

@@ -1,22 +1,25 @@
 -- Which questions may be asked: a law for each way through the tests.
 use mathlib.Core.Bool.{true, false, ◌&&◌}
-use mathlib.Core.Path.{◌≡◌}
-use mathlib.Core.List.{List}
-use Prim.Native.Nat.{ℕ, ◌+◌, ◌≤◌, ◌<◌}
-use native.Mathlib.Decide.{ℕ_discrete}
+use mathlib.Core.Path.{◌≡◌, refl, sym}
+use mathlib.Core.List.{List, [], ◌∷◌}
+use Prim.Native.Nat.{ℕ, ◌≤◌, ◌<◌}
+use native.Mathlib.Decide.{ℕ_discrete, dec_lt}
 use native.Mathlib.Omega.{arith}
-use native.Mathlib.Numerals.{add-one}
 use borrow.Author.Tests.{ne_eqb, eqb-true, ltb-true, leb-true}
 use lib.Dec.{ltb, leb, eqb}
-use lib.ListN.{length, get_or, drop}
-use lib.Seq.{drop-cons}
+use lib.ListN.{length, get_or}
+use Rattle.std.specs.Prelude.{None}
+use Rattle.std.specs.List.{list_all}
 use Rattle.rules.specs.Questions.{all_below, pair_good, words_good, phrase_good, good_question}
+use Rattle.questions.specs.declared.Kind.TheVariants.{ByRank, ByBound, Common, Phrase}
+use Rattle.questions.specs.Kinds.{Stated}
 use Rattle.listlaws.proofs.RisingLaws.{and_parts}
 
-pub below_at : (T : ℕ) (xs : List ℕ) (i : ℕ) → i < length xs → all_below T (drop i xs)
-    ≡ ltb (get_or xs i 0) T && all_below T (drop (i + 1) xs)
+-- all are below T by the test of each
+pub below_all : (T : ℕ) (xs : List ℕ) → list_all (λ x. ltb x T) xs ≡ all_below T xs
 unfolding all_below
-below_at T xs i h = rw (add-one, drop-cons xs i 0)
+below_all T [] = refl
+below_all T (x ∷ xs) = rw (below_all T xs)
 
 -- ---- by kind
 
@@ -54,6 +57,16 @@ module _ (T : ℕ) (kind : ℕ) (args : List ℕ) where
         ne_eqb
             kind 4 (λ e. omega arith),
       )
+
+  -- a number that no kind has
+  pub good_unknown : Stated kind None → good_question T kind args ≡ false
+  good_unknown h = elim (dec_lt 4 kind) [
+    | yes g ↦ good_other g
+    | no g ↦ good_none (below_kinds kind (λ e. h ByRank (sym e)) (λ e. h ByBound (sym e)) (λ e. h Common (sym e)) (λ e. h Phrase (sym e)) g)
+  ]
+    where
+      below_kinds : (n : ℕ) → (n ≡ 1 → ⊥) → (n ≡ 2 → ⊥) → (n ≡ 3 → ⊥) → (n ≡ 4 → ⊥) → (4 < n → ⊥) → n < 1
+      below_kinds n a b c d g = omega arith
 
 -- ---- what a good question has
 

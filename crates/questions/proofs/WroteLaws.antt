@@ -1,21 +1,12 @@
 -- How an answer comes to be in lent room, and what the room is around it.
 use mathlib.Core.Path.{◌≡◌, refl, sym, ap, ◌∙◌}
 use mathlib.Core.List.{List, [], ◌∷◌, ◌++◌, append-nil, append_assoc}
-use Prim.Native.Nat.{ℕ, suc, ◌+◌, ◌-◌, ◌≤◌, ◌<◌}
-use native.Mathlib.Numerals.{add-one}
+use Prim.Native.Nat.{ℕ, suc, ◌+◌, ◌-◌, ◌<◌}
 use native.Mathlib.Omega.{arith}
 use borrow.Rule.Slice.PartMut.{mid_of, put_mid}
 use lib.ListN.{length, get_or, take, drop, set, length-append, length-drop, drop_of_length-le}
-use lib.Seq.{take_all, take-suc, length-take-le, drop-cons, set_at}
+use lib.Seq.{take_all, drop-cons, set_at}
 use Rattle.rules.specs.Write.{laid}
-use Rattle.questions.specs.Wrote.{Wrote}
-
-pub wrote_whole : (a room : List ℕ) (r : ℕ) (after : List ℕ) → 0 < r → r ≡ length a → r ≤ length room → after
-    ≡ laid a room → Wrote a room r after
-wrote_whole a room r after p e h l = record { whole = λ _. (e, h, l); none = λ z. absurd (omega arith) }
-
-pub wrote_none : (a room after : List ℕ) → length room < length a → after ≡ room → Wrote a room 0 after
-wrote_none a room after h l = record { whole = λ z. absurd (omega arith); none = λ _. (h, l) }
 
 -- ---- number by number
 
@@ -33,13 +24,6 @@ laid_snoc b room n v e h =
 pub laid_first : (room : List ℕ) (v : ℕ) → 0 < length room → set room 0 v ≡ laid (v ∷ []) room
 unfolding laid
 laid_first room v h = laid_snoc [] room 0 v refl h
-
--- one more of the numbers of an answer
-pub laid_more : (a room : List ℕ) (i : ℕ) → i < length a → i < length room → set (laid (take i a) room) i (get_or a i 0)
-    ≡ laid (take (i + 1) a) room
-laid_more a room i h k =
-    laid_snoc (take i a) room i (get_or a i 0) (length-take-le i a (omega arith)) k
-    ∙ ap (λ (t : List ℕ). laid t room) (sym (rw add-one (take-suc a i 0 h)))
 
 -- ---- the part of a room behind what is used
 

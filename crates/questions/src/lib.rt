@@ -4,21 +4,39 @@
 ghost use Rattle.std.specs.Prelude.{◌≡◌, true, ◌+◌, ◌≤◌, ◌<◌, length, drop};
 ghost use Rattle.rules.specs.Questions.{all_below, pair_good, words_good, good_question, count_of};
 ghost use Rattle.questions.specs.Formed.{formed};
+ghost use Rattle.questions.specs.Kinds.{Stated};
 
 use rules::PHRASE_LIMIT;
+
+// What a question asks.
+#[derive(Clone, Copy, PartialEq, Eq)]
+pub enum Kind {
+    ByRank,
+    ByBound,
+    Common,
+    Phrase,
+}
+
+impl Kind {
+    // The kind that a question states by this number, if there is one.
+    pub fn from_number(number: u32) -> Option<Kind>
+        ensures { Stated number result }
+    {
+        match number {
+            1 => Some(Kind::ByRank),
+            2 => Some(Kind::ByBound),
+            3 => Some(Kind::Common),
+            4 => Some(Kind::Phrase),
+            _ => None,
+        }
+    }
+}
 
 // Whether every one of the numbers is below t.
 fn all_below(args: &[u32], t: usize) -> bool
     ensures { result ≡ all_below t args.now }
 {
-    let mut i = 0;
-    while i < args.len() {
-        if t <= args[i] as usize {
-            return false;
-        }
-        i += 1;
-    }
-    true
+    args.iter().all(|&a| (a as usize) < t)
 }
 
 // Whether a term below t and one more number may be asked for.
@@ -44,15 +62,16 @@ pub fn words_good(args: &[u32], t: usize) -> bool
     all_below(args, t)
 }
 
-// Whether a question of this kind may be asked of t words with these numbers.
+// Whether a question that states its kind by this number may be asked of t words with these numbers.
 fn may_ask(kind: u32, args: &[u32], t: usize) -> bool
     ensures { result ≡ good_question t kind args.now }
 {
-    match kind {
-        1 | 2 => pair_good(args, t),
-        3 => words_good(args, t),
-        4 => offsets::phrase_good(args, t),
-        _ => false,
+    match Kind::from_number(kind) {
+        Some(Kind::ByRank) => pair_good(args, t),
+        Some(Kind::ByBound) => pair_good(args, t),
+        Some(Kind::Common) => words_good(args, t),
+        Some(Kind::Phrase) => offsets::phrase_good(args, t),
+        None => false,
     }
 }
 
@@ -68,6 +87,7 @@ pub fn end_of(questions: &[u32], at: usize) -> usize
 pub fn well_formed(questions: &[u32], t: usize) -> bool
     ensures { result ≡ formed t questions.now }
 {
+    // A step of its own length for each question: no iterator gives it.
     let mut at = 0;
     while at < questions.len() {
         if questions.len() - at < 2 {

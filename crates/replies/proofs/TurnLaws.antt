@@ -2,7 +2,8 @@
 use mathlib.Core.Bool.{true}
 use mathlib.Core.Path.{◌≡◌, refl, sym, ap, ◌∙◌}
 use mathlib.Core.List.{List, [], ◌++◌}
-use Prim.Native.Nat.{ℕ, zero, suc, ◌+◌, ◌-◌, ◌≤◌, ◌<◌}
+use Prim.Native.Nat.{ℕ, ◌+◌, ◌-◌, ◌≤◌, ◌<◌}
+use Rattle.std.specs.Prelude.{Option, None, Some}
 use native.Mathlib.Omega.{arith}
 use borrow.Rule.Slice.PartMut.{mid_of, put_mid}
 use lib.ListN.{length, get_or, take, drop, length-append, length-take, length-drop, take-append-drop}
@@ -46,19 +47,23 @@ module _ (s qs room₀ : List ℕ) where
       pub turn_good : good_question (index_t s) (get_or qs at 0) (take (to - (at + 2)) (drop (at + 2) qs)) ≡ true
       turn_good = (formed_good qs at to h e (index_t s) i.good).0
 
-      module _ (r : ℕ) (ys : List ℕ)
-          (w : Wrote (answer s (get_or qs at 0) (take (to - (at + 2)) (drop (at + 2) qs)))
-          (mid_of u (length room - u) room) r ys) where
+      module _ (ys : List ℕ) where
+        -- the answer that is due, and the room for it
+        abbrev a : List ℕ
+        a = answer s (get_or qs at 0) (take (to - (at + 2)) (drop (at + 2) qs))
+
+        abbrev left : List ℕ
+        left = mid_of u (length room - u) room
+
         -- an answer that fits is behind the others, and the run goes on
-        turn_on : 0 < r → Under s qs room₀ (put_mid u (length room - u) room ys) to (n + 1) (u + r)
-        turn_on p =
-            let a = answer s (get_or qs at 0) (take (to - (at + 2)) (drop (at + 2) qs)) in
+        turn_on : (r : ℕ) → Wrote a left (Some r) ys → Under s qs room₀ (put_mid u (length room - u) room ys) to (n + 1) (u + r)
+        turn_on r w =
             let m = length-drop u room in
-            let k : r ≤ length (drop u room) = rw (tail_part u room) at (w.whole p).1 in
-            let y : ys ≡ laid a (drop u room) = rw (tail_part u room) at (w.whole p).2 in
+            let k : r ≤ length (drop u room) = rw (tail_part u room) at w.1 in
+            let y : ys ≡ laid a (drop u room) = rw (tail_part u room) at w.2 in
             let b : put_mid u (length room - u) room ys ≡ take u room ++ laid a (drop u room) =
             tail_back u room ys ∙ ap (λ (t : List ℕ). take u room ++ t) y in
-            let z = (w.whole p).0 in
+            let z = w.0 in
             let l : length (take u room ++ laid a (drop u room)) ≡ length room =
             length-append (take u room) (laid a (drop u room))
             ∙ omega (arith, length-take u room, length_laid a (drop u room) (omega arith), i.fits) in
@@ -74,25 +79,19 @@ module _ (s qs room₀ : List ℕ) where
             })
 
         -- one that does not leaves the room as it is, and the run stops
-        turn_stop : r ≡ 0 → (put_mid u (length room - u) room ys ≡ room)
+        turn_stop : Wrote a left None ys → (put_mid u (length room - u) room ys ≡ room)
             × (outcome Room n u room ≡ put (fitted (length room₀) (answers_to s qs)) room₀)
-        turn_stop p =
-            let a = answer s (get_or qs at 0) (take (to - (at + 2)) (drop (at + 2) qs)) in
+        turn_stop w =
             let m = length-drop u room in
-            let k : length (drop u room) < length a = rw (tail_part u room) at (w.none p).0 in
-            let y : ys ≡ drop u room = rw (tail_part u room) at (w.none p).1 in (
+            let k : length (drop u room) < length a = rw (tail_part u room) at w.0 in
+            let y : ys ≡ drop u room = rw (tail_part u room) at w.1 in (
               tail_back u room ys ∙ ap (λ (t : List ℕ). take u room ++ t) y ∙ take-append-drop u room,
               sym (run_stop n u a (answers_to s (drop to qs)) room (omega arith))
                   ∙ sym (ap (λ (g : List (List ℕ)). running n u g room) (answers_at qs at to h e s)) ∙ i.rest,
             )
 
-        pub turned : Turned s qs room₀ n u to r (put_mid u (length room - u) room ys)
-        turned = record {
-          same = long r refl;
-          on = turn_on;
-          stop = λ p. ap (outcome Room n u) (turn_stop p).0 ∙ (turn_stop p).1;
-        }
-          where
-            long : (k : ℕ) → r ≡ k → length (put_mid u (length room - u) room ys) ≡ length room₀
-            long zero p = ap length (turn_stop p).0 ∙ i.same
-            long (suc k) p = (turn_on (omega arith)).same
+        pub turned : (r : Option ℕ) → Wrote a left r ys → Turned s qs room₀ n u to r (put_mid u (length room - u) room ys)
+        turned None w =
+            let t = turn_stop w in
+            record { same = ap length t.0 ∙ i.same; turn = ap (outcome Room n u) t.0 ∙ t.1 }
+        turned (Some r) w = let t = turn_on r w in record { same = t.same; turn = t }

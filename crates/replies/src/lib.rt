@@ -1,7 +1,7 @@
 // An answer put whole into the room, and how far a run of questions is.
 #![tactic(auto)]
 
-ghost use Rattle.std.specs.Prelude.{◌+◌, ◌^◌, ◌<◌, length};
+ghost use Rattle.std.specs.Prelude.{◌+◌, ◌^◌, ◌<◌};
 ghost use Rattle.questions.specs.Wrote.{Wrote};
 ghost use Rattle.replies.specs.Running.{Started, Further, Stopped, Ended};
 
@@ -15,21 +15,16 @@ pub struct Run {
     pub used: usize,
 }
 
-// Puts an answer whole at the front of the room; 0 where it does not fit.
-pub fn put(answer: &[u32], room: &mut [u32]) -> usize
-    requires { 0 < length answer.now }
+// Puts an answer whole at the front of the room, if it fits; how many numbers it has.
+pub fn put(answer: &[u32], room: &mut [u32]) -> Option<usize>
     ensures { Wrote answer.now room.old result room.new }
 {
     let size = answer.len();
     if room.len() < size {
-        return 0;
+        return None;
     }
-    let mut i = 0;
-    while i < size {
-        room[i] = answer[i];
-        i += 1;
-    }
-    size
+    room[..size].copy_from_slice(answer);
+    Some(size)
 }
 
 // The run before its first question.

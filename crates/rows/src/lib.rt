@@ -56,12 +56,9 @@ pub fn totals(q: Query, found: usize) -> Listed
 {
     let mut seeks = 0;
     let mut looks = 0;
-    let mut i = 0;
-    while i < 8 {
-        let c = q.cursors[i];
+    for c in &q.cursors {
         seeks += c.seeks;
         looks += c.looks;
-        i += 1;
     }
     Listed {
         found,

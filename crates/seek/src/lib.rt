@@ -3,7 +3,6 @@
 
 ghost use Rattle.std.specs.Prelude.{◌≡◌, ◌+◌, ◌^◌, ◌<◌};
 ghost use Rattle.rules.specs.ReadList.{list_u, form_at, decode};
-ghost use Rattle.bytetable.specs.Places.{PlacesOfOnes};
 ghost use Rattle.readlaws.specs.Open.{FormOpen};
 ghost use Rattle.walklaws.specs.Cursors.{Held, landing, looks_for, found_for, moved_to, found_by};
 
@@ -22,7 +21,7 @@ fn find(
     looks: &mut u32,
 ) -> Landing
     requires { FormOpen (form_at s.now) s.now g × Held (form_at s.now) (list_u s.now) (decode s.now) c
-        × (looks.old < 2 ^ 31) × PlacesOfOnes table.now }
+        × (looks.old < 2 ^ 31) }
     ensures { (result ≡ landing (form_at s.now) (list_u s.now) (decode s.now) c b)
         × (looks.new ≡ looks.old
         + looks_for (form_at s.now) (list_u s.now) (decode s.now) c b) }
@@ -55,7 +54,7 @@ fn find(
 // cursor's own. `likely` says that the list may well have b itself; it changes no answer.
 pub fn seek(table: &Table, s: &[u8], g: Shape, c: Cursor, b: usize, likely: bool) -> Cursor
     requires { FormOpen (form_at s.now) s.now g × Held (form_at s.now) (list_u s.now) (decode s.now) c
-        × (c.seeks < 2 ^ 31) × (c.looks < 2 ^ 31) × PlacesOfOnes table.now }
+        × (c.seeks < 2 ^ 31) × (c.looks < 2 ^ 31) }
     ensures { (result ≡ moved_to (form_at s.now) (list_u s.now) (decode s.now) c b)
         × (found_by (form_at s.now) (list_u s.now) (decode s.now) result
         ≡ found_for (form_at s.now) (list_u s.now) (decode s.now) c b) }

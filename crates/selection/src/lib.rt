@@ -4,7 +4,6 @@
 ghost use Rattle.std.specs.Prelude.{◌≡◌, ◌+◌, ◌*◌, ◌/◌, ◌%◌, ◌^◌, ◌<◌, count_ones};
 ghost use Rattle.fields.specs.Words.{place_of_one, place_of_zero};
 ghost use Rattle.selectlaws.specs.ByteCounts.{each, byte_ones, running_ones, highest_byte, marked};
-ghost use Rattle.bytetable.specs.Places.{PlacesOfOnes};
 
 use bytetable::Table;
 use std::num::wrapping_add_u64;
@@ -51,15 +50,15 @@ fn above(sums: u64, j: u32) -> u64
 
 // The place of the one number j, counted from 0, of a byte, or 8, by the table.
 fn one_of_byte(table: &Table, b: u8, j: u32) -> u32
-    requires { (j < 8) × PlacesOfOnes table.now }
+    requires { j < 8 }
     ensures { result ≡ place_of_one 8 b j }
 {
-    table[b as usize * 8 + j as usize] as u32
+    table.rows[b as usize * 8 + j as usize] as u32
 }
 
 // The place of the one number j, counted from 0, of a word that has more ones, by its running counts.
 pub fn select_by(table: &Table, x: u64, counts: u64, j: u32) -> u32
-    requires { (counts ≡ running_ones 8 0 x) × (j < count_ones x) × PlacesOfOnes table.now }
+    requires { (counts ≡ running_ones 8 0 x) × (j < count_ones x) }
     ensures { (result ≡ place_of_one 64 x j) × (result < 64) }
 {
     let p = u64::trailing_zeros(above(counts, j)) - 7;
@@ -70,7 +69,7 @@ pub fn select_by(table: &Table, x: u64, counts: u64, j: u32) -> u32
 // The place of the zero number j, counted from 0, of a word that has more zeros, by the running counts of its ones:
 // what these leave of eight bits for each byte are those of its zeros.
 pub fn select_zero(table: &Table, x: u64, counts: u64, j: u32) -> u32
-    requires { (counts ≡ running_ones 8 0 x) × (j + count_ones x < 64) × PlacesOfOnes table.now }
+    requires { (counts ≡ running_ones 8 0 x) × (j + count_ones x < 64) }
     ensures { (result ≡ place_of_zero 64 x j) × (result < 64) }
 {
     select_by(table, !x, 0x4038302820181008 - counts, j)

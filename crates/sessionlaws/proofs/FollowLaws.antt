@@ -1,5 +1,5 @@
 -- Laws of a run of postings: when it may follow a session's, one test after the other, and what it then tells.
-use mathlib.Core.Bool.{Bool, true, false, false≢true}
+use mathlib.Core.Bool.{Bool, true, false}
 use mathlib.Core.Path.{◌≡◌, refl, sym, ap, ◌∙◌}
 use mathlib.Core.List.{List, [], ◌∷◌}
 use Prim.Native.Nat.{ℕ, ◌+◌, ◌≤◌, ◌<◌, min}
@@ -9,6 +9,8 @@ use native.Mathlib.Omega.{arith}
 use borrow.Author.Tests.{lt-ltb, le-leb, lt-leb, leb-true}
 use lib.Dec.{leb}
 use lib.ListN.{length, get_or}
+use Rattle.std.specs.Prelude.{Some, None}
+use Rattle.std.specs.Bool.{then_some}
 use Rattle.rules.specs.declared.Stream.{Stream}
 use Rattle.rules.specs.Limits.{limit}
 use Rattle.rules.specs.List.{rising}
@@ -90,8 +92,8 @@ module _ (s : Stream) (t : Word) where
 
 -- ---- what the test tells
 
-pub none_follow : (s : Stream) (t : Word) → follows s t ≡ false → Followed s t (record { ok = false; next = 0 })
-none_follow s t e = record { says = sym e; ends = λ o. absurd (false≢true o) }
+pub none_follow : (s : Stream) (t : Word) → follows s t ≡ false → Followed s t None
+none_follow s t e = rw e
 
 module _ (s : Stream) (t : Word) (within : s.u ≤ limit) (k : ℕ) (told : k ≡ capped (next 0 (places t))) where
   abbrev all : ℕ
@@ -114,9 +116,10 @@ module _ (s : Stream) (t : Word) (within : s.u ≤ limit) (k : ℕ) (told : k �
             ap (λ (n : ℕ). leb (s.base + n) s.u) e
       ]
 
+  same_end : (b : Bool) → leb (s.base + k) s.u ≡ b → then_some b (s.base + k) ≡ then_some b (s.base + all)
+  same_end true e = ap Some (omega (arith, reach_is, leb-true (s.base + k) s.u e))
+  same_end false e = refl
+
   pub follow_told : follows s t ≡ leb (next s.base (placed s.base t.counts t.positions)) s.u
-      → Followed s t (record { ok = leb (s.base + k) s.u; next = s.base + k })
-  follow_told e = record {
-    says = same_test ∙ ap (λ (n : ℕ). leb n s.u) (sym end_is) ∙ sym e;
-    ends = λ o. omega (arith, reach_is, end_is, leb-true (s.base + k) s.u o);
-  }
+      → Followed s t (then_some (leb (s.base + k) s.u) (s.base + k))
+  follow_told e = rw (e, end_is, ← same_test) (same_end (leb (s.base + k) s.u) refl)

@@ -8,6 +8,7 @@ use native.Mathlib.Omega.{arith}
 use borrow.Author.Tests.{lt-ltb, le-leb}
 use lib.ListN.{length, get_or}
 use lib.Seq.{take_all}
+use Rattle.std.specs.Prelude.{Some, None}
 use Rattle.rules.specs.declared.Stream.{Stream}
 use Rattle.rules.specs.List.{rising}
 use Rattle.rules.specs.Term.{Word, lent_word, total, next, placed, positive, in_order, in_order_by_page}
@@ -79,7 +80,7 @@ module _ (s : Stream) (ps cs qs : List ℕ) (one : length ps ≡ 1) where
             (omega (arith, n, f.ends));
       }
 
-  pub page_refused : (PageFollows s ps cs qs → ⊥) → Followed s t (record { ok = false; next = 0 })
+  pub page_refused : (PageFollows s ps cs qs → ⊥) → Followed s t None
   page_refused h = none_follow s t (go (follows s t) (λ e. h (page_tests (following s t e))))
     where
       go : (b : Bool) → (b ≡ true → ⊥) → b ≡ false
@@ -111,8 +112,8 @@ module _ (s : Stream) (ps cs qs : List ℕ) (one : length ps ≡ 1) where
         p.positions
         ∙ le-leb _ s.u (omega (arith, end, p.base, ordered.1))
 
-    pub page_follows : Followed s t (record { ok = true; next = s.base + get_or qs (length qs - 1) 0 + 1 })
-    page_follows = record {
-      says = sym may;
-      ends = λ o. omega (arith, end, next_last 0 qs (length qs - 1) (omega (arith, p.some)));
-    }
+    pub page_follows : Followed s t (Some (s.base + get_or qs (length qs - 1) 0 + 1))
+    page_follows =
+        let e : s.base + get_or qs (length qs - 1) 0 + 1 ≡ next s.base (placed s.base cs qs) =
+        omega (arith, end, next_last 0 qs (length qs - 1) (omega (arith, p.some))) in
+        rw (may, e)

@@ -4,14 +4,14 @@
 --   Following s t    the postings t may follow those of session s, each test by itself
 --   Laying g s t room  they may, g is the layout of what was announced, and the room holds its block
 --   stepped s ps qs b  session s with the pages ps and the positions qs behind it, and the base b
---   Followed s t r   r says whether the postings t may follow those of session s, and if so the base behind them
-use Rattle.std.specs.Prelude.{Bool, true, ◌≡◌, List, [], ◌∷◌, ℕ, ◌+◌, ◌≤◌, leb, length}
+--   Followed s t r   r is the base behind the postings t where they may follow those of session s, and else there is none
+use Rattle.std.specs.Prelude.{Bool, true, ◌≡◌, List, [], ◌∷◌, Option, ℕ, ◌+◌, ◌≤◌, leb, length}
+use Rattle.std.specs.Bool.{then_some}
 use Rattle.rules.specs.declared.Stream.{Stream}
 use Rattle.rules.specs.Term.{Word, next, placed}
 use Rattle.rules.specs.List.{rising}
 use Rattle.rules.specs.Stream.{live, follows}
 use Rattle.termlaws.specs.Words.{Agreeing}
-use Rattle.wordlaws.specs.declared.Reach.{Reach}
 use Rattle.sessionlaws.specs.declared.Layout.{Layout}
 use Rattle.sessionlaws.specs.Layout.{layout_of}
 
@@ -19,9 +19,8 @@ unfoldable pub starts : ℕ → List ℕ → Bool
 starts lo [] = true
 starts lo (x ∷ xs) = leb lo x
 
-pub record Followed (s : Stream) (t : Word) (r : Reach) : Type 0 where
-  pub says : r.ok ≡ follows s t
-  pub ends : r.ok ≡ true → r.next ≡ next s.base (placed s.base t.counts t.positions)
+abbrev pub Followed : Stream → Word → Option ℕ → Type 0
+Followed s t r = r ≡ then_some (follows s t) (next s.base (placed s.base t.counts t.positions))
 
 pub record Following (s : Stream) (t : Word) : Type 0 where
   pub agreeing : Agreeing s.n t

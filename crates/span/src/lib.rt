@@ -2,7 +2,6 @@
 #![tactic(auto)]
 
 ghost use Rattle.std.specs.Prelude.{◌+◌, ◌≤◌, ◌<◌};
-ghost use Rattle.bytetable.specs.Places.{PlacesOfOnes};
 ghost use Rattle.readlaws.specs.Open.{Open, OneAt};
 ghost use Rattle.span.specs.Walks.{WalkOn, PassedTo};
 
@@ -31,7 +30,7 @@ pub fn walk_past(block: &[u8], g: Shape, place: usize, rank: usize) -> Walk
 
 // Passes elements until n are passed.
 pub fn pass_to(table: &Table, block: &[u8], g: Shape, w: Walk, n: usize) -> Walk
-    requires { WalkOn block.now g w × (w.next ≤ n) × (n ≤ g.n) × PlacesOfOnes table.now }
+    requires { WalkOn block.now g w × (w.next ≤ n) × (n ≤ g.n) }
     ensures { PassedTo block.now g n result }
 {
     if n == w.next {

@@ -2,7 +2,6 @@
 #![tactic(auto)]
 
 ghost use Rattle.std.specs.Prelude.{◌-◌};
-ghost use Rattle.bytetable.specs.Places.{PlacesOfOnes};
 ghost use Rattle.triallaws.specs.Asked.{Turnable, CountedOn};
 
 use bytetable::Table;
@@ -19,7 +18,7 @@ fn count_starts(
     turn: Turn,
     words: &mut [usize],
 ) -> usize
-    requires { Turnable card.now terms.now lists.now turn words.old × PlacesOfOnes table.now }
+    requires { Turnable card.now terms.now lists.now turn words.old }
     ensures { CountedOn card.now terms.now lists.now (turn.mark - 1) result
         words.new }
 {
@@ -33,16 +32,16 @@ fn count_starts(
         let turned = trying::turn_next(table, card, terms, lists, turn, at, words);
         let i = openlists::source_of(lists[LEAD] as usize, turned.standing);
         let offset = lists[OFFSETS + i] as usize;
-        let next = phrase::position_from(
+        let sought = phrase::position_from(
             card,
             &lists[POSITIONS..LEAD],
             i,
             turned.start + offset,
             words,
         );
-        if next == phrase::NO_POSITION {
+        let Some(next) = sought else {
             return turned.count;
-        }
+        };
         at = trial::tried(turned, next - offset, terms.len());
     }
 }
@@ -56,7 +55,7 @@ pub fn page_starts(
     turn: Turn,
     words: &mut [usize],
 ) -> usize
-    requires { Turnable card.now terms.now lists.now turn words.old × PlacesOfOnes table.now }
+    requires { Turnable card.now terms.now lists.now turn words.old }
     ensures { CountedOn card.now terms.now lists.now (turn.mark - 1) result
         words.new }
 {

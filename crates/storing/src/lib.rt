@@ -1,21 +1,11 @@
 // Words of a run, pointers and low parts, stored once they are known.
 #![tactic(auto)]
 
-ghost use Rattle.std.specs.Prelude.{◌≡◌, ◌+◌, ◌-◌, ◌*◌, ◌/◌, ◌^◌, ◌<◌, ◌≤◌, min, length};
+ghost use Rattle.std.specs.Prelude.{◌≡◌, ◌+◌, ◌-◌, ◌*◌, ◌/◌, ◌^◌, ◌<◌, ◌≤◌, length};
 ghost use Rattle.filllaws.specs.Filling.{Stored, Flushed, Lower};
 
 use filllaws::Lows;
 use rules::{POINTER_SIZE, POINTER_ZERO_AT};
-
-// The lesser of two numbers.
-pub fn lesser(a: usize, b: usize) -> usize
-    ensures { result ≡ min a b }
-{
-    if a < b {
-        return a;
-    }
-    b
-}
 
 // Writes words of a run up to number `to`: acc, and zeros above it. Gives what is left of acc.
 pub fn put_words(room: &mut [u8], at: usize, from: usize, to: usize, acc: u64) -> u64

@@ -10,28 +10,28 @@ ghost use Rattle.wordlaws.specs.Stretch.{NextSums, FirstSpot, HasSpot, NextPlace
 use wordlaws::{Spot, Tally, Turn};
 
 // Puts the sums of the counts, less 1, into the part, where `before` is the sum of those before them; gives the sum.
-fn put_sums(part: &mut [u32], before: usize, counts: &[u32]) -> usize
-    requires { (length counts.now ≤ length part.old) × (positive counts.now ≡ true)
+fn put_sums(part: &mut [u32; 256], before: usize, counts: &[u32]) -> usize
+    requires { (length counts.now ≤ 256) × (positive counts.now ≡ true)
         × (before + total counts.now ≤ limit) }
     ensures { (result ≡ before + total counts.now)
         × (take (length counts.now) part.new ≡ sums before counts.now) }
 {
     let mut sum = before;
-    for i in 0..counts.len() {
-        sum += counts[i] as usize;
+    for (i, &c) in counts.iter().enumerate() {
+        sum += c as usize;
         part[i] = (sum - 1) as u32;
     }
     sum
 }
 
 // Puts the sums of the next 256 counts, less 1, into the part; gives where the ones behind them start.
-pub fn next_sums(part: &mut [u32], counts: &[u32], at: Tally) -> Tally
-    requires { (length part.old ≡ 256) × (at.done ≤ length counts.now) × (length counts.now ≤ limit)
+pub fn next_sums(part: &mut [u32; 256], counts: &[u32], at: Tally) -> Tally
+    requires { (at.done ≤ length counts.now) × (length counts.now ≤ limit)
         × (positive counts.now ≡ true) × (at.sum + total (drop at.done counts.now) ≤ limit) }
     ensures { NextSums counts.now at result part.new }
 {
     let from = at.done;
-    let to = from + storing::lesser(256, counts.len() - from);
+    let to = from + (counts.len() - from).min(256);
     let sum = put_sums(part, at.sum, &counts[from..to]);
     Tally { done: to, sum }
 }
@@ -48,7 +48,7 @@ fn first_end(counts: &[u32]) -> usize
 }
 
 // Marks with 1 which of 256 positions are the last of their page; gives the page that the next 256 start on.
-fn mark(part: &mut [u32], counts: &[u32], start: Turn) -> Turn
+fn mark(part: &mut [u32; 256], counts: &[u32], start: Turn) -> Turn
     requires { (part.old ≡ replicate 256 0) × (start.page < length counts.now) × (0 < start.end)
         × (start.end ≤ 2 ^ 32) × (positive counts.now ≡ true) }
     ensures { Marked counts.now start result part.new }
@@ -70,15 +70,15 @@ fn mark(part: &mut [u32], counts: &[u32], start: Turn) -> Turn
 }
 
 // Puts elements in the place of marks, each its position above its page's base; gives the base behind them.
-fn put_places(part: &mut [u32], start: usize, positions: &[u32]) -> usize
-    requires { (length positions.now ≤ length part.old) × Bounded start part.old positions.now }
+fn put_places(part: &mut [u32; 256], start: usize, positions: &[u32]) -> usize
+    requires { (length positions.now ≤ 256) × Bounded start part.old positions.now }
     ensures { (result
         ≡ base_at start (marks_of part.old) positions.now (length positions.now))
         × Based start part.old positions.now part.new }
 {
     let mut base = start;
-    for i in 0..positions.len() {
-        let p = positions[i] as usize;
+    for (i, &position) in positions.iter().enumerate() {
+        let p = position as usize;
         let step = part[i] as usize * (p + 1);
         part[i] = (base + p) as u32;
         base += step;
@@ -101,13 +101,13 @@ pub fn first_spot(counts: &[u32], base: usize) -> Spot
 }
 
 // Puts the elements of the next 256 positions into the part; gives where the ones behind them start.
-pub fn next_places(part: &mut [u32], counts: &[u32], positions: &[u32], at: Spot) -> Spot
+pub fn next_places(part: &mut [u32; 256], counts: &[u32], positions: &[u32], at: Spot) -> Spot
     requires { (part.old ≡ replicate 256 0) × (at.done < length positions.now)
         × HasSpot counts.now positions.now at }
     ensures { NextPlaces counts.now positions.now at result part.new }
 {
     let done = at.done;
-    let k = storing::lesser(256, positions.len() - done);
+    let k = (positions.len() - done).min(256);
     let turn = mark(part, counts, at.turn);
     let base = put_places(part, at.base, &positions[done..done + k]);
     Spot {

@@ -3,18 +3,17 @@
 
 ghost use Rattle.std.specs.Prelude.{true, ◌≡◌, ◌+◌, ◌≤◌, ◌<◌, length};
 ghost use Rattle.rules.specs.Term.{lent_word, total, next, placed, places, positive, in_order_by_page, valid_word};
-ghost use Rattle.wordlaws.specs.Reach.{summing, capped, fall_at, falls_in, Reached};
+ghost use Rattle.wordlaws.specs.Reach.{summing, fall_at, falls_in, Reached};
 
 use rules::LIMIT;
-use wordlaws::Reach;
 
 // Whether every count is at least 1 and their sum is n.
 fn counts_fit(counts: &[u32], n: usize) -> bool
     ensures { result ≡ summing n counts.now }
 {
     let mut left = n;
-    for i in 0..counts.len() {
-        let c = counts[i] as usize;
+    for &count in counts {
+        let c = count as usize;
         if c == 0 {
             return false;
         }
@@ -24,15 +23,6 @@ fn counts_fit(counts: &[u32], n: usize) -> bool
         left -= c;
     }
     left == 0
-}
-
-fn capped(x: usize) -> usize
-    ensures { result ≡ capped x }
-{
-    if LIMIT < x {
-        return LIMIT + 1;
-    }
-    x
 }
 
 // 1 where element i does not rise above the one before it, else 0; the first has none before it.
@@ -49,7 +39,7 @@ fn fall(list: &[u32], i: usize) -> usize
     1
 }
 
-// How many elements do not rise above the one before them.
+// How many elements do not rise above the one before them. They go by number, as windows of two took a quarter longer.
 fn falls(list: &[u32]) -> usize
     ensures { result ≡ falls_in list.now 0 (length list.now) }
 {
@@ -60,9 +50,9 @@ fn falls(list: &[u32]) -> usize
     n
 }
 
-// Whether the positions of each page rise strictly, which is that they fall only from one page to the next, and where
-// the elements that they give end.
-fn positions_rise(counts: &[u32], positions: &[u32]) -> Reach
+// Where the elements of the positions end; nothing where they do not rise strictly on each page, which is that they fall
+// only from one page to the next.
+fn positions_rise(counts: &[u32], positions: &[u32]) -> Option<usize>
     requires { (total counts.now ≡ length positions.now) × (positive counts.now ≡ true) }
     ensures { Reached (in_order_by_page counts.now positions.now)
         (next 0 (placed 0 counts.now positions.now)) result }
@@ -70,32 +60,32 @@ fn positions_rise(counts: &[u32], positions: &[u32]) -> Reach
     let mut base: usize = 0;
     let mut from: usize = 0;
     let mut seams: usize = 0;
-    for i in 0..counts.len() {
+    for &c in counts {
         seams += fall(positions, from);
-        from += counts[i] as usize;
-        base = capped(base + (positions[from - 1] as usize + 1));
+        from += c as usize;
+        base = (base + (positions[from - 1] as usize + 1)).min(LIMIT + 1);
     }
     let all = falls(positions);
-    Reach {
-        ok: all == seams,
-        next: base,
+    if all != seams {
+        return None;
     }
+    Some(base)
 }
 
-// Whether the word is one that can be written, and where the elements of its positions end.
-pub fn check_word(n: usize, pages: &[u32], counts: &[u32], positions: &[u32]) -> Reach
+// Where the elements of the word's positions end; nothing where the word is not one that can be written.
+pub fn check_word(n: usize, pages: &[u32], counts: &[u32], positions: &[u32]) -> Option<usize>
     ensures { Reached
         (valid_word n (lent_word pages.now counts.now positions.now))
         (next 0 (places (lent_word pages.now counts.now positions.now))) result }
 {
     if pages.len() != counts.len() {
-        return Reach { ok: false, next: 0 };
+        return None;
     }
     if !rising::rises(n, pages) {
-        return Reach { ok: false, next: 0 };
+        return None;
     }
     if !counts_fit(counts, positions.len()) {
-        return Reach { ok: false, next: 0 };
+        return None;
     }
     positions_rise(counts, positions)
 }

@@ -5,7 +5,7 @@ use Prim.Native.Nat.{ℕ, zero, suc, ◌+◌, ◌*◌, ◌-◌, ◌≤◌, ◌<�
 use native.Mathlib.Numerals.{add-one}
 use native.Mathlib.Omega.{arith}
 use lib.ListN.{length, get_or, take, drop, length-append, length-take, length-drop}
-use lib.Seq.{drop-cons, drop-drop, get_or-take, get_or-drop, take_at, drop_at}
+use lib.Seq.{take_all, drop-cons, drop-drop, get_or-take, get_or-drop, take_at, drop_at}
 use Rattle.rules.specs.Program.{digits, line, lines}
 use Rattle.rules.specs.Ask.{joined}
 use Rattle.text.specs.Answers.{cut, answers_in, Counted}
@@ -28,13 +28,22 @@ unfolding ending
 ending_none [] = refl
 ending_none (n ∷ ns) = ending_none ns
 
-pub line_first : (ns : List ℕ) → 0 < length ns → digits (get_or ns 0 0) ++ ending (drop 1 ns) ≡ line ns
+-- the numbers of a line behind the first
+abbrev pub further : List ℕ → List ℕ
+further ns = take (length ns - 1) (drop 1 ns)
+
+pub further_long : (ns : List ℕ) → length (further ns) ≡ length ns - 1
+further_long ns = rw (length-take, length-drop) (omega arith)
+
+pub line_first : (ns : List ℕ) → 0 < length ns → digits (get_or ns 0 0) ++ ending (further ns) ≡ line ns
 line_first [] h = absurd (omega arith)
-line_first (n ∷ ns) h = sym (line_cons n ns)
+line_first (n ∷ ns) h =
+    let e : take (length (n ∷ ns) - 1) ns ≡ ns = take_all (length (n ∷ ns) - 1) ns (omega arith) in
+    rw e (sym (line_cons n ns))
 
 pub first_length : (ns : List ℕ) → 0 < length ns → length (line ns)
-    ≡ length (digits (get_or ns 0 0)) + length (ending (drop 1 ns))
-first_length ns h = sym (ap length (line_first ns h)) ∙ length-append (digits (get_or ns 0 0)) (ending (drop 1 ns))
+    ≡ length (digits (get_or ns 0 0)) + length (ending (further ns))
+first_length ns h = sym (ap length (line_first ns h)) ∙ length-append (digits (get_or ns 0 0)) (ending (further ns))
 
 module _ (ns : List ℕ) where
   pub ending_at : (i : ℕ) → i < length ns → ending (drop i ns) ≡ (32 ∷ digits (get_or ns i 0)) ++ ending (drop (i + 1) ns)

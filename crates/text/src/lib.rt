@@ -11,7 +11,7 @@ use rules::Refusal;
 // The eight bytes of `refused `.
 const REFUSED: u64 = 0x7265667573656420;
 
-// Lays the decimal digits of n.
+// Lays the decimal digits of n, by hand: the library prints to writers alone, and lent bytes are none.
 pub fn put_number(text: &mut [u8], at: usize, n: u32) -> usize
     requires { at + length (digits n) ≤ length text.old }
     ensures { Put (digits n) at result text.old text.new }
@@ -31,9 +31,9 @@ pub fn put_line(text: &mut [u8], at: usize, numbers: &[u32]) -> usize
     ensures { Put (line numbers.now) at result text.old text.new }
 {
     let mut next = put_number(text, at, numbers[0]);
-    for i in 1..numbers.len() {
+    for &n in &numbers[1..] {
         text[next] = b' ';
-        next = put_number(text, next + 1, numbers[i]);
+        next = put_number(text, next + 1, n);
     }
     text[next] = b'\n';
     next + 1
@@ -45,6 +45,7 @@ pub fn put_lines(text: &mut [u8], at: usize, numbers: &[u32]) -> usize
         × (at + length (lines (answers_in numbers.now)) ≤ length text.old) }
     ensures { Put (lines (answers_in numbers.now)) at result text.old text.new }
 {
+    // A step of its own length for each answer: no iterator gives it.
     let mut next = at;
     let mut from = 0;
     while from < numbers.len() {

@@ -21,25 +21,22 @@ pub fn tried(at: Trial, next: usize, k: usize) -> Trial
 {
     if next != at.start {
         return Trial {
-            turned: at.turned,
             start: next,
             standing: 0,
-            count: at.count,
+            ..at
         };
     }
     if at.standing + 1 < k {
         return Trial {
-            turned: at.turned,
-            start: at.start,
             standing: at.standing + 1,
-            count: at.count,
+            ..at
         };
     }
     Trial {
-        turned: at.turned,
         start: at.start + 1,
         standing: 0,
         count: at.count + 1,
+        ..at
     }
 }
 
@@ -55,7 +52,6 @@ pub fn put_pair(room: &mut [u32], found: usize, page: u32, count: u32) -> usize
     if found + 2 < room.len() {
         room[found + 1] = page;
         room[found + 2] = count;
-        return found + 2;
     }
     found + 2
 }

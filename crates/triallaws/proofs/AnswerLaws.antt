@@ -16,11 +16,11 @@ use Rattle.rules.specs.Questions.{lists_in, numbered, words_in, by_phrase, terms
 use Rattle.rules.specs.Questions.{phrase_good}
 use Rattle.rules.specs.Write.{laid}
 use Rattle.cardlaws.proofs.Theorems.{accepted_term}
+use Rattle.std.specs.Prelude.{None, Some}
 use Rattle.questions.specs.Wrote.{Wrote}
 use Rattle.offsets.proofs.PairLaws.{phrase_parts, same_many}
 use Rattle.questions.proofs.GoodLaws.{words_parts}
 use Rattle.questions.proofs.PhraseLaws.{phrase_common}
-use Rattle.questions.proofs.WroteLaws.{wrote_whole, wrote_none}
 use Rattle.wordlists.specs.Opened.{OpenedPages}
 use Rattle.wordlists.proofs.LyingLaws.{word_below}
 use Rattle.openwords.specs.Slots.{Filled}
@@ -69,16 +69,16 @@ answer_is s args g ts ds is offsets =
 -- ---- in the room
 
 module _ (found room : List ℕ) where
-  pub found_none : ltb (length found) (length room) ≡ false → Wrote (numbered found) room 0 room
+  pub found_none : ltb (length found) (length room) ≡ false → Wrote (numbered found) room None room
   unfolding numbered
   found_none e =
-      wrote_none _ room room (omega (arith, ltb-false (length found) (length room) e)) refl
+      (omega (arith, ltb-false (length found) (length room) e), refl)
 
   pub found_whole : (r : ℕ) (after : List ℕ) → r ≡ length found → r < length room → after ≡ laid (0 ∷ found) room
-      → Wrote (numbered found) room (r + 1) (set after 0 r)
+      → Wrote (numbered found) room (Some (r + 1)) (set after 0 r)
   unfolding numbered laid
   found_whole r after e h l =
-      wrote_whole _ room (r + 1) (set after 0 r) (omega arith) (omega (arith, e)) (omega arith) (rw (l, e))
+      (omega (arith, e), omega arith, rw (l, e))
 
 pub laid_some : (x room : List ℕ) → 0 < length (laid (0 ∷ x) room)
 unfolding laid

@@ -7,6 +7,7 @@ use native.Mathlib.Decide.{dec_lt, ℕ_discrete}
 use native.Mathlib.Omega.{arith}
 use borrow.Author.Tests.{eq-eqb, ne_eqb, lt-ltb, le-ltb}
 use lib.ListN.{length, get_or}
+use Rattle.std.specs.Prelude.{Option, None, Some}
 use Rattle.rules.specs.ReadList.{list_u}
 use Rattle.rules.specs.ReadTerm.{positions_of}
 use Rattle.rules.specs.Index.{index_v}
@@ -103,11 +104,7 @@ module _ (s ts : List ℕ) (lead : ℕ) (pg ct ps : List ℕ) (a : Asked s ts le
           word.ready,
         )
 
-    module _ (found : ℕ) (after : List ℕ) (t : Sought s ps ws i (at.start + d) found after) where
-      -- the start of which the position tells
-      abbrev next : ℕ
-      next = found - d
-
+    module _ (sought : Option ℕ) (after : List ℕ) (t : Sought s ps ws i (at.start + d) sought after) where
       -- the words are as they were, but for where reading of the positions of this one stands
       same : (j : ℕ) → (j ≡ i → ⊥) → SameWord ws after j
       same = same_other ws i after (8 * i + 3) (8 * i + 6) (omega arith) (omega arith) t.kept
@@ -167,24 +164,33 @@ module _ (s ts : List ℕ) (lead : ℕ) (pg ct ps : List ℕ) (a : Asked s ts le
 
       -- ---- a start that the word allows
 
-      module _ (some : found ≡ 2 ^ 32 → ⊥) where
+      module _ (found : ℕ) (some : sought ≡ Some found) where
+        -- the start of which the position tells
+        abbrev next : ℕ
+        next = found - d
+
+        -- the position, and that none is before it
+        there : (at.start + d ≤ found) × (found < limit) × (member found (page_at s ps after i) ≡ true)
+            × ((b : ℕ) → at.start + d ≤ b → b < found → member b (page_at s ps after i) ≡ false)
+        there = rw some at t.first
+
         -- it is not before the one that was tried, and within the limit
         next_there : (next + d ≡ found) × (at.start ≤ next) × (next < limit)
         next_there =
-            let f = t.found some in
+            let f = there in
             (omega (arith, f.0), omega (arith, f.0), omega (arith, f.1))
 
         -- none lies before it
         later : starts_below phrase p next ≡ starts_below phrase p at.start
         later =
             below_skip phrase p at.start next next_there.1
-            (λ b l h. no_start b (t.first some (b + d) (omega arith) (omega (arith, next_there.0))))
+            (λ b l h. no_start b (there.3 (b + d) (omega arith) (omega (arith, next_there.0))))
 
         -- the word stands at the start that was tried
         stands_there : next ≡ at.start → member (at.start + d) (positions_here s ts p i) ≡ true
         stands_there e =
             let f : found ≡ at.start + d = omega (arith, next_there.0) in
-            rw (f, here) at (t.found some).2
+            rw (f, here) at there.2
 
         -- so do those that were tried before it
         all_stand : next ≡ at.start → (j : ℕ) → j < k → slot_of lead j < at.standing + 1
@@ -256,10 +262,11 @@ module _ (s ts : List ℕ) (lead : ℕ) (pg ct ps : List ℕ) (a : Asked s ts le
 
       -- ---- the end
 
-      module _ (q : Query) (o : OnAll s ts pg q p) (first : get_or ds 0 0 ≡ 0) (none : found ≡ 2 ^ 32) where
+      module _ (q : Query) (o : OnAll s ts pg q p) (first : get_or ds 0 0 ≡ 0) (none : sought ≡ None) where
         none_later : (n : ℕ) → at.start ≤ n → starts_below phrase p n ≡ at.count
         none_later n l =
-            below_skip phrase p at.start n l (λ b g h. no_start b (t.none none (b + d) (omega arith)))
+            let lacks : (b : ℕ) → at.start + d ≤ b → member b (page_at s ps after i) ≡ false = rw none at t.first in
+            below_skip phrase p at.start n l (λ b g h. no_start b (lacks (b + d) (omega arith)))
             ∙ sym y.counted
 
         -- the starts before it are all

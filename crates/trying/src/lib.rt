@@ -2,7 +2,6 @@
 #![tactic(auto)]
 
 ghost use Rattle.std.specs.Prelude.{◌≡◌, ◌-◌, ◌<◌};
-ghost use Rattle.bytetable.specs.Places.{PlacesOfOnes};
 ghost use Rattle.triallaws.specs.Asked.{pages_in, AskedIn, OnAll, TryingIn};
 
 use bytetable::Table;
@@ -23,7 +22,7 @@ pub fn turn_next(
 ) -> Trial
     requires { AskedIn card.now terms.now lists.now
         × OnAll card.now terms.now (pages_in lists.now) turn.q (turn.mark - 1)
-        × TryingIn card.now terms.now lists.now (turn.mark - 1) at words.old × PlacesOfOnes table.now }
+        × TryingIn card.now terms.now lists.now (turn.mark - 1) at words.old }
     ensures { TryingIn card.now terms.now lists.now (turn.mark - 1) result
         words.new × (result.standing < result.turned) × (result.start ≡ at.start) × (result.standing ≡ at.standing) }
 {
@@ -39,8 +38,6 @@ pub fn turn_next(
     turning::turn_to(table, card, &lists[POSITIONS..LEAD], i, x, words);
     Trial {
         turned: at.turned + 1,
-        start: at.start,
-        standing: at.standing,
-        count: at.count,
+        ..at
     }
 }

@@ -3,7 +3,6 @@
 #![tactic(auto)]
 
 ghost use Rattle.std.specs.Prelude.{◌≡◌, ◌+◌, ◌*◌, ◌≤◌, ◌<◌, length};
-ghost use Rattle.bytetable.specs.Places.{PlacesOfOnes};
 ghost use Rattle.querylaws.specs.Lists.{number_of, part_at};
 ghost use Rattle.turning.specs.Words.{elements_at, walk_at, with_walk, position_walk, ranks_of};
 ghost use Rattle.turning.specs.Words.{BlockAt, Readable, Walked, TurnedOn};
@@ -72,7 +71,7 @@ pub fn ranks_at(
     words: &mut [usize],
 ) -> Ranks
     requires { Readable card.now counts.now words.old i (8 * i) × ((walk_at words.old (8 * i)).next ≤ rank)
-        × (rank < number_of counts.now i 7) × PlacesOfOnes table.now }
+        × (rank < number_of counts.now i 7) }
     ensures { (result ≡ ranks_of (elements_at card.now counts.now i) rank)
         × Walked card.now counts.now words.old i (8 * i) (rank + 1)
         words.new }
@@ -91,8 +90,7 @@ pub fn ranks_at(
 // Turns word i to the page of those positions: puts its span, and stands before them.
 pub fn turn_to(table: &Table, card: &[u8], shapes: &[u32], i: usize, x: Ranks, words: &mut [usize])
     requires { Readable card.now shapes.now words.old i (8 * i + 3)
-        × ((position_walk words.old i).next ≤ x.from) × (x.from ≤ number_of shapes.now i 7)
-        × PlacesOfOnes table.now }
+        × ((position_walk words.old i).next ≤ x.from) × (x.from ≤ number_of shapes.now i 7) }
     ensures { TurnedOn card.now shapes.now words.old i x
         words.new }
 {

@@ -4,11 +4,11 @@
 --   capped x           x, or limit + 1 where that is less
 --   fall_at ps i        1 where element i does not rise above the one before it, else 0; the first has none before it
 --   falls_in ps i k     how many of the k elements from number i on do not rise
---   Reached v e r      r says whether v, and if so it is e, capped
-use Rattle.std.specs.Prelude.{Bool, true, cond, ◌&&◌, ◌≡◌, List, ℕ, zero, suc, ◌+◌, min, leb, eqb, get_or}
+--   Reached v e r      r is e, capped, where v, and else there is none
+use Rattle.std.specs.Prelude.{Bool, cond, ◌&&◌, ◌≡◌, List, Option, ℕ, zero, suc, ◌+◌, min, leb, eqb, get_or}
+use Rattle.std.specs.Bool.{then_some}
 use Rattle.rules.specs.Limits.{limit}
 use Rattle.rules.specs.Term.{total, positive}
-use Rattle.wordlaws.specs.declared.Reach.{Reach}
 
 unfoldable pub summing : ℕ → List ℕ → Bool
 summing n cs = positive cs && eqb (total cs) n
@@ -24,6 +24,5 @@ unfoldable pub falls_in : List ℕ → ℕ → ℕ → ℕ
 falls_in ps i zero = 0
 falls_in ps i (suc k) = fall_at ps i + falls_in ps (suc i) k
 
-pub record Reached (v : Bool) (e : ℕ) (r : Reach) : Type 0 where
-  pub says : r.ok ≡ v
-  pub ends : r.ok ≡ true → r.next ≡ capped e
+abbrev pub Reached : Bool → ℕ → Option ℕ → Type 0
+Reached v e r = r ≡ then_some v (capped e)

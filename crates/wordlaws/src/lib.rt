@@ -3,13 +3,6 @@
 
 use shape::Shape;
 
-// Whether positions are in order, and if so the first number past their last.
-#[derive(Clone, Copy)]
-pub struct Reach {
-    pub ok: bool,
-    pub next: usize,
-}
-
 // The page that a stretch of positions starts on: its number, and how many of the stretch come before its end.
 #[derive(Clone, Copy)]
 pub struct Turn {

@@ -34,26 +34,24 @@ pub fn list_in(card: &[u8], at: usize, k: usize) -> ByteRange
 }
 
 // Puts the places of the words' lists number k, two numbers each.
-fn place_lists(card: &[u8], terms: &[u32], starts: &[usize], k: usize, places: &mut [u32])
+fn place_lists(card: &[u8], terms: &[u32], starts: &[usize; 8], k: usize, places: &mut [u32; 16])
     requires { (index_refusal card.now ≡ Accepted) × (words_good (index_t card.now) terms.now ≡ true) × (k < 3)
-        × (length places.old ≡ 16) × (length starts.now ≡ 8) × Found card.now terms.now starts.now }
+        × Found card.now terms.now starts.now }
     ensures { AllLying card.now terms.now k (length terms.now)
         places.new }
 {
-    let mut i = 0;
-    while i < terms.len() {
+    for i in 0..terms.len() {
         let place = list_in(card, starts[i], k);
         places[2 * i] = place.from as u32;
         places[2 * i + 1] = place.to as u32;
-        i += 1;
     }
 }
 
 // Opens the pages of words whose terms are found side by side, the shortest list first and the others in their order;
 // returns the number of the word whose list leads.
-pub fn open_found(card: &[u8], terms: &[u32], starts: &[usize], shapes: &mut [u32]) -> usize
+pub fn open_found(card: &[u8], terms: &[u32], starts: &[usize; 8], shapes: &mut [u32]) -> usize
     requires { (index_refusal card.now ≡ Accepted) × (words_good (index_t card.now) terms.now ≡ true)
-        × (length shapes.old ≡ 64) × (length starts.now ≡ 8) × Found card.now terms.now starts.now }
+        × (length shapes.old ≡ 64) × Found card.now terms.now starts.now }
     ensures { (result ≡ lead_of (lists_in card.now terms.now))
         × OpenedPages card.now terms.now shapes.new }
 {

@@ -78,14 +78,11 @@ pub fn write_term(
     if LIMIT < n as usize {
         return Err(Refusal::Limit);
     }
-    let word = testword::check_word(n as usize, pages, counts, positions);
-    if !word.ok {
+    let Some(reach) = testword::check_word(n as usize, pages, counts, positions) else {
         return Err(Refusal::Lists);
-    }
-    if LIMIT < word.next {
+    };
+    if LIMIT < reach {
         return Err(Refusal::Limit);
     }
-    write_tested(
-        version, n as usize, word.next, pages, counts, positions, room,
-    )
+    write_tested(version, n as usize, reach, pages, counts, positions, room)
 }

@@ -93,12 +93,12 @@ pub add_all-requires : goal.add_all-requires
 add_all-requires c =
     let n = c in
     let l = n in
-    let s = entry l.before.before.before.before.before.before.before.before.before.before.before in (
+    let s = entry l.before.before.before.before.before.before.before.before.before.before in (
       fitting_kept s.args.g s.args.block.now s.requires.0 l.loop-at.block l.loop-at.invariant.0,
       rw length-take (omega (arith, s.requires.1, n.next_places-next.ensures.done)),
-      stretch_rises s.args.g.u l.loop-at.at.done (count n.before.before.before.before.before.before.before) (els s)
-          (laid n.before.before.before.before.before.before.before) (placing s).rises
-          (laid_is n.before.before.before.before.before.before.before),
+      stretch_rises s.args.g.u l.loop-at.at.done (count n.before.before.before.before.before.before) (els s)
+          (laid n.before.before.before.before.before.before) (placing s).rises
+          (laid_is n.before.before.before.before.before.before),
     )
 
 pub loop-at-preserved : goal.loop-at-preserved
@@ -106,17 +106,17 @@ loop-at-preserved c =
     let y = c in
     let n = y in
     let l = n in
-    let s = entry l.before.before.before.before.before.before.before.before.before.before.before.before.before.before in
+    let s = entry l.before.before.before.before.before.before.before.before.before.before.before.before.before in
     let a = s.args in
     let i = l.loop-at.at.done in
-    let e : i + count n.before.before.before.before.before.before.before.before.before.before ≡
+    let e : i + count n.before.before.before.before.before.before.before.before.before ≡
     n.next_places-next.result.done = omega (arith, n.next_places-next.ensures.done) in (
       omega arith,
       n.next_places-next.ensures.spot a.start a.g.u l.loop-at.invariant.1,
       y.add_all.ensures
-          ∙ stretch_added a.g.u i (count n.before.before.before.before.before.before.before.before.before.before)
-          (els s) (laid n.before.before.before.before.before.before.before.before.before.before) (placing s).rises
-          (laid_is n.before.before.before.before.before.before.before.before.before.before) a.g.n a.from
+          ∙ stretch_added a.g.u i (count n.before.before.before.before.before.before.before.before.before)
+          (els s) (laid n.before.before.before.before.before.before.before.before.before) (placing s).rises
+          (laid_is n.before.before.before.before.before.before.before.before.before) a.g.n a.from
           a.block.now l.loop-at.block (omega (arith, els_long s)) (fits s) l.loop-at.invariant.2
           ∙ ap (λ (j : ℕ). added a.g.u a.g.n a.from (take j (els s)) a.block.now) e,
     )
@@ -129,9 +129,6 @@ returns c =
     l.loop-at.invariant.2
     ∙ ap (λ (xs : List ℕ). added a.g.u a.g.n a.from xs a.block.now)
     (take_all l.loop-at.at.done (els s) (omega (arith, els_long s)))
-
-pub slice_bounds-next_places-end : goal.slice_bounds-next_places-end
-slice_bounds-next_places-end c = refl
 
 pub overflow_sub-k : goal.overflow_sub-k
 overflow_sub-k c = omega (arith, c.next_places-next.ensures.done)
@@ -147,7 +144,7 @@ slice_bounds-add_all-start c = omega arith
 
 pub slice_bounds-add_all-end : goal.slice_bounds-add_all-end
 slice_bounds-add_all-end c = let p = c in
-    omega (arith, p.part-in-loop-at-1.given, p.next_places-next.ensures.done)
+    omega (arith, p.next_places-next.ensures.done)
 
 pub loop-at-smaller : goal.loop-at-smaller
 loop-at-smaller c = let y = c in

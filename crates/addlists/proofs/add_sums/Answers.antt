@@ -58,7 +58,6 @@ pub next_sums-next-requires : goal.next_sums-next-requires
 next_sums-next-requires c =
     let l = c in
     let s = l in (
-      refl,
       l.loop-at.invariant.1.within,
       omega (arith, s.requires.1, s.requires.0.below, s.requires.0.within),
       s.requires.2,
@@ -81,11 +80,11 @@ add_all-requires c =
     let k = c in
     let l = k in
     let i = l.loop-at.at.done in
-    let s = entry l.before.before.before.before.before.before.before.before.before.before.before in (
+    let s = entry l.before.before.before.before.before.before.before.before.before.before in (
       fitting_kept s.args.g s.args.block.now s.requires.0 l.loop-at.block l.loop-at.invariant.0,
       rw length-take (omega (arith, s.requires.1, k.next_sums-next.ensures.done)),
       stretch_rises s.args.g.u i 256 (els s) (take (k.next_sums-next.result.done - i - 0) k.next_sums-next.new.part)
-          (els_rise s) (part_is k.before.before.before.before.before.before.before),
+          (els_rise s) (part_is k.before.before.before.before.before.before),
     )
 
 pub loop-at-preserved : goal.loop-at-preserved
@@ -96,14 +95,14 @@ loop-at-preserved c =
     let l = k in
     let t = l.loop-at.at in
     let h = l.loop-at.invariant.1 in
-    let s = entry l.before.before.before.before.before.before.before.before.before.before.before.before.before.before in
+    let s = entry l.before.before.before.before.before.before.before.before.before.before.before.before.before in
     let a = s.args in
     let cs = a.counts.now in (
       omega arith,
       tally_next a.before cs t h n.result n.new.part n.ensures,
       y.add_all.ensures
           ∙ stretch_added a.g.u t.done 256 (els s) (take (n.result.done - t.done - 0) n.new.part)
-          (els_rise s) (part_is k.before.before.before.before.before.before.before.before.before.before) a.g.n a.from
+          (els_rise s) (part_is k.before.before.before.before.before.before.before.before.before) a.g.n a.from
           a.block.now l.loop-at.block
           (omega (arith, h.within, length_sums a.before cs)) (fits s) l.loop-at.invariant.2
           ∙ ap (λ (xs : List ℕ). added a.g.u a.g.n a.from xs a.block.now)
@@ -117,9 +116,6 @@ returns c =
     l.loop-at.invariant.2
     ∙ ap (λ (xs : List ℕ). added a.g.u a.g.n a.from xs a.block.now)
     (sums_all a.before a.counts.now l.loop-at.at.done (omega arith))
-
-pub slice_bounds-next_sums-end : goal.slice_bounds-next_sums-end
-slice_bounds-next_sums-end c = refl
 
 pub overflow_sub-k : goal.overflow_sub-k
 overflow_sub-k c = omega (arith, c.next_sums-next.ensures.done)

@@ -24,7 +24,7 @@ slice_bounds-put_starts-end c =
 pub put_starts-requires : goal.put_starts-requires
 put_starts-requires c =
     let t = c in
-    (opened_asked _ _ t.requires.1 _ _ _ t.open_phrase-k.ensures, t.requires.2)
+    opened_asked _ _ t.requires.1 _ _ _ t.open_phrase-k.ensures
 
 pub returns : goal.returns
 returns c =

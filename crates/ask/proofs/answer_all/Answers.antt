@@ -2,9 +2,8 @@
 use mathlib.Core.Path.{refl}
 use Prim.Native.Nat.{◌-◌, ◌≤◌}
 use native.Mathlib.Omega.{arith}
-use borrow.Rule.Slice.PartMut.{put_mid}
 use lib.ListN.{length}
-use Rattle.replies.specs.Running.{Turned}
+use Rattle.std.specs.Prelude.{None, Some}
 use Rattle.replies.proofs.TurnLaws.{turn_inside, turn_good, turned}
 use Rattle.ask.proofs.answer_all.Lts
 use Rattle.ask.proofs.answer_all.Reads
@@ -13,9 +12,6 @@ use Rattle.ask.proofs.answer_all.Goals as goal
 
 abbrev After-end_of-to : Type 0
 After-end_of-to = Lts.After-end_of Tie.the-claims Reads.Pre Reads.Post goal.the-invariant-loop-run goal.the-decreases-loop-run
-
-abbrev After-answer_one-size : Type 0
-After-answer_one-size = Lts.After-answer_one Tie.the-claims Reads.Pre Reads.Post goal.the-invariant-loop-run goal.the-decreases-loop-run
 
 pub loop-run-init : goal.loop-run-init
 loop-run-init c =
@@ -62,8 +58,8 @@ slice_bounds-answer_one-count-in-loop-run c = omega (arith, c.loop-run.invariant
 pub slice_bounds-answer_one-start-in-loop-run : goal.slice_bounds-answer_one-start-in-loop-run
 slice_bounds-answer_one-start-in-loop-run c = omega (arith, c.loop-run.invariant.fits)
 
-pub answer_one-size-requires : goal.answer_one-size-requires
-answer_one-size-requires c =
+pub answer_one-answered-requires : goal.answer_one-answered-requires
+answer_one-answered-requires c =
     let e = c in
     let at = e.loop-run in
     let b = e in
@@ -71,48 +67,23 @@ answer_one-size-requires c =
       b.requires.0,
       turn_good a.card.now a.questions.now a.room.now at.room at.run.at at.run.answered
           at.run.used at.invariant e.end_of-to.result e.loop-run-test.true e.end_of-to.ensures.0,
-      b.requires.2,
     )
 
--- what the turn brings
-turn : (c : After-answer_one-size) →
-    let at = c in
-    let a = at.args in
-    let u = at.loop-run.run.used in
-    Turned a.card.now a.questions.now a.room.now at.loop-run.run.answered u
-    c.end_of-to.result c.answer_one-size.result
-    (put_mid u (length at.loop-run.room - u) at.loop-run.room c.answer_one-size.new.room)
-turn c =
-    let e = c in
-    let at = e.loop-run in
-    let a = e.args in
-    let one = c.answer_one-size in
-    turned a.card.now a.questions.now a.room.now at.room at.run.at at.run.answered at.run.used
-    at.invariant e.end_of-to.result e.loop-run-test.true e.end_of-to.ensures.0 one.result
-    one.new.room one.ensures
-
-pub shape_of-room-then-size-eq0 : goal.shape_of-room-then-size-eq0
-shape_of-room-then-size-eq0 c = (turn c.before.before.before.before.before).same
-
-pub returns-then-size-eq0 : goal.returns-then-size-eq0
-returns-then-size-eq0 c = c.stopped.ensures _ _ _ _ _ _ (turn c.before.before.before.before.before) c.if-size-eq0.true
-
-pub further-run-requires : goal.further-run-requires
-further-run-requires c =
-    let t = turn c.before.before.before.before in
-    let on = t.on (omega (arith, c.if-size-eq0.false)) in (
-      omega (arith, on.few, inside c.before.before.before.before.before.before.before.before),
-      omega (arith, on.fits, t.same),
-    )
-
-pub loop-run-smaller : goal.loop-run-smaller
-loop-run-smaller c =
-    let e = c in
-    omega (arith, c.further-run.ensures.behind, e.end_of-to.ensures.0, e.loop-run-test.true)
+pub returns-in_default : goal.returns-in_default
+returns-in_default c =
+    let at = c.loop-run in
+    let a = c.args in
+    c.stopped.ensures _ _ _ _ _
+    (turned a.card.now a.questions.now a.room.now at.room at.run.at at.run.answered at.run.used at.invariant _
+    c.loop-run-test.true c.end_of-to.ensures.0 _ None c.in_default.ensures)
 
 pub loop-run-preserved : goal.loop-run-preserved
 loop-run-preserved c =
-    c.further-run.ensures.under _ _ _ _ (turn c.before.before.before.before.before) (omega (arith, c.if-size-eq0.false))
+    let at = c.loop-run in
+    let a = c.args in
+    c.further-run.ensures.under _ _ _ _
+    (turned a.card.now a.questions.now a.room.now at.room at.run.at at.run.answered at.run.used at.invariant _
+    c.loop-run-test.true c.end_of-to.ensures.0 _ (Some c.in-Some.size) c.in-Some.ensures)
 
 pub shape_of-room : goal.shape_of-room
 shape_of-room c = c.loop-run.invariant.same

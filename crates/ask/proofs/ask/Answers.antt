@@ -49,7 +49,6 @@ answer_all-requires c =
     let w = asked_well a.card.now a.questions.now c.read_u16-t.result c.read_u16-t.ensures.0 in (
       accepted_true _ (good (goal.at.answer_all-requires c).Else-is_err),
       sym w ∙ sym c.well_formed-2.ensures ∙ c.if-not-well_formed.false,
-      c.places-table.ensures,
     )
 
 pub returns : goal.returns

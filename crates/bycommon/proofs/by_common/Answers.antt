@@ -4,7 +4,6 @@ use native.Mathlib.Omega.{arith}
 use lib.ListN.{length}
 use Rattle.querylaws.specs.Listings.{whole_in}
 use Rattle.wordlists.specs.Opened.{OpenedPages}
-use Rattle.questions.proofs.WroteLaws.{wrote_none}
 use Rattle.openlists.proofs.FewLaws.{whole_few}
 use Rattle.bycommon.proofs.TallyLaws.{opened_answer, length_tallied}
 use Rattle.bycommon.proofs.by_common.Lts
@@ -36,7 +35,6 @@ put_common-requires c =
     let w = whole_few a.card.now r (length a.terms.now) (opened p.before.before.before.before.before.before.before).lists in (
       (opened p.before.before.before.before.before.before.before).lists,
       omega (arith, c.number.ensures, c.if-number-room.true),
-      p.requires.2,
     )
 
 pub returns-then-number-room : goal.returns-then-number-room
@@ -61,8 +59,7 @@ returns-then-room-counted c =
     let r = p.open_pages.new.shapes in
     let l = length_tallied (whole_in a.card.now r (length a.terms.now)) in
     rw (← opened_answer a.card.now a.terms.now r (opened p.before.before.before.before.before.before.before.before.before.before.before))
-    (wrote_none _ _ _ (omega (arith, c.list_common-counted.ensures.0.found, c.if-room-counted.true))
-    refl)
+    (omega (arith, c.list_common-counted.ensures.0.found, c.if-room-counted.true), refl)
 
 pub put_common-requires-2 : goal.put_common-requires-2
 put_common-requires-2 c =
@@ -75,7 +72,6 @@ put_common-requires-2 c =
         c.list_common-counted.ensures.0.found,
         c.if-room-counted.false,
       ),
-      p.requires.2,
     )
 
 pub returns : goal.returns

@@ -15,8 +15,7 @@ place_of-found-requires c =
     let a = start.args in
     let s = a.block.now in
     let l = c.last_number in
-    let t = form_sought (form_at s) s a.g start.requires.0 l.result a.rank l.ensures start.requires.1 in
-    (t.0, t.1, start.requires.2)
+    form_sought (form_at s) s a.g start.requires.0 l.result a.rank l.ensures start.requires.1
 
 pub returns-then-g-eq-BITMAP : goal.returns-then-g-eq-BITMAP
 returns-then-g-eq-BITMAP c =

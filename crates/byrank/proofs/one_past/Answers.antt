@@ -20,21 +20,21 @@ abbrev After-loop-left : Type 0
 After-loop-left = Lts.Else1 Tie.the-claims Reads.Pre Reads.Post goal.the-invariant-loop-left goal.the-decreases-loop-left
 
 pub overflow_sub-left : goal.overflow_sub-left
-overflow_sub-left c = c.requires.0.ahead
+overflow_sub-left c = c.requires.ahead
 
 pub run_word-requires : goal.run_word-requires
 run_word-requires c =
     let a = c.args in
-    omega (arith, start_word a.run.now a.start a.before a.rank c.requires.0)
+    omega (arith, start_word a.run.now a.start a.before a.rank c.requires)
 
 pub loop-left-init : goal.loop-left-init
 loop-left-init c =
     let word = c in
     let start = word in
     let a = start.args in
-    let e : a.rank - (a.rank - a.before) ≡ a.before = omega (arith, start.requires.0.ahead) in (
+    let e : a.rank - (a.rank - a.before) ≡ a.before = omega (arith, start.requires.ahead) in (
       omega arith,
-      rw e (onward_start a.run.now a.start a.before a.rank start.requires.0 word.run_word.result
+      rw e (onward_start a.run.now a.start a.before a.rank start.requires word.run_word.result
           c.from_bit-x.result word.run_word.ensures (omega arith) c.from_bit-x.ensures
           (omega arith)),
       c.running_counts-counts.ensures,
@@ -54,7 +54,7 @@ left c =
       omega (arith, t),
       omega (arith, t),
       onward_next a.run.now at.k at.x (a.rank - at.left) a.rank at.invariant.1
-          (omega (arith, at.invariant.0)) start.requires.0.some,
+          (omega (arith, at.invariant.0)) start.requires.some,
     )
 
 pub overflow_sub-left-in-loop-left : goal.overflow_sub-left-in-loop-left
@@ -92,7 +92,7 @@ here c =
 pub overflow_mul-result : goal.overflow_mul-result
 overflow_mul-result c =
     let start = c in
-    record { fits = omega (arith, c.loop-left.invariant.1.inside, start.requires.0.short) }
+    record { fits = omega (arith, c.loop-left.invariant.1.inside, start.requires.short) }
 
 pub overflow_cast-left : goal.overflow_cast-left
 overflow_cast-left c =
@@ -101,13 +101,13 @@ overflow_cast-left c =
 
 pub select_by-requires : goal.select_by-requires
 select_by-requires c =
-    (c.loop-left.invariant.2, here c.before, c.requires.1)
+    (c.loop-left.invariant.2, here c.before)
 
 pub overflow_add-result : goal.overflow_add-result
 overflow_add-result c =
     let start = c in
     let within = c.loop-left.invariant.1.inside in
-    record { fits = omega (arith, within, start.requires.0.short, c.select_by.ensures.1) }
+    record { fits = omega (arith, within, start.requires.short, c.select_by.ensures.1) }
 
 pub returns : goal.returns
 returns c =

@@ -37,9 +37,8 @@ place_of-requires c =
     let a = start.args in
     let s = a.block.now in
     let l = c.last_number in
-    let t = form_sought (form_at s) s a.g (runs_open s a.g start.requires.0) l.result a.rank l.ensures
-    start.requires.1 in
-    (t.0, t.1, start.requires.4)
+    form_sought (form_at s) s a.g (runs_open s a.g start.requires.0) l.result a.rank l.ensures
+    start.requires.1
 
 -- the upper run is the rest of the block
 rest : (c : After-upper_of)
@@ -52,11 +51,9 @@ one_past-requires c =
     let start = c in
     let a = start.args in
     let s = a.block.now in
-    let p = start.requires in (
-      run_ahead s a.g.upper a.g.n (form_run s a.g (reads start.before.before.before.before)) c.upper_of.result.now (rest c.before)
-          a.start a.before a.rank p.2 p.3 p.1,
-      p.4,
-    )
+    let p = start.requires in
+    run_ahead s a.g.upper a.g.n (form_run s a.g (reads start.before.before.before.before)) c.upper_of.result.now (rest c.before)
+    a.start a.before a.rank p.2 p.3 p.1
 
 pub returns : goal.returns
 returns c =

@@ -18,11 +18,9 @@ pub one_past-requires : goal.one_past-requires
 unfolding ones_below
 one_past-requires c =
     let start = c in
-    let a = start.args in (
-      run_ahead a.block.now a.upper a.n start.requires.1.run _ refl 0 0 a.rank refl (omega arith)
-          start.requires.0.below,
-      start.requires.2,
-    )
+    let a = start.args in
+    run_ahead a.block.now a.upper a.n start.requires.1.run _ refl 0 0 a.rank refl (omega arith)
+    start.requires.0.below
 
 pub returns-then-last-eq0 : goal.returns-then-last-eq0
 returns-then-last-eq0 c =
@@ -67,13 +65,11 @@ one_past-requires-2 c =
     let i : ℕ = found.number_before-i.result in
     let zeros : ℕ = found.zeros_per-zeros.result in
     let last = found.number_before-i.ensures in
-    let k = known found.before.before.before.before.before in (
-      rw (c.led_to-start.ensures, c.number_in-v.ensures)
-          (run_ahead s a.upper a.n k.1.run _ refl (jump_from zeros (number_at s i) i)
-          (number_at s i - zeros * i) a.rank (k.1.ones_before i last.ends.within)
-          (omega (arith, last.before)) k.0.below),
-      start.requires.2,
-    )
+    let k = known found.before.before.before.before.before in
+    rw (c.led_to-start.ensures, c.number_in-v.ensures)
+    (run_ahead s a.upper a.n k.1.run _ refl (jump_from zeros (number_at s i) i)
+    (number_at s i - zeros * i) a.rank (k.1.ones_before i last.ends.within)
+    (omega (arith, last.before)) k.0.below)
 
 pub returns : goal.returns
 returns c =

@@ -13,18 +13,16 @@ use Rattle.filling.proofs.begin.Goals as goal
 
 pub put_header-requires : goal.put_header-requires
 put_header-requires c =
-    let s = c in
-    omega (arith, header_fits s.args.g s.args.room.now s.requires, s.requires.room)
+    omega (arith, header_fits c.args.g c.args.room.now c.requires, c.requires.room)
 
 pub returns : goal.returns
 returns c =
-    let h = c in
-    let s = h in
-    let g = s.args.g in
-    let d : List ℕ = s.args.room.now in
+    let g = c.args.g in
+    let d : List ℕ = c.args.room.now in
     let s1 : List ℕ = sets d 0 (be 4 g.end) in
     let s2 : List ℕ = sets s1 4 (version ∷ []) in
     let s3 : List ℕ = sets s2 5 (be 4 g.u) in
-    partly_none g d h.put_header.new.room
-    (framed_none g d s.requires s1 s2 s3 h.put_header.new.room refl refl refl
-    (h.put_header.ensures two_runs s.requires.shape))
+    let z = c.default.ensures in
+    let p = c.put_header in
+    rw (z.0, z.1.0, z.1.1) (partly_none g d p.new.room
+    (framed_none g d c.requires s1 s2 s3 p.new.room refl refl refl (p.ensures two_runs c.requires.shape)))

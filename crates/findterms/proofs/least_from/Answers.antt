@@ -1,52 +1,25 @@
--- `least_from` goes through the terms. The loop's invariant: what it has is the least of those passed.
+-- `least_from` takes the least of those terms that are at or above t.
 use mathlib.Core.Path.{◌≡◌}
-use Prim.Native.Nat.{◌-◌}
-use native.Mathlib.Omega.{arith}
-use lib.ListN.{length}
-use Rattle.findlaws.proofs.StartLaws.{least_taken, least_kept}
+use Prim.Native.Nat.{min}
+use lib.Dec.{leb}
+use borrow.Author.Tests.{tests}
+use Rattle.std.proofs.Common.{rules}
+use Rattle.std.proofs.lemmas.Iterator.{YieldsList-from_slice, YieldsList-from_map}
+use Rattle.std.proofs.lemmas.Iterator.Consumers.{YieldsList-at, YieldsList-from_filter, min_from_yields_List}
+use Rattle.std.proofs.lemmas.Iterator.Adapters.{option_map_id}
+use Rattle.std.proofs.lemmas.List.{map-id}
+use Rattle.std.specs.List.{filter, reduce}
+use Rattle.findlaws.proofs.StartLaws.{least_filtered}
 use Rattle.findterms.proofs.least_from.Goals as goal
-use Rattle.findterms.proofs.least_from.Goals.{then-t-term+then-term-least, else-t-term, else-t-term-via-then-t-term+else-term-least, else-t-term-via-else-t-term}
-
-pub loop-i-init : goal.loop-i-init
-loop-i-init c = (
-  omega arith,
-  record {
-    onward = c.requires;
-    within = omega arith;
-    least = λ i h. absurd (omega arith);
-    among = λ h. absurd (omega arith);
-  },
-)
-
-pub overflow_cast-term : goal.overflow_cast-term
-overflow_cast-term c = omega (arith, c.shared_slice_known-1.given c.loop-i.i)
-
-pub loop-i-preserved : goal.loop-i-preserved
-loop-i-preserved c =
-    let l = c.loop-i in
-    let a = c.args in (
-      omega arith,
-      elim c.if-t-term.branch [
-        | then-t-term+then-term-least e ↦ rw e.least-is (least_taken a.terms.now l.i a.t l.least l.invariant.1
-            e.if-t-term.true e.if-term-least.true)
-        | else-t-term e ↦
-            rw e.least-is (least_kept a.terms.now l.i a.t l.least l.invariant.1
-            (λ h. elim e.else-t-term.branch [
-              | else-t-term-via-then-t-term+else-term-least w ↦ w.if-term-least.false
-              | else-t-term-via-else-t-term w ↦ absurd (omega (arith, w.if-t-term.false))
-            ]))
-      ],
-    )
 
 pub returns : goal.returns
 returns c =
-    let l = c.loop-i in
-    let a = c.args in
-    let e : l.i ≡ length a.terms.now = omega arith in
-    rw e at l.invariant.1
-
-pub overflow_add-i : goal.overflow_add-i
-overflow_add-i c = omega arith
-
-pub loop-i-smaller : goal.loop-i-smaller
-loop-i-smaller c = omega arith
+    let all = c.args.terms.now in
+    let t = c.args.t in
+    let least = min_from_yields_List c.filter.result c.min.result c.min.ensures.ran
+    (YieldsList-from_filter _ (leb t)
+    (YieldsList-at c.filter.ensures.source
+    (YieldsList-from_map _ (λ x. x) (YieldsList-from_slice all cc) c.map.ensures.closure (λ x r q k. search rules)))
+    c.filter.ensures.closure (λ x r q k. search (rules, tests))) in
+    let e : c.min.result ≡ reduce min (filter (leb t) all) = rw (option_map_id, map-id) at least in
+    rw e (least_filtered t all)

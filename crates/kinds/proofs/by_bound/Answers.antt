@@ -31,7 +31,6 @@ batch-turn-requires c =
       rw c.new.ensures (new_running o.pages_in-pages.result.now o.open_alone-shapes.result 1
           o.open_alone-shapes.ensures.lists _),
       omega arith,
-      o.requires.2,
     )
 
 -- what is known of the one list, seen from behind the search

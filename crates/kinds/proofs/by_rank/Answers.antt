@@ -4,10 +4,8 @@ use Rattle.kinds.proofs.by_rank.Goals as goal
 
 pub put_ranked-requires : goal.put_ranked-requires
 put_ranked-requires c =
-    let a = c in (
-      rw c.pages_in.ensures (pages_valid a.args.card.now a.args.t a.requires.0 a.requires.1),
-      a.requires.2,
-    )
+    let a = c in
+    rw c.pages_in.ensures (pages_valid a.args.card.now a.args.t a.requires.0 a.requires.1)
 
 pub returns : goal.returns
 returns c =

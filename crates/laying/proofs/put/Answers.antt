@@ -102,7 +102,7 @@ laid_more : (c : After-struct_known-4-1) (xs before : List ℕ)
         acc = w.put_words-word.result + 2 ^ (place % 64);
         words = place / 64;
         next = a.x / 2 ^ a.g.w / 256 + 1;
-        stop = c.lesser-stop.result;
+        stop = c.min-stop.result;
       };
     })
     before w.put_words-word.new.room
@@ -113,8 +113,8 @@ laid_more c xs before p m =
     let a = l.args in
     partly_more a.g xs a.f before a.room.now p a.x m
     l.put_low-lows.result l.put_low-lows.new.room q.put_pointers-next.new.room w.put_words-word.new.room w.put_words-word.result
-    c.lesser-stop.result
-    (omega (arith, c.lesser-stop.ensures)) (omega (arith, c.lesser-stop.ensures, q.put_pointers-next.ensures.0))
+    c.min-stop.result
+    (omega (arith, c.min-stop.ensures)) (omega (arith, c.min-stop.ensures, q.put_pointers-next.ensures.0))
     l.put_low-lows.ensures
     (subst (λ n. Stored 4 9 (λ k. 256 * k + a.f.count) a.f.ups.next n l.put_low-lows.new.room
     q.put_pointers-next.new.room) q.put_pointers-next.ensures.0 q.put_pointers-next.ensures.1)
@@ -176,7 +176,7 @@ overflow_add-result-2 c =
       acc = w.put_words-word.result + 2 ^ (place % 64);
       words = place / 64;
       next = a.x / 2 ^ a.g.w / 256 + 1;
-      stop = c.lesser-stop.result;
+      stop = c.min-stop.result;
     }) p.ups in
     let o = one_shl (place % 64) (mod-lt place (lit< tt)) in
     rw o (record { fits = h })
@@ -202,12 +202,12 @@ returns c xs before p m =
         acc = w.put_words-word.result + 2 ^ (place % 64);
         words = place / 64;
         next = n;
-        stop = c.lesser-stop.result;
+        stop = c.min-stop.result;
       };
     }) before w.put_words-word.new.room) (sym q.put_pointers-next.ensures.0) (laid_more c.before xs before p m))
 
-pub lesser-stop-requires : goal.lesser-stop-requires
-lesser-stop-requires c = tt
+pub min-stop-requires : goal.min-stop-requires
+min-stop-requires c = tt
 
 pub overflow_add-result : goal.overflow_add-result
 overflow_add-result c = (sums _ _ (ready_step c.requires).small).count

@@ -53,7 +53,7 @@ put_refused-requires c =
     let room = c.ask-outcome.new.room in
     let t = told_of s qs (omega (arith, c.requires.0)) c.read_numbers-count.ensures c.ask-outcome.ensures in
     let l = c.put_lines-next.ensures in
-    omega (arith, c.requires.1, told_lines p o room t, refused_most o.refusal, l.next, put_length l)
+    omega (arith, c.requires.1, told_lines p o room t, refused_most o.verdict, l.next, put_length l)
 
 pub returns : goal.returns
 returns c =

@@ -2,17 +2,16 @@
 use mathlib.Core.Path.{sym}
 use Rattle.rules.specs.Verdict.{Question}
 use Rattle.rules.specs.Index.{index_refusal}
-use Rattle.laws.proofs.RefusalLaws.{and_then_next, told_stop, told_passed}
+use Rattle.laws.proofs.RefusalLaws.{and_then_next, handed_on, went_on}
 use Rattle.lookup.proofs.refuse_rest.Goals as goal
 
-pub returns-then-not-passed : goal.returns-then-not-passed
-returns-then-not-passed c =
-    told_stop c.passed.result c.check_index-r.result (index_refusal c.args.card.now) c.passed.ensures
-    c.check_index-r.ensures Question c.if-not-passed.true
+pub returns-in_err-check_index : goal.returns-in_err-check_index
+returns-in_err-check_index c =
+    handed_on c.check_index.result (index_refusal c.args.card.now) c.check_index.ensures c.from_residual.result Question
+    c.in_err-check_index.field-0.0 c.in_err-check_index.was c.from_residual.ensures
 
 pub returns : goal.returns
 returns c =
     let q = index_refusal c.args.card.now in
     sym (and_then_next q Question
-    (told_passed c.passed.result c.check_index-r.result q c.passed.ensures c.check_index-r.ensures
-    c.if-not-passed.false))
+    (went_on c.check_index.result q c.check_index.ensures c.in_ok-check_index.field-0 c.in_ok-check_index.was))

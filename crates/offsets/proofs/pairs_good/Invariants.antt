@@ -1,13 +1,12 @@
 -- `pairs_good` goes from pair to pair. The loop's invariant: what is left says what the whole says.
 use mathlib.Core.Path.{◌≡◌}
-use Prim.Native.Nat.{ℕ, ◌*◌, ◌-◌, ◌≤◌}
-use lib.ListN.{length, drop}
-use Rattle.offsets.specs.Pairs.{pairs_good}
+use Rattle.std.specs.Slice.Iter.{chunks_exact_rest, chunks_exact_size}
+use Rattle.offsets.specs.Pairs.{pairs_good, Even}
 use Rattle.offsets.proofs.pairs_good.Given as goal
 
-abbrev pub invariant-loop-i : goal.invariant-loop-i
-invariant-loop-i l =
-    (j : ℕ) × (l.i ≡ 2 * j) × (l.i ≤ length l.pairs) × (pairs_good l.t l.least (drop l.i l.pairs) ≡ pairs_good l.t 0 l.pairs)
-
-abbrev pub decreases-loop-i : goal.decreases-loop-i
-decreases-loop-i l = length l.pairs - l.i
+abbrev pub invariant-loop-pair : goal.invariant-loop-pair
+invariant-loop-pair l = record {
+  two : chunks_exact_size l.pair-iterator ≡ 2;
+  even : Even (chunks_exact_rest l.pair-iterator);
+  same : pairs_good l.t l.least (chunks_exact_rest l.pair-iterator) ≡ pairs_good l.t 0 l.pairs;
+}

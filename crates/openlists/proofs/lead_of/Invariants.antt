@@ -1,6 +1,6 @@
 -- `lead_of` takes each shorter list for the lead: the lead from here on is the lead.
 use mathlib.Core.Path.{◌≡◌}
-use Prim.Native.Nat.{◌-◌, ◌≤◌, ◌<◌}
+use Prim.Native.Nat.{◌<◌}
 use Rattle.rules.specs.Common.{lead_of}
 use Rattle.openlists.specs.Places.{place_pages, placed_in}
 use Rattle.openlists.proofs.LeadLaws.{lead_on}
@@ -8,7 +8,4 @@ use Rattle.openlists.proofs.lead_of.Given as goal
 
 abbrev pub invariant-loop-i : goal.invariant-loop-i
 invariant-loop-i l =
-    (l.lead < l.k) × (l.i ≤ l.k) × (l.k ≤ 8) × (lead_on (place_pages l.card l.places) l.k l.lead l.least l.i ≡ lead_of (placed_in l.card l.places l.k))
-
-abbrev pub decreases-loop-i : goal.decreases-loop-i
-decreases-loop-i l = l.k - l.i
+    (l.lead < l.k) × (lead_on (place_pages l.card l.places) l.k l.lead l.least l.i ≡ lead_of (placed_in l.card l.places l.k))

@@ -28,8 +28,7 @@ shape_of-room-then-turn c = c.loop-words.invariant.1.same ∙ length-set c.args.
 pub batch-turn-requires : goal.batch-turn-requires
 batch-turn-requires c =
     let l = c in
-    let start = l in
-    (l.loop-words.invariant.1.partway.running, omega (arith, l.loop-words.invariant.2), start.requires.2)
+    (l.loop-words.invariant.1.partway.running, omega (arith, l.loop-words.invariant.2))
 
 -- the query behind the next common page
 turned : (c : After-batch-turn)
@@ -62,12 +61,9 @@ page_starts-n-requires c =
     let left = c.if-turn.false in
     let apt = l.invariant.1.partway.running.apt in
     let least = turned_least _ _ _ l.q l.b apt n.batch-turn.result (turned n.before.before.before.before.before) left in (
-      (
-        l.invariant.0,
-        turned_on _ _ _ l.q l.b apt n.batch-turn.result (turned n.before.before.before.before.before) left,
-        ahead_more _ _ _ _ _ l.b _ least l.invariant.1.ahead,
-      ),
-      c.requires.2,
+      l.invariant.0,
+      turned_on _ _ _ l.q l.b apt n.batch-turn.result (turned n.before.before.before.before.before) left,
+      ahead_more _ _ _ _ _ l.b _ least l.invariant.1.ahead,
     )
 
 pub overflow_sub-turn : goal.overflow_sub-turn

@@ -52,5 +52,4 @@ returns c =
 pub list_starts-found-requires : goal.list_starts-found-requires
 list_starts-found-requires c =
     let e = c in
-    let p = e.requires in
-    (p.0, omega (arith, fitting e.before.before), p.1)
+    (e.requires, omega (arith, fitting e.before.before))

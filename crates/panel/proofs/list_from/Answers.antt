@@ -24,7 +24,6 @@ batch-turn-requires c =
     let o = c.open_pages.ensures.1 in (
       rw c.new.ensures (new_running _ _ _ o.lists _),
       some c.before.before.before.before.before.before.before.before.before.before.before.before,
-      c.places-table.ensures,
     )
 
 pub totals-requires : goal.totals-requires

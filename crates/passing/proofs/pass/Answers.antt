@@ -82,7 +82,6 @@ skip-requires c =
       skipping_start a.s.now a.g p.0 a.b a.from p.2 p.3 _ (left_is c.before.before.before.before.before.before) refl refl _
           (omega arith),
       omega (arith, e.1),
-      p.5,
     )
 
 pub returns : goal.returns

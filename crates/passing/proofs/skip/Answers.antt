@@ -128,7 +128,6 @@ to_zero-requires c =
       skipping_in start.args.s.now start.args.g (run start.before.before.before.before.before.before.before.before) start.args.h (at-loop l.before.before.before) l.loop-counts.invariant.0
           (omega (arith, l.loop-counts.invariant.1, c.with_ones.ensures, c.loop-counts-test.false)),
       l.loop-counts.invariant.3,
-      start.requires.4,
     )
 
 pub returns : goal.returns

@@ -39,10 +39,8 @@ pub seek_in-s-requires : goal.seek_in-s-requires
 unfolding unused
 seek_in-s-requires c =
     let l = c.loop-q in
-    let a = l.invariant in (
-      midst_seekable _ _ _ a.from a.bound l.q l.b l.i a.midst a.within,
-      c.requires.2,
-    )
+    let a = l.invariant in
+    midst_seekable _ _ _ a.from a.bound l.q l.b l.i a.midst a.within
 
 pub shape_of-room-then-mark : goal.shape_of-room-then-mark
 shape_of-room-then-mark c = c.loop-q.invariant.behind.long

@@ -18,11 +18,7 @@ Joined-room-gt0 = Lts.Joined1 Tie.the-claims Reads.Pre Reads.Post goal.the-invar
 
 pub batch-s-requires : goal.batch-s-requires
 batch-s-requires c =
-    let p = c.requires in (
-      rw c.new-q.ensures (new_running _ _ _ p.0 0),
-      omega (arith, c.if-room-gt0.true),
-      p.1,
-    )
+    (rw c.new-q.ensures (new_running _ _ _ c.requires 0), omega (arith, c.if-room-gt0.true))
 
 -- what the first batch listed; with no room there is none
 first : (c : Joined-room-gt0) → Listing c.args.card.now
@@ -32,11 +28,11 @@ first : (c : Joined-room-gt0) → Listing c.args.card.now
 first c = elim c.if-room-gt0.branch [
   | then-room-gt0 e ↦
       rw (e.room-is, e.s-is)
-      (listing_first _ _ _ _ c.requires.0 e.batch-s.result _
+      (listing_first _ _ _ _ c.requires e.batch-s.result _
       (rw c.new-q.ensures at e.batch-s.ensures))
   | else-room-gt0 e ↦
       rw (e.room-is, e.s-is, c.new-q.ensures)
-      (listing_none _ _ _ _ c.requires.0 (omega (arith, e.if-room-gt0.false)))
+      (listing_none _ _ _ _ c.requires (omega (arith, e.if-room-gt0.false)))
 ]
 
 pub loop-s-init : goal.loop-s-init
@@ -51,7 +47,6 @@ batch-s-requires-in-loop-s c =
     let g = l.invariant.1 _ (first c.before.before.before.before.before.before.before) in (
       (listing_on _ _ _ _ l.s.q l.s.mark l.found _ g c.loop-s-test.true).1.running,
       omega (arith, l.invariant.0),
-      c.requires.1,
     )
 
 pub overflow_add-found : goal.overflow_add-found

@@ -6,16 +6,15 @@ use Rattle.query.proofs.seek_in.Goals as goal
 pub seek-hand-requires : goal.seek-hand-requires
 unfolding part_at form_in pages_at
 seek-hand-requires c =
-    let pre = c.requires in
-    let p = pre.0 in
+    let p = c.requires in
     let from = c.number-from.ensures in
     let to = c.number-to.ensures in
-    rw (from, to, c.shape_in.ensures) (p.list.opened, rw p.list.bound p.held, p.seeks, p.looks, pre.1)
+    rw (from, to, c.shape_in.ensures) (p.list.opened, rw p.list.bound p.held, p.seeks, p.looks)
 
 pub returns : goal.returns
 unfolding part_at form_in pages_at
 returns c =
-    let p = c.requires.0 in
+    let p = c.requires in
     let from = c.number-from.ensures in
     let to = c.number-to.ensures in (
       refl,

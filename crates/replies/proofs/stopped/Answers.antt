@@ -2,4 +2,4 @@
 use Rattle.replies.proofs.stopped.Goals as goal
 
 pub returns : goal.returns
-returns c s qs room₀ after to size t = t.stop
+returns c s qs room₀ after to t = t.turn

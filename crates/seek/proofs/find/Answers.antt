@@ -180,7 +180,6 @@ pass-at-requires c =
       there.start-from.ensures.0,
       inside c.before.before,
       b.requires.2,
-      b.requires.3,
     )
 
 pub land-requires : goal.land-requires

@@ -1,6 +1,5 @@
 -- `one_of_byte` reads the table at the byte and j.
 use Rattle.std.proofs.Common.{◌≡◌, ◌+◌, ◌*◌, get_or, arith}
-use Rattle.bytetable.specs.Places.{PlacesOfOnes}
 use Rattle.fields.specs.Words.{place_of_one}
 use Rattle.fields.proofs.WordLaws.{place_le}
 use Rattle.selection.proofs.one_of_byte.Lts
@@ -11,9 +10,8 @@ abbrev Start : Type 0
 Start = Lts.Start Reads.Pre Reads.Post
 
 -- what the table has there
-entry : (c : Start) → let a = c.args in get_or a.table.now (a.b * 8 + a.j) 0 ≡ place_of_one 8 a.b a.j
-unfolding PlacesOfOnes
-entry c = c.requires.1 c.args.b c.args.j (omega arith) (omega arith)
+entry : (c : Start) → let a = c.args in get_or a.table.now.rows (a.b * 8 + a.j) 0 ≡ place_of_one 8 a.b a.j
+entry c = c.args.table.now.places c.args.b c.args.j (omega arith) (omega arith)
 
 pub overflow_cast-result-3 : goal.overflow_cast-result-3
 overflow_cast-result-3 c =

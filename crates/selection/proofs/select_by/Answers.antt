@@ -48,7 +48,7 @@ pub overflow_sub-j : goal.overflow_sub-j
 overflow_sub-j c = omega (arith, (in_byte c).below)
 
 pub one_of_byte-requires : goal.one_of_byte-requires
-one_of_byte-requires c = ((in_byte c).few, c.requires.2)
+one_of_byte-requires c = (in_byte c).few
 
 -- the place is in the word
 inside : (c : After-above) → place_of_one 64 c.args.x c.args.j < 64

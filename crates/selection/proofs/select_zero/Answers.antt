@@ -20,7 +20,6 @@ select_by-requires c =
     let x : ℕ = c.args.x in (
       omega (arith, zero_counts x c.args.counts c.requires.0 (omega arith)),
       omega (arith, c.requires.1, all_bits x (omega arith)),
-      c.requires.2,
     )
 
 pub returns : goal.returns

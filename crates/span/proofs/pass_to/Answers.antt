@@ -10,4 +10,4 @@ pub place_near-place-requires : goal.place_near-place-requires
 place_near-place-requires c =
     let p = c.requires in
     let more = c.if-n-w.false in
-    (p.0.opened, omega (arith, p.2, p.1, more), p.0.counted, omega (arith, p.1, more), p.3)
+    (p.0.opened, omega (arith, p.2, p.1, more), p.0.counted, omega (arith, p.1, more))

@@ -1,14 +1,14 @@
 -- `count_starts` tries the words in turn. The loop's invariant: `Trying`.
 use mathlib.Core.Path.{◌≡◌, sym, ap, ◌∙◌}
 use mathlib.Core.List.{List}
-use Prim.Native.Nat.{ℕ, ◌+◌, ◌-◌, ◌^◌, ◌<◌}
+use Prim.Native.Nat.{ℕ, ◌+◌, ◌^◌, ◌<◌}
 use native.Mathlib.Omega.{arith}
 use lib.ListN.{get_or, length-drop}
 use lib.Seq.{get_or-drop}
-use Rattle.openlists.specs.Places.{source_of}
+use Rattle.std.specs.Prelude.{Option}
 use Rattle.turning.specs.Words.{base_in, BlockAt}
 use Rattle.phrase.specs.Pages.{Ready, Sought}
-use Rattle.triallaws.specs.Asked.{positions_in, lead_in, offsets_in}
+use Rattle.triallaws.specs.Asked.{offsets_in}
 use Rattle.triallaws.proofs.RankLaws.{lead_few}
 use Rattle.triallaws.proofs.TrialLaws.{trying_begins, next_within, counted_few, seek_ready, trying_goes}
 use Rattle.triallaws.proofs.TrialLaws.{trying_less, trying_ends}
@@ -18,46 +18,24 @@ use Rattle.starts.proofs.count_starts.Tie
 use Rattle.starts.proofs.count_starts.Goals as goal
 
 abbrev After-source_of-i : Type 0
-After-source_of-i = Lts.After-source_of Tie.the-claims Reads.Pre Reads.Post goal.the-invariant-loop-turn goal.the-decreases-loop-turn
+After-source_of-i = Lts.After-source_of Tie.the-claims Reads.Pre Reads.Post goal.the-invariant-loop-next goal.the-decreases-loop-next
 
-abbrev After-turn_next-turned : Type 0
-After-turn_next-turned = Lts.After-turn_next Tie.the-claims Reads.Pre Reads.Post goal.the-invariant-loop-turn goal.the-decreases-loop-turn
-
-abbrev After-position_from-next : Type 0
-After-position_from-next = Lts.After-position_from Tie.the-claims Reads.Pre Reads.Post goal.the-invariant-loop-turn goal.the-decreases-loop-turn
-
-abbrev Start : Type 0
-Start = Lts.Start Tie.the-claims Reads.Pre Reads.Post goal.the-invariant-loop-turn goal.the-decreases-loop-turn
-
-abbrev Else-next-eq-NO_POSITION : Type 0
-Else-next-eq-NO_POSITION = Lts.Else1 Tie.the-claims Reads.Pre Reads.Post goal.the-invariant-loop-turn goal.the-decreases-loop-turn
-
--- where the next word was turned, where it was named, and where the call began
-abbrev turned : After-source_of-i → After-turn_next-turned
-turned c = c.before.before.before.before
-
-abbrev source : After-position_from-next → After-source_of-i
-source c = c.before.before.before.before.before
-
-abbrev start : After-turn_next-turned → Start
-start c = c.before.before.before.before.before.before.before
-
-pub loop-turn-init : goal.loop-turn-init
-loop-turn-init c =
+pub loop-next-init : goal.loop-next-init
+loop-next-init c =
     let b = c in
-    let p = b.requires.0 in
+    let p = b.requires in
     trying_begins _ _ _ _ _ _ _ _ p.0.asked.pages.lists.some
     (omega (arith, length-drop 193 b.args.lists.now, p.0.row, p.0.asked.pages.lists.few)) p.2
 
 pub turn_next-turned-requires : goal.turn_next-turned-requires
 turn_next-turned-requires c =
     let p = c.requires in
-    (p.0.0, p.0.1, c.loop-turn.invariant, p.1)
+    (p.0, p.1, c.loop-next.invariant)
 
 -- the word to be tried is one of the eight
 few : (c : After-source_of-i) → c.source_of-i.result < 8
 few c =
-    let a = c.requires.0.0.asked in
+    let a = c.requires.0.asked in
     let y = c.turn_next-turned.ensures in
     omega (arith, c.source_of-i.ensures, next_within _ _ _ _ _ _ a _ _ _ _ y.0, a.pages.lists.few)
 
@@ -72,91 +50,58 @@ ready_so : {s ps ws : List ℕ} (ls : List ℕ) {i j : ℕ} (a : ℕ) → i ≡ 
     × Ready s ps ws i (base_in ws i + (a + get_or ls (193 + i) 0))
 ready_so ls a e r = rw (offset_at ls e, e) r
 
-sought_so : {s ps ws after : List ℕ} (ls : List ℕ) {i j r : ℕ} (a : ℕ) → i ≡ j
+sought_so : {s ps ws after : List ℕ} (ls : List ℕ) {i j : ℕ} {r : Option ℕ} (a : ℕ) → i ≡ j
     → Sought s ps ws i (a + get_or ls (193 + i) 0) r after → Sought s ps ws j (a + get_or (offsets_in ls) j 0) r after
 sought_so ls a e t = rw (offset_at ls e, e) at t
 
-pub position_from-next-requires : goal.position_from-next-requires
-position_from-next-requires c =
+pub position_from-sought-requires : goal.position_from-sought-requires
+position_from-sought-requires c =
     let k = c in
     let s = k in
     let e = s.source_of-i.ensures in
     let b = s in
     let y = s.turn_next-turned.ensures in
-    let small = k.shared_slice_known-in-loop-turn-2-1.given (193 + s.source_of-i.result) in
+    let small = k.shared_slice_known-in-loop-next-2-1.given (193 + s.source_of-i.result) in
     let ls = b.args.lists.now in
     ready_so ls s.turn_next-turned.result.start e
-    (seek_ready _ _ _ _ _ _ b.requires.0.0.asked _ _ _ _ y.0 y.1 (omega (arith, offset_at ls e, small)))
+    (seek_ready _ _ _ _ _ _ b.requires.0.asked _ _ _ _ y.0 y.1 (omega (arith, offset_at ls e, small)))
 
--- the position that was sought
-sought : (c : After-position_from-next)
-    → let t = c in
-    let a = t.args in
-    let i : ℕ = source_of (lead_in a.lists.now) t.turn_next-turned.result.standing in
-    Sought a.card.now (positions_in a.lists.now) t.turn_next-turned.new.words i
-    (t.turn_next-turned.result.start + get_or (offsets_in a.lists.now) i 0) c.position_from-next.result
-    c.position_from-next.new.words
-sought c =
-    let t = c in
-    sought_so t.args.lists.now t.turn_next-turned.result.start c.source_of-i.ensures
-    c.position_from-next.ensures
-
-pub returns-then-next-eq-NO_POSITION : goal.returns-then-next-eq-NO_POSITION
-returns-then-next-eq-NO_POSITION c =
-    let s = c in
-    let t = s in
-    let p = t.requires.0 in
-    let y = t.turn_next-turned.ensures in
-    trying_ends _ _ _ _ _ _ p.0.asked _ _ _ _ y.0 y.1 _ _ (sought s.before.before.before.before) _ p.1 p.0.first c.if-next-eq-NO_POSITION.true
-
--- the start that it allows
-module _ (c : Else-next-eq-NO_POSITION) where
-  abbrev seek : After-position_from-next
-  seek = c.before.before.before
-
-  abbrev trial : After-turn_next-turned
-  trial = turned (source seek)
-
-  abbrev ls : List ℕ
-  ls = (start trial).args.lists.now
-
-  -- the offset, as it was read
-  same_offset : get_or ls (193 + (source seek).source_of-i.result) 0
-      ≡ get_or (offsets_in ls) (source_of (lead_in ls) trial.turn_next-turned.result.standing) 0
-  same_offset = offset_at ls (source seek).source_of-i.ensures
-
-pub overflow_sub-next : goal.overflow_sub-next
-overflow_sub-next c = omega (arith, same_offset c.before, ((sought c.before.before.before.before).found c.if-next-eq-NO_POSITION.false).0)
+pub returns-in_default : goal.returns-in_default
+returns-in_default c =
+    let p = c.requires in
+    let y = c.turn_next-turned.ensures in
+    let t = sought_so c.args.lists.now c.turn_next-turned.result.start c.source_of-i.ensures c.position_from-sought.ensures in
+    trying_ends _ _ _ _ _ _ p.0.asked _ _ _ _ y.0 y.1 _ _ t _ p.1 p.0.first c.in_default.is
 
 pub tried-at-requires : goal.tried-at-requires
 tried-at-requires c =
-    let t = c in
-    let a = t.requires.0.0.asked in
-    let y = t.turn_next-turned.ensures.0 in
+    let a = c.requires.0.asked in
+    let y = c.turn_next-turned.ensures.0 in
     let n = counted_few _ _ _ _ _ _ a _ _ _ _ y in
     (omega (arith, y.some, a.pages.lists.few), omega (arith, y.small), omega (arith, n, y.small))
 
-pub loop-turn-smaller : goal.loop-turn-smaller
-loop-turn-smaller c =
-    let e = c in
-    let t = e in
-    let a = t.requires.0.0.asked in
-    let y = t.turn_next-turned.ensures in
-    let few = a.pages.lists.few in
-    let l = trying_less _ _ _ _ _ _ a _ _ _ _ y.0 y.1 _ _ (sought e.before.before.before.before.before) e.if-next-eq-NO_POSITION.false few in
-    rw (c.tried-at.ensures, same_offset e.before.before) (omega (arith, l, y.2, y.3))
+pub loop-next-smaller : goal.loop-next-smaller
+loop-next-smaller c =
+    let a = c.requires.0.asked in
+    let ls = c.args.lists.now in
+    let y = c.turn_next-turned.ensures in
+    let e = c.source_of-i.ensures in
+    let t = sought_so ls c.turn_next-turned.result.start e c.position_from-sought.ensures in
+    let l = trying_less _ _ _ _ _ _ a _ _ _ _ y.0 y.1 _ _ t _ c.in-Some.is a.pages.lists.few in
+    rw (c.tried-at.ensures, offset_at ls e) (omega (arith, l, y.2, y.3))
 
-pub loop-turn-preserved : goal.loop-turn-preserved
-loop-turn-preserved c =
-    let e = c in
-    let t = e in
-    let a = t.requires.0.0.asked in
-    let y = t.turn_next-turned.ensures in
-    rw (c.tried-at.ensures, same_offset e.before.before)
-    (trying_goes _ _ _ _ _ _ a _ _ _ _ y.0 y.1 _ _ (sought e.before.before.before.before.before) e.if-next-eq-NO_POSITION.false)
+pub loop-next-preserved : goal.loop-next-preserved
+loop-next-preserved c =
+    let a = c.requires.0.asked in
+    let ls = c.args.lists.now in
+    let y = c.turn_next-turned.ensures in
+    let e = c.source_of-i.ensures in
+    let t = sought_so ls c.turn_next-turned.result.start e c.position_from-sought.ensures in
+    rw (c.tried-at.ensures, offset_at ls e)
+    (trying_goes _ _ _ _ _ _ a _ _ _ _ y.0 y.1 _ _ t _ c.in-Some.is)
 
 pub overflow_cast-lists : goal.overflow_cast-lists
-overflow_cast-lists c = omega (arith, lead_few _ _ _ _ _ _ c.requires.0.0.asked)
+overflow_cast-lists c = omega (arith, lead_few _ _ _ _ _ _ c.requires.0.asked)
 
 pub overflow_add-offset : goal.overflow_add-offset
 overflow_add-offset c = omega (arith, few c.before)
@@ -165,16 +110,12 @@ pub offset_bounds-lists-i : goal.offset_bounds-lists-i
 offset_bounds-lists-i c = omega (arith, few c.before)
 
 pub bounds-lists-i : goal.bounds-lists-i
-bounds-lists-i c = omega (arith, few c.before.before, c.requires.0.0.row)
+bounds-lists-i c = omega (arith, few c.before.before, c.requires.0.row)
 
 pub overflow_cast-offset : goal.overflow_cast-offset
-overflow_cast-offset c = omega (arith, c.shared_slice_known-in-loop-turn-2-1.given (193 + c.source_of-i.result))
+overflow_cast-offset c = omega (arith, c.shared_slice_known-in-loop-next-2-1.given (193 + c.source_of-i.result))
 
 pub overflow_add-turned : goal.overflow_add-turned
 overflow_add-turned c = let k = c in
-    let small = k.shared_slice_known-in-loop-turn-2-1.given (193 + k.source_of-i.result) in
+    let small = k.shared_slice_known-in-loop-next-2-1.given (193 + k.source_of-i.result) in
     omega (arith, k.turn_next-turned.ensures.0.small, small)
-
-pub shape_of-words-then-next-eq-NO_POSITION : goal.shape_of-words-then-next-eq-NO_POSITION
-shape_of-words-then-next-eq-NO_POSITION c = let s = c in
-    s.position_from-next.ensures.ready.room ∙ sym s.requires.0.2.room

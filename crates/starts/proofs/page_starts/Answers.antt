@@ -33,7 +33,7 @@ start c = c.before.before.before.before.before
 -- a word alone leads
 leads : (c : Then-terms-eq1) → slot_of (lead_in c.args.lists.now) 0 ≡ 0
 leads c =
-    let a = c.requires.0.0.asked in
+    let a = c.requires.0.asked in
     omega (arith, slot_within _ _ _ _ _ _ a 0 a.pages.lists.some, c.if-terms-eq1.true)
 
 pub rank_in-rank-requires : goal.rank_in-rank-requires
@@ -41,9 +41,9 @@ unfolding unused
 rank_in-rank-requires c =
     let t = c in
     let b = t in
-    let a = b.requires.0.0.asked in
+    let a = b.requires.0.asked in
     let h = a.pages.lists.some in
-    let r = asked_rank _ _ _ _ _ _ a 0 h _ _ b.requires.0.1 in
+    let r = asked_rank _ _ _ _ _ _ a 0 h _ _ b.requires.1 in
     rw (leads t.before.before.before.before) at r.on_element
 
 -- the rank that was read
@@ -59,12 +59,11 @@ ranked c =
 
 pub ranks_at-x-requires : goal.ranks_at-x-requires
 ranks_at-x-requires c =
-    let pre = c.requires in
-    let p = pre.0 in
+    let p = c.requires in
     let a = p.0.asked in
     let h = a.pages.lists.some in
     let r = rank_ready _ _ _ _ _ _ a _ _ p.1 0 h _ p.2.room (p.2.each 0 h) in
-    rw (ranked c.before.before.before) (r.0, r.1, r.2, pre.1)
+    rw (ranked c.before.before.before) r
 
 -- what the page's ranks count
 counted : (c : After-ranks_at-x)
@@ -76,7 +75,7 @@ counted : (c : After-ranks_at-x)
 counted c =
     let t = c in
     let b = t in
-    let p = b.requires.0 in
+    let p = b.requires in
     let ds : List ℕ = offsets_in b.args.lists.now in
     let some : 0 < length ds = omega (arith, length-drop 193 b.args.lists.now, p.0.row) in
     let e = rw (ranked c.before.before.before) at c.ranks_at-x.ensures in

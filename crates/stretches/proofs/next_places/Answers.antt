@@ -1,67 +1,46 @@
 -- `next_places` marks the ends of the pages in a stretch, and puts the elements in their place.
-use mathlib.Core.Path.{◌≡◌, ap, ◌∙◌}
-use mathlib.Core.List.{List}
-use Prim.Native.Nat.{ℕ, ◌+◌, ◌-◌}
+use mathlib.Core.Path.{◌≡◌}
+use Prim.Native.Nat.{◌+◌, ◌-◌, min}
 use native.Mathlib.Omega.{arith}
-use lib.ListN.{length, length-take, length-replicate}
+use lib.ListN.{length, length-take}
 use Rattle.wordlaws.proofs.StretchLaws.{spot_page, stretch_bounded, stretch_placed, spot_next}
-use Rattle.stretches.proofs.next_places.Lts
-use Rattle.stretches.proofs.next_places.Reads
-use Rattle.stretches.proofs.next_places.Tie
 use Rattle.stretches.proofs.next_places.Goals as goal
-
-abbrev After-mark-turn : Type 0
-After-mark-turn = Lts.After-mark Tie.the-claims Reads.Pre Reads.Post
-
-abbrev Start : Type 0
-Start = Lts.Start Tie.the-claims Reads.Pre Reads.Post
 
 pub mark-turn-requires : goal.mark-turn-requires
 mark-turn-requires c =
-    let s = c in
-    let a = s.args in
-    let h = s.requires.2 in (
-      s.requires.0,
-      spot_page h.s h.U a.counts.now a.positions.now a.at h.at s.requires.1,
+    let a = c.args in
+    let h = c.requires.2 in (
+      c.requires.0,
+      spot_page h.s h.U a.counts.now a.positions.now a.at h.at c.requires.1,
       h.at.some,
       h.at.small,
       h.at.placing.counted,
     )
 
--- the start, seen from the marks
-abbrev entry : After-mark-turn → Start
-entry m = m.before.before.before.before.before.before.before
-
-part_long : (s : Start) → length s.args.part.now ≡ 256
-part_long s = ap (λ (l : List ℕ). length l) s.requires.0 ∙ length-replicate {A = ℕ} 256 0
-
 pub put_places-base-requires : goal.put_places-base-requires
 put_places-base-requires c =
-    let m = c in
-    let s = m in
-    let k = m.lesser-k in
-    let a = s.args in
-    let h = s.requires.2 in
-    let e : a.at.done + k.result - a.at.done ≡ k.result = omega arith in (
-      rw (e, length-take) (omega (arith, part_long s.before.before.before.before.before.before.before.before.before.before.before.before, k.ensures)),
-      rw e (stretch_bounded h.s h.U a.counts.now a.positions.now a.at h.at s.requires.1 k.result
-          k.ensures m.mark-turn.result m.mark-turn.new.part m.mark-turn.ensures),
+    let k = c.min-k.result in
+    let a = c.args in
+    let h = c.requires.2 in
+    let w : k ≡ min 256 (length a.positions.now - a.at.done) = omega arith in
+    let e : a.at.done + k - a.at.done ≡ k = omega arith in (
+      rw (e, length-take) (omega arith),
+      rw e (stretch_bounded h.s h.U a.counts.now a.positions.now a.at h.at c.requires.1 k w c.mark-turn.result
+          c.mark-turn.new.part c.mark-turn.ensures),
     )
 
 pub returns : goal.returns
 returns c =
-    let b = c in
-    let m = b in
-    let s = m in
-    let k = m.lesser-k in
-    let a = s.args in
-    let e : a.at.done + k.result - a.at.done ≡ k.result = omega arith in
+    let k = c.min-k.result in
+    let a = c.args in
+    let m = c.mark-turn in
+    let p = c.put_places-base in
+    let w : k ≡ min 256 (length a.positions.now - a.at.done) = omega arith in
+    let e : a.at.done + k - a.at.done ≡ k = omega arith in
     record {
-      done = ap (λ (n : ℕ). a.at.done + n) k.ensures;
-      spot = λ t U h. spot_next t U a.counts.now a.positions.now a.at h s.requires.1 k.result
-          k.ensures m.mark-turn.result m.mark-turn.new.part m.mark-turn.ensures b.put_places-base.result
-          (rw e at b.put_places-base.ensures.0);
-      holds = λ t U h. rw e (stretch_placed t U a.counts.now a.positions.now a.at h s.requires.1 k.result
-          k.ensures m.mark-turn.result m.mark-turn.new.part m.mark-turn.ensures b.put_places-base.new.part
-          (omega (arith, part_long s.before.before.before.before.before.before.before.before.before.before.before.before.before.before.before)) (rw e at b.put_places-base.ensures.1));
+      done = omega arith;
+      spot = λ t U h. spot_next t U a.counts.now a.positions.now a.at h c.requires.1 k w m.result m.new.part m.ensures
+          p.result (rw e at p.ensures.0);
+      holds = λ t U h. rw e (stretch_placed t U a.counts.now a.positions.now a.at h c.requires.1 k w m.result m.new.part
+          m.ensures p.new.part p.array_long (rw e at p.ensures.1));
     }

@@ -7,10 +7,7 @@ use Rattle.stretches.proofs.put_places.Given as goal
 
 abbrev pub invariant-loop-i : goal.invariant-loop-i
 invariant-loop-i l =
-    (l.i ≤ length l.positions) × (l.i-end ≡ length l.positions) × (length l.part ≡ length l.initial.part)
+    (length l.part ≡ length l.initial.part)
     × (l.base ≡ base_at l.start (marks_of l.initial.part) l.positions l.i)
     × ((j : ℕ) → j < l.i → get_or l.part j 0 ≡ base_at l.start (marks_of l.initial.part) l.positions j + get_or l.positions j 0)
     × ((j : ℕ) → l.i ≤ j → get_or l.part j 0 ≡ get_or l.initial.part j 0)
-
-abbrev pub decreases-loop-i : goal.decreases-loop-i
-decreases-loop-i l = length l.positions - l.i

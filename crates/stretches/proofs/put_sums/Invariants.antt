@@ -7,8 +7,5 @@ use Rattle.stretches.proofs.put_sums.Given as goal
 
 abbrev pub invariant-loop-i : goal.invariant-loop-i
 invariant-loop-i l =
-    (l.i ≤ length l.counts) × (l.i-end ≡ length l.counts) × (length l.part ≡ length l.initial.part)
+    (length l.part ≡ length l.initial.part)
     × (l.sum ≡ l.before + total (take l.i l.counts)) × (take l.i l.part ≡ take l.i (sums l.before l.counts))
-
-abbrev pub decreases-loop-i : goal.decreases-loop-i
-decreases-loop-i l = length l.counts - l.i

@@ -45,4 +45,4 @@ returns c =
     (sym o.rises.ensures
     ∙ o.if-not-rises.false)
     (sym o.counts_fit.ensures ∙ o.if-not-counts_fit.false) in
-    record { says = c.positions_rise.ensures.says ∙ sym v; ends = c.positions_rise.ensures.ends }
+    rw v c.positions_rise.ensures

@@ -1,6 +1,6 @@
 -- `positions_rise` goes from page to page: what is left gives what all of it gives, with a base that stops above the limit.
 use mathlib.Core.Path.{◌≡◌}
-use Prim.Native.Nat.{◌+◌, ◌-◌, ◌≤◌}
+use Prim.Native.Nat.{◌+◌, ◌≤◌}
 use lib.ListN.{length, drop}
 use Rattle.rules.specs.Limits.{limit}
 use Rattle.rules.specs.Term.{total}
@@ -9,12 +9,9 @@ use Rattle.wordlaws.proofs.CheckLaws.{spanned}
 use Rattle.wordlaws.proofs.FallLaws.{seams}
 use Rattle.testword.proofs.positions_rise.Given as goal
 
-abbrev pub invariant-loop-i : goal.invariant-loop-i
-invariant-loop-i l =
-    (l.i ≤ length l.counts) × (l.i-end ≡ length l.counts) × (l.from + total (drop l.i l.counts) ≡ length l.positions)
-    × (l.base ≤ limit + 1) × (l.seams ≤ l.i)
-    × (seams 0 l.counts l.positions ≡ l.seams + seams l.from (drop l.i l.counts) l.positions)
-    × (capped (spanned l.counts l.positions) ≡ capped (l.base + spanned (drop l.i l.counts) (drop l.from l.positions)))
-
-abbrev pub decreases-loop-i : goal.decreases-loop-i
-decreases-loop-i l = length l.counts - l.i
+abbrev pub invariant-loop-c : goal.invariant-loop-c
+invariant-loop-c l =
+    (l.from + total (drop l.c-index l.counts) ≡ length l.positions)
+    × (l.base ≤ limit + 1) × (l.seams ≤ l.c-index)
+    × (seams 0 l.counts l.positions ≡ l.seams + seams l.from (drop l.c-index l.counts) l.positions)
+    × (capped (spanned l.counts l.positions) ≡ capped (l.base + spanned (drop l.c-index l.counts) (drop l.from l.positions)))

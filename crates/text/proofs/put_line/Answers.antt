@@ -1,104 +1,67 @@
--- `put_line` lays the line: what is behind number i - 1 is still to be laid.
-use mathlib.Core.Path.{refl, ap, ◌∙◌}
+-- `put_line` lays the line: what is behind the numbers laid so far is still to be laid.
+use mathlib.Core.Path.{◌≡◌, ap}
 use mathlib.Core.List.{◌∷◌}
-use Prim.Native.Nat.{◌-◌, ◌<◌}
+use Prim.Native.Nat.{◌<◌}
 use native.Mathlib.Omega.{arith}
-use lib.ListN.{length, drop, get_or, length-set}
+use lib.ListN.{length, get_or, length-set}
 use Rattle.rules.specs.Program.{digits}
 use Rattle.files.specs.Laid.{Put}
 use Rattle.files.proofs.PutLaws.{put_one, put_same, put_cat, put_length, partly_none, partly_same, partly_more}
 use Rattle.files.proofs.PutLaws.{partly_end}
-use Rattle.text.proofs.LineLaws.{ending, line_first, first_length, ending_at, ending_length, ending_last}
+use Rattle.text.proofs.LineLaws.{ending, further, further_long, line_first, first_length, ending_at, ending_length}
+use Rattle.text.proofs.LineLaws.{ending_last}
 use Rattle.text.proofs.put_line.Goals as goal
 
 pub put_number-next-requires : goal.put_number-next-requires
-put_number-next-requires c =
-    let s = c in
-    omega (arith, first_length s.args.numbers.now s.requires.0)
+put_number-next-requires c = omega (arith, first_length c.args.numbers.now c.requires.0)
 
-pub loop-i-init : goal.loop-i-init
-loop-i-init c =
-    let k = c in
-    let s = k in
-    let ns = s.args.numbers.now in (
-      omega arith,
-      omega arith,
-      refl,
-      omega (arith, first_length ns s.requires.0, k.put_number-next.ensures.next, put_length k.put_number-next.ensures),
-      partly_none (ending (drop 1 ns)) k.put_number-next.result k.put_number-next.new.text,
-    )
+pub loop-n-init : goal.loop-n-init
+loop-n-init c =
+    let ns = c.args.numbers.now in
+    let first = c.put_number-next in
+    record {
+      room = omega (arith, first_length ns c.requires.0, first.ensures.next);
+      laid = partly_none (ending (further ns)) first.result first.new.text;
+    }
 
 pub bounds-text-next : goal.bounds-text-next
 bounds-text-next c =
-    let l = c in
-    omega (
-      arith,
-      ending_length
-          l.args.numbers.now l.loop-i.i
-          (omega arith),
-    )
+    let ns = further c.args.numbers.now in
+    let i = c.loop-n.n-index in
+    let h : i < length ns = rw further_long (omega arith) in
+    omega (arith, ending_length ns i h)
 
-pub overflow_add-next : goal.overflow_add-next
-overflow_add-next c =
-    let l = c in
-    omega (
-      arith,
-      ending_length
-          l.args.numbers.now l.loop-i.i
-          (omega arith),
-    )
+pub put_number-next-requires-in-loop-n : goal.put_number-next-requires-in-loop-n
+put_number-next-requires-in-loop-n c =
+    let ns = further c.args.numbers.now in
+    let i = c.loop-n.n-index in
+    let h : i < length ns = rw further_long (omega arith) in
+    rw length-set (omega (arith, ending_length ns i h))
 
-pub put_number-next-requires-in-loop-i : goal.put_number-next-requires-in-loop-i
-put_number-next-requires-in-loop-i c =
-    let l = c in
-    rw length-set (omega (
-      arith,
-      ending_length
-          l.args.numbers.now l.loop-i.i
-          (omega arith),
-    ))
-
-pub loop-i-preserved : goal.loop-i-preserved
-loop-i-preserved c =
-    let k = c in
-    let l = k in
-    let ns = l.args.numbers.now in
-    let i = l.loop-i.i in
-    let h : i < length ns = omega arith in
-    let p : Put (32 ∷ digits (get_or ns i 0)) l.loop-i.next k.put_number-next-in-loop-i.result l.loop-i.text
-    k.put_number-next-in-loop-i.new.text =
-    put_cat (put_one 32 l.loop-i.next l.loop-i.text) k.put_number-next-in-loop-i.ensures in (
-      omega arith,
-      omega arith,
-      put_length p ∙ l.loop-i.invariant.2,
-      omega (arith, ending_length ns i h, put_length p, p.next, l.loop-i.invariant.3),
-      partly_more (partly_same (ending_at ns i h) l.loop-i.invariant.4) p,
-    )
+pub loop-n-preserved : goal.loop-n-preserved
+loop-n-preserved c =
+    let ns = further c.args.numbers.now in
+    let i = c.loop-n.n-index in
+    let next = c.put_number-next-in-loop-n in
+    let h : i < length ns = rw further_long (omega arith) in
+    let p : Put (32 ∷ digits (get_or ns i 0)) c.loop-n.next next.result c.loop-n.text next.new.text =
+    put_cat (put_one 32 c.loop-n.next c.loop-n.text) next.ensures in
+    record {
+      room = omega (arith, ending_length ns i h, put_length p, p.next);
+      laid = partly_more (partly_same (ending_at ns i h) c.loop-n.invariant.laid) p;
+    }
 
 pub bounds-text-next-2 : goal.bounds-text-next-2
 bounds-text-next-2 c =
-    let l = c in
-    let ns = l.args.numbers.now in
-    omega (arith, ap length (ending_last ns l.loop-i.i (omega arith)))
-
-pub overflow_add-result : goal.overflow_add-result
-overflow_add-result c =
-    let l = c in
-    let ns = l.args.numbers.now in
-    omega (arith, ap length (ending_last ns l.loop-i.i (omega arith)))
-
-pub shape_of-text : goal.shape_of-text
-shape_of-text c =
-    let l = c in
-    rw length-set (l.loop-i.invariant.2 ∙ put_length l.put_number-next.ensures)
+    let ns = further c.args.numbers.now in
+    let e : c.loop-n.n-index ≡ length ns = rw further_long (omega arith) in
+    omega (arith, ap length (ending_last ns c.loop-n.n-index e))
 
 pub returns : goal.returns
 returns c =
-    let l = c in
-    let k = l in
-    let s = k in
-    let ns = s.args.numbers.now in
+    let ns = c.args.numbers.now in
+    let e : c.loop-n.n-index ≡ length (further ns) = rw further_long (omega arith) in
     let p =
-    partly_end (partly_same (ending_last ns l.loop-i.i (omega arith)) l.loop-i.invariant.4)
-    (put_one 10 l.loop-i.next l.loop-i.text) in
-    put_same (line_first ns s.requires.0) (put_cat k.put_number-next.ensures p)
+    partly_end (partly_same (ending_last (further ns) c.loop-n.n-index e) c.loop-n.invariant.laid)
+    (put_one 10 c.loop-n.next c.loop-n.text) in
+    put_same (line_first ns c.requires.0) (put_cat c.put_number-next.ensures p)

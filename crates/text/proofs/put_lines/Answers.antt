@@ -1,6 +1,6 @@
 -- `put_lines` lays the lines: those of the answers from place `from` on are still to be laid.
 use mathlib.Core.Path.{refl, ◌∙◌}
-use Prim.Native.Nat.{◌-◌, ◌<◌}
+use Prim.Native.Nat.{◌<◌}
 use native.Mathlib.Omega.{arith}
 use lib.ListN.{length}
 use Rattle.rules.specs.Program.{line, lines}

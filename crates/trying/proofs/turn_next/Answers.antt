@@ -96,7 +96,7 @@ ranks_at-x-requires c =
     let r =
     rank_ready _ _ _ _ _ _ b.requires.0.asked _ _ b.requires.1 _ n.0 _ y.room
     (y.others _ n.0 (omega (arith, n.1, n.2))) in
-    rw (ranked c.before.before.before) (r.0, r.1, r.2, b.requires.3)
+    rw (ranked c.before.before.before) r
 
 pub turn_to-requires : goal.turn_to-requires
 turn_to-requires c =
@@ -107,7 +107,7 @@ turn_to-requires c =
     let r =
     turn_ready _ _ _ _ _ _ b.requires.0.asked _ _ b.requires.1 _ n.0 t.ranks_at-x.result e.0 _ _ e.1
     (b.requires.2.others _ n.0 (omega (arith, n.1, n.2))) in
-    (r.0, r.1, r.2, b.requires.3)
+    r
 
 pub shape_of-words : goal.shape_of-words
 shape_of-words c =

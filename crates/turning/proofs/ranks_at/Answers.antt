@@ -9,7 +9,7 @@ unfolding shape_in
 pass_to-w-requires c =
     let p = c.requires in
     rw (c.part_at-block.ensures, c.shape_in-g.ensures, c.walk_at.ensures)
-    (p.0.on, p.1, omega (arith, p.2), p.3)
+    (p.0.on, p.1, omega (arith, p.2))
 
 pub pass_one-v-requires : goal.pass_one-v-requires
 unfolding shape_in

@@ -23,7 +23,7 @@ unfolding shape_in
 pass_to-v-requires c =
     let p = c.requires in
     rw (c.part_at.ensures, c.shape_in.ensures, c.walk_at-w.ensures)
-    (p.0.on, p.1, p.2, p.3)
+    (p.0.on, p.1, p.2)
 
 pub bounds-words-i : goal.bounds-words-i
 bounds-words-i c =

@@ -9,9 +9,9 @@ open_lists-requires c =
     let p = c.place_lists in
     let b = c in (
       pages_places b.args.card.now b.args.terms.now p.new.places b.requires.0 b.requires.1
-          p.auto.places p.ensures,
+          p.array_long p.ensures,
       pages_alike b.args.card.now b.args.terms.now
-          p.new.places b.requires.0 b.requires.1 p.auto.places p.ensures,
+          p.new.places b.requires.0 b.requires.1 p.array_long p.ensures,
       b.requires.2,
     )
 
@@ -22,8 +22,8 @@ returns c =
     let b = c in
     let lists =
     placed_lists b.args.card.now b.args.terms.now p.new.places b.requires.0 b.requires.1
-    p.auto.places p.ensures in (
+    p.array_long p.ensures in (
       o.open_lists.ensures.0 ∙ ap lead_of lists,
       pages_opened b.args.card.now b.args.terms.now p.new.places b.requires.0 b.requires.1
-          p.auto.places p.ensures o.open_lists.new.shapes o.open_lists.ensures.1,
+          p.array_long p.ensures o.open_lists.new.shapes o.open_lists.ensures.1,
     )
