@@ -69,11 +69,6 @@ def changed_by_others(node):
     return lent + [method.of for method in tree.every(tree.Method, node) if method.name not in GIVING]
 
 
-def changed(node):
-    """The places in a part that are changed there, or may be."""
-    return [assign.target for assign in tree.every(tree.Assign, node)] + changed_by_others(node)
-
-
 def mentions(name, node):
     """Every place where a name stands, as the part around it and the name."""
     return [(parent, child) for parent, child in tree.pairs(node)

@@ -33,17 +33,13 @@ class Program:
         self.functions = {f.path: f for source in self.crates.values() for f in source.functions.values()}
         self.structs = {f"{crate}::{name}": fields for crate, source in self.crates.items()
                         for name, fields in source.structs.items()}
+        self.facts = {f"{crate}::{name}": facts for crate, source in self.crates.items()
+                      for name, facts in source.facts.items()}
         self.aliases = {f"{crate}::{name}": kind for crate, source in self.crates.items()
                         for name, kind in source.aliases.items()}
         self.with_default = {f"{crate}::{name}" for crate, source in self.crates.items()
                              for name, traits in source.derived.items() if "Default" in traits}
-        self.conversions = [f"{crate}::{name}" for crate, source in self.crates.items()
-                            for name in sorted(source.conversions)]
-        # those to types of the toolchain, which may be called from any crate by that type's name
-        outside = [path.split("::", 1) for path in self.conversions if path.split("::")[1] in OUTSIDE]
-        self.to_outside = {name: f"{crate}::{name}" for crate, name in outside}
-        if len(self.to_outside) < len(outside):
-            raise Unread("conversions of two crates have the same name")
+        self.conversions = [f"{crate}::{name}" for crate, source in self.crates.items() for name in source.conversions]
         for function in self.functions.values():
             self.known(function)
 
@@ -74,7 +70,7 @@ class Program:
             whole = f"{crate}::{path}"
         else:
             whole = path
-        return self.to_outside.get(whole, whole)
+        return whole
 
     def meaning(self, crate, path):
         """The whole path of a function or a type that a crate's source names."""
@@ -93,14 +89,19 @@ class Program:
         """Each call of a function's body, with the whole path of what is called."""
         return [(self.callee(function, call), call) for call in tree.every(tree.Call, function.body)]
 
+    def may_convert(self, function):
+        """Whether a function may call a conversion that it does not name with its crate: by `?`, which turns an error into
+        the one that the function gives, or as the `from` of a type of the toolchain."""
+        paths = [name.path for name in tree.every(tree.Name, function.body)] + [callee for callee, _ in self.calls(function)]
+        return bool(tree.every(tree.Try, function.body)) or any(bare(path).endswith("::from") for path in paths)
+
     def reached(self, *roots):
-        """The functions of the sources that functions call, and those that they call, themselves among them. `?` may
-        call any conversion, since it turns an error into the one that its function gives."""
+        """The functions of the sources that functions call, and those that they call, themselves among them."""
         found, todo = set(), list(roots)
         while todo:
             path = todo.pop()
             if path in self.functions and path not in found:
                 found.add(path)
                 todo += [callee for callee, _ in self.calls(self.functions[path])]
-                todo += self.conversions if tree.every(tree.Try, self.functions[path].body) else []
+                todo += self.conversions if self.may_convert(self.functions[path]) else []
         return [self.functions[path] for path in sorted(found)]

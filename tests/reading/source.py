@@ -1,7 +1,7 @@
 """A source read whole: its functions with their bodies, and its structs. What this reader does not know is an error:
 modules, functions that take `self`, traits but `From`, patterns of structs and of slices, closures that are not handed
-to a method, tuples that are made, macros and whatever else the sources do not use. A method is the toolchain's, and one
-that methods.py lists; the file of a program, which reads files and prints, may call others too."""
+on, tuples that are made, macros and whatever else the sources do not use. A method is the toolchain's, and one that
+methods.py lists; the file of a program, which reads files and prints, may call others too."""
 from dataclasses import dataclass, field
 
 from . import tree
@@ -219,10 +219,11 @@ class Expressions(Reader):
         return tree.Method(of, name, types, self.listed(")", self.argument))
 
     def argument(self):
-        """What a method is handed: an expression or a closure."""
-        if self.accept("||"):
-            return tree.Closure([], self.expression())
-        return tree.Closure(self.listed("|", self.pattern), self.expression()) if self.accept("|") else self.expression()
+        """What a function or a method is handed: an expression or a closure."""
+        if not self.sees("|", "||"):
+            return self.expression()
+        parameters = [] if self.expect("|", "||") == "||" else self.listed("|", self.pattern)
+        return tree.Closure(parameters, self.expression())
 
     def primary(self, made):
         if self.next.kind in ("number", "text"):
@@ -241,7 +242,7 @@ class Expressions(Reader):
             return self.leave(made)
         path = self.path()
         if self.accept("("):
-            return tree.Call(path, self.listed(")", self.expression))
+            return tree.Call(path, self.listed(")", self.argument))
         if made and path.split("::")[-1][0].isupper() and self.accept("{"):
             return tree.Made(path, self.listed("}", self.given))
         return tree.Name(path)

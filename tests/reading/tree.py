@@ -98,7 +98,7 @@ class Method(Node):
 
 @dataclass(eq=False)
 class Closure(Node):
-    """A function without a name, handed to a method."""
+    """A function without a name, handed to a function or a method."""
     parameters: list
     body: Node
 
@@ -108,7 +108,7 @@ class Closure(Node):
 
 @dataclass(eq=False)
 class Try(Node):
-    """`x?`, which gives what `x` holds or leaves the function with its error, which may be turned into another."""
+    """`x?`, which gives what `x` holds or leaves the function, or the closure, that it stands in."""
     of: Node
 
     def __str__(self):

@@ -142,8 +142,9 @@ def round_wrong(program, f, store):
         yield f"{f.path}: the query is changed by {', '.join(f'`{change}`' for change in changes)}"
     if query in map(flow.root, flow.changed_by_others(f.body)):
         yield f"{f.path}: the query is changed by what is called"
-    starts = [str(let) for let in tree.every(tree.Let, f.body) if let.name == query]
-    first = [name for name in f.of_type("Query") if len(flow.mentions(name, f.body)) == 1]
+    starts = [str(let) for let in tree.every((tree.Let, tree.Binder), f.body) if let.name == query]
+    first = [name for name in f.of_type("Query")
+             if len(flow.mentions(name, f.body)) == 1 and flow.bound(f).count(name) == 1]
     if starts not in [[f"let mut {query} = {name}"] for name in first]:
         yield f"{f.path}: the query that is given is used for more than to start the loop"
     yield from between_wrong(program, f, store, changes)

@@ -24,10 +24,11 @@ FROM_BYTES = ["u16::from_be_bytes", "u32::from_be_bytes", "u64::from_be_bytes"]
 RANK = "maprank::rank_at"
 RANK_IN = "rows::rank_in"
 
-# the name of the table's type, what gives the table, and what each function asks of the one that it is lent
-TABLE = "Table"
+# the table's type, its fields, what it says of them, and what makes the table
+TABLE = "bytetable::Table"
+ROWS = {"rows": "[u8; 2048]"}
+IS_TABLE = {"places": "PlacesOfOnes rows"}
 PLACES = "bytetable::places"
-IS_TABLE = "PlacesOfOnes {}.now"
 
 # one seek by the cursor in hand, and the one loop that makes seeks
 SEEK_IN = "query::seek_in"

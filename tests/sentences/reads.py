@@ -4,7 +4,7 @@ from typing import NamedTuple
 from reading import flow, tree
 from reading.compare import compared
 from sentences.names import ANSWERS, FROM_BYTES, IS_TABLE, KIND_3, KINDS, LOOK, LOW_PART, NUMBER_IN, PLACES, POINTER
-from sentences.names import READING, RUN_WORD, SCREEN, SHOWING, SHOWN_BY, TABLE
+from sentences.names import READING, ROWS, RUN_WORD, SCREEN, SHOWING, SHOWN_BY, TABLE
 from sentences.written import WRITTEN
 
 
@@ -104,19 +104,20 @@ def reads_settled(program):
 
 
 def table_told(program):
-    """No type but the table's has a second name. `places` alone gives a table, no struct holds one, and each function
-    that is lent one asks that it is the table of places, whose numbers are the same for every card."""
-    if program.aliases != {f"bytetable::{TABLE}": "[u8; 2048]"}:
-        yield f"types by another name: {', '.join(f'{name} = {kind}' for name, kind in program.aliases.items())}"
+    """No type has a second name. The table's type says of its rows that they are the table of places, whose numbers are
+    the same for every card; `places` alone makes and gives a table, no struct holds one, and each function that has one
+    is lent it."""
+    yield from (f"{name}: it is a second name of {kind}" for name, kind in program.aliases.items())
+    if program.structs.get(TABLE) != ROWS or program.facts[TABLE] != IS_TABLE:
+        yield f"{TABLE}: it is not {ROWS}, of which it says {IS_TABLE}"
+    kind = TABLE.split("::")[-1]
     for name, fields in program.structs.items():
-        yield from (f"{name}: the field {field} has the type {kind}" for field, kind in fields.items() if TABLE in kind)
+        yield from (f"{name}: the field {field} has the type {of}" for field, of in fields.items() if kind in of)
     for f in program.functions.values():
-        if TABLE in f.returns and f.path != PLACES:
-            yield f"{f.path}: it gives back a {f.returns}"
-        for p in f.parameters:
-            told = p.type == f"&{TABLE}" and any(IS_TABLE.format(p.name) in fact for fact in f.requires)
-            if TABLE in p.type and not told:
-                yield f"{f.path}: nothing is asked of {p}"
+        makes = any(program.meaning(f.crate, made.type) == TABLE for made in tree.every(tree.Made, f.body))
+        if f.path != PLACES and (makes or kind in f.returns):
+            yield f"{f.path}: it makes or gives a table"
+        yield from (f"{f.path}: {p} is not lent" for p in f.parameters if kind in p.type and p.type != f"&{kind}")
 
 
 def tell(program):

@@ -2,7 +2,7 @@
 of looks."""
 from reading import flow, tree
 from reading.methods import GIVING
-from sentences.names import FRESH, LOOK, LOW_PART, OF_SEEK, POINTER, RUN_WORD, SEEK, of_seek
+from sentences.names import FRESH, LOOK, LOW_PART, OF_SEEK, POINTER, RUN_WORD, SEEK, TABLE, of_seek
 
 SHAPE = "shape::Shape"
 NUMBERS = {
@@ -17,13 +17,13 @@ COUNTER = "&mut u32"
 
 def numbers_alone(program):
     """A cursor is four numbers, where a search ends two of them, and a shape seven, so that a seek hands back no rank;
-    and no struct of any crate holds bytes or a reference."""
+    and no struct of any crate but the table holds bytes, and none a reference."""
     for name, fields in NUMBERS.items():
         if program.structs.get(name) != fields:
             yield f"{name}: its fields are not {', '.join(fields)}"
     for name, fields in program.structs.items():
         for field, kind in fields.items():
-            if "&" in kind or "u8" in kind:
+            if "&" in kind or "u8" in kind and name != TABLE:
                 yield f"{name}: the field {field} has the type {kind}"
 
 

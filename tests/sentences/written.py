@@ -13,12 +13,9 @@ SUMS = """
 pub fn totals(q: Query, found: usize) -> Listed {
     let mut seeks = 0;
     let mut looks = 0;
-    let mut i = 0;
-    while i < 8 {
-        let c = q.cursors[i];
+    for c in &q.cursors {
         seeks += c.seeks;
         looks += c.looks;
-        i += 1;
     }
     Listed { found, seeks, looks }
 }
@@ -49,19 +46,19 @@ fn put_common(table: &Table, card: &[u8], shapes: &[u32], k: usize, room: &mut [
     room[2] = listed.looks;
     listed.found + 3
 }
-pub fn by_common(table: &Table, card: &[u8], terms: &[u32], room: &mut [u32]) -> usize {
+pub fn by_common(table: &Table, card: &[u8], terms: &[u32], room: &mut [u32]) -> Option<usize> {
     let k = terms.len();
     let mut shapes = [0u32; 64];
     wordlists::open_pages(card, terms, &mut shapes);
     if rows::number(&shapes, 0, LENGTH) + 3 <= room.len() {
-        return put_common(table, card, &shapes, k, room);
+        return Some(put_common(table, card, &shapes, k, room));
     }
     let mut none = [0u32; 0];
     let counted = query::list_common(table, card, &shapes, k, &mut none);
     if room.len() < counted.found + 3 {
-        return 0;
+        return None;
     }
-    put_common(table, card, &shapes, k, room)
+    Some(put_common(table, card, &shapes, k, room))
 }
 """
 # how a screen lists its pages, and tells them
@@ -85,11 +82,8 @@ fn put_screen(
     if pages.len() < found {
         return Err(Refusal::Room);
     }
-    if replies::put(&[listed.seeks, listed.looks], counts) == 0 {
+    if replies::put(&[listed.seeks, listed.looks], counts).is_none() {
         return Err(Refusal::Room);
-    }
-    if found == 0 {
-        return Ok(shown(r, list, found));
     }
     replies::put(&list[0..found], pages);
     Ok(shown(r, list, found))
