@@ -11,8 +11,8 @@ TURNS = (tree.If, tree.Match, tree.Leave, tree.Try, tree.LetElse) + LOOPS
 
 
 def bound(function):
-    """Every name that a function binds, as often as it does: by parameters, by `let`, and by patterns, which loops, arms
-    and closures have too."""
+    """Every name that a function binds, as often as it does: by parameters, by `let`, and by patterns, which loops,
+    arms and closures have too."""
     return [p.name for p in function.parameters] + [b.name for b in tree.every((tree.Let, tree.Binder), function.body)]
 
 
@@ -38,8 +38,8 @@ def followed(node, values):
 
 
 def settled(function, node):
-    """Whether a part is in no loop and no closure, and all names in it stand for what the function is given and does not
-    change."""
+    """Whether a part is in no loop and no closure, and all names in it stand for what the function is given and does
+    not change."""
     names = bound(function)
     given = [p.name for p in function.parameters if not p.mutable and names.count(p.name) == 1]
     turns = any(part is node for loop in tree.every(LOOPS, function.body) for _, part in tree.pairs(loop))
@@ -63,8 +63,8 @@ def root(node):
 
 
 def changed_by_others(node):
-    """The places in a part that what is called there may change: those lent to be changed, and those that a method changes
-    that is called on them."""
+    """The places in a part that what is called there may change: those lent to be changed, and those that a method
+    changes which is called on them."""
     lent = [unary.of for unary in tree.every(tree.Unary, node) if unary.sign == "&mut"]
     return lent + [method.of for method in tree.every(tree.Method, node) if method.name not in GIVING]
 
@@ -134,7 +134,8 @@ class Bytes:
         if isinstance(node, tree.Call) and node.function not in HOLDING:
             callee = self.program.functions.get(self.program.callee(self.function, node))
             return callee is not None and is_bytes(callee.returns)
-        return any(self.holds(part) and is_again(node, part) for part in tree.children(node))
+        wraps = isinstance(node, (tree.Call, tree.Try, tree.Method))
+        return wraps and any(is_again(node, part) and self.holds(part) for part in tree.children(node))
 
     def what(self, node, part):
         """What a part does with the bytes that stand in it."""

@@ -1,25 +1,23 @@
-"""The methods of the toolchain's library that a library's file may call, by what they do."""
+"""The methods of the toolchain's library that a library's file may call, by what they do. Closures that they are handed
+are read where they stand."""
 
-# give a value and leave what they are called on as it is; what a closure changes is seen in the closure
+# give a value, and leave what they are called on as it is
 GIVING = {
-    # of numbers, tests and references
-    "abs_diff", "checked_add", "checked_mul", "checked_sub", "clamp", "clone", "cmp", "count_ones", "count_zeros",
-    "div_ceil", "is_multiple_of", "is_power_of_two", "leading_zeros", "max", "min", "pow", "rotate_left", "rotate_right",
-    "saturating_add", "saturating_sub", "then", "then_some", "to_be_bytes", "trailing_ones", "trailing_zeros",
-    "wrapping_add", "wrapping_mul", "wrapping_sub",
+    # of numbers, tests and structs
+    "abs_diff", "checked_add", "checked_sub", "clone", "count_ones", "div_ceil", "leading_zeros", "max", "min", "pow",
+    "saturating_sub", "then", "then_some", "to_be_bytes", "trailing_zeros", "wrapping_add",
     # of options and results
-    "and_then", "err", "filter", "is_err", "is_none", "is_ok", "is_some", "is_some_and", "map", "map_err", "map_or", "ok",
-    "ok_or", "or", "or_else", "try_into", "unwrap", "unwrap_or", "unwrap_or_else",
+    "and_then", "err", "filter", "is_err", "is_none", "is_ok", "is_some", "map", "map_err", "map_or", "ok", "ok_or",
+    "or", "try_into", "unwrap", "unwrap_or", "unwrap_or_else",
     # of lists, and of what goes over them
-    "all", "any", "as_slice", "chain", "chunks", "chunks_exact", "cloned", "contains", "copied", "count", "ends_with",
-    "enumerate", "filter_map", "find", "first", "flat_map", "fold", "get", "is_empty", "is_sorted", "iter", "last", "len",
-    "map_while", "position", "rev", "skip", "skip_while", "split_at", "split_first", "split_last", "starts_with", "step_by",
-    "sum", "take_while", "try_fold", "windows", "zip",
+    "all", "any", "chain", "chunks", "chunks_exact", "contains", "copied", "count", "enumerate", "filter_map", "find",
+    "first", "fold", "get", "is_empty", "iter", "last", "len", "position", "rev", "skip", "step_by", "sum",
+    "take_while", "windows", "zip",
 }
 # change what they are called on, or hand out parts of it that can be changed
-CHANGING = {"chunks_exact_mut", "copy_from_slice", "copy_within", "fill", "iter_mut", "next", "swap", "take"}
+CHANGING = {"chunks_exact_mut", "copy_from_slice", "fill", "iter_mut", "next", "swap", "take"}
 KNOWN = GIVING | CHANGING
-# calls a conversion that it does not name; no file may call it
+# call a conversion without its name, so that no file may call them
 NEVER = {"into"}
 # give the bytes that they are called on, in another type
-SAME_BYTES = {"as_slice", "try_into", "unwrap"}
+SAME_BYTES = {"try_into", "unwrap"}

@@ -65,12 +65,9 @@ class Program:
         path = bare(path)
         first, *rest = path.split("::")
         if first in source.uses:
-            whole = "::".join([source.uses[first]] + rest)
-        elif first in source.structs or first in source.others or path in source.functions:
-            whole = f"{crate}::{path}"
-        else:
-            whole = path
-        return whole
+            return "::".join([source.uses[first]] + rest)
+        own = first in source.structs or first in source.others or path in source.functions
+        return f"{crate}::{path}" if own else path
 
     def meaning(self, crate, path):
         """The whole path of a function or a type that a crate's source names."""
@@ -90,10 +87,11 @@ class Program:
         return [(self.callee(function, call), call) for call in tree.every(tree.Call, function.body)]
 
     def may_convert(self, function):
-        """Whether a function may call a conversion that it does not name with its crate: by `?`, which turns an error into
-        the one that the function gives, or as the `from` of a type of the toolchain."""
-        paths = [name.path for name in tree.every(tree.Name, function.body)] + [callee for callee, _ in self.calls(function)]
-        return bool(tree.every(tree.Try, function.body)) or any(bare(path).endswith("::from") for path in paths)
+        """Whether a function may call a conversion without the name of its crate: by `?`, which turns an error into the
+        one that the function gives, or as the `from` of a type of the toolchain."""
+        paths = [name.path for name in tree.every(tree.Name, function.body)]
+        paths += [call.function for call in tree.every(tree.Call, function.body)]
+        return bool(tree.every(tree.Try, function.body)) or any(path.endswith("::from") for path in paths)
 
     def reached(self, *roots):
         """The functions of the sources that functions call, and those that they call, themselves among them."""

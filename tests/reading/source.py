@@ -9,8 +9,9 @@ from .methods import KNOWN, NEVER
 from .tokens import Unread, tokens
 
 ASSIGNS = {"=", "+=", "-=", "*=", "/=", "%=", "|=", "&=", "^=", "<<=", ">>="}
-# what the toolchain may write for a struct or an enum
-DERIVES = {"Clone", "Copy", "Debug", "Default", "Eq", "Hash", "Ord", "PartialEq", "PartialOrd"}
+# what may stand before an item or a file, and what the toolchain may write for a struct or an enum
+ATTRIBUTES = ("derive", "inline", "repr", "tactic", "unsafe")
+DERIVES = ("Clone", "Copy", "Debug", "Default", "Eq", "Hash", "Ord", "PartialEq", "PartialOrd")
 
 
 @dataclass
@@ -50,8 +51,8 @@ class Function:
 @dataclass
 class Source:
     """The items of one file: functions, structs and other names of types by name, other types and constants, and what
-    `use` brings in; the facts that structs say of their fields, what is derived for structs and enums, and the functions
-    that turn a value into one of another type."""
+    `use` brings in; the facts that structs say of their fields, what is derived for structs and enums, and the
+    functions that turn a value into one of another type."""
     functions: dict = field(default_factory=dict)
     structs: dict = field(default_factory=dict)
     facts: dict = field(default_factory=dict)
@@ -163,7 +164,40 @@ class Reader:
             self.listed(">", lambda: self.take("lifetime"))
 
 
-class Expressions(Reader):
+class Patterns(Reader):
+    """What values are compared with and taken apart by."""
+
+    def patterns(self):
+        """A pattern, or several with `|` between them."""
+        found = [self.pattern()]
+        while self.accept("|"):
+            found.append(self.pattern())
+        return found[0] if len(found) == 1 else tree.Either(found)
+
+    def pattern(self):
+        if self.next.kind in ("number", "text"):
+            return tree.Constant(self.take(self.next.kind))
+        if self.sees("&", "&&"):
+            twice = self.expect("&", "&&") == "&&"
+            behind = tree.Behind(self.pattern())
+            return tree.Behind(behind) if twice else behind
+        if self.accept("("):
+            items = self.listed(")", self.patterns)
+            return tree.Holder("", items) if items else tree.Constant("()")
+        return tree.Binder(self.take("name"), True) if self.accept("mut") else self.named()
+
+    def named(self):
+        """A pattern that starts with a name: a variant, a constant, or the name that it binds."""
+        path = self.path()
+        is_binder = not path.split("::")[-1][0].isupper() and path not in ("_", "true", "false")
+        if is_binder and "::" in path:
+            self.fail("a constant or a variant before this")
+        if self.accept("("):
+            return tree.Holder(path, self.listed(")", self.patterns))
+        return tree.Binder(path, False) if is_binder else tree.Constant(path)
+
+
+class Expressions(Patterns):
     """Expressions, from those that bind least to those that bind most."""
 
     def expression(self, made=True):
@@ -270,36 +304,6 @@ class Expressions(Reader):
         return tree.Leave(word, value)
 
 
-    def patterns(self):
-        """A pattern, or several with `|` between them."""
-        found = [self.pattern()]
-        while self.accept("|"):
-            found.append(self.pattern())
-        return found[0] if len(found) == 1 else tree.Either(found)
-
-    def pattern(self):
-        if self.next.kind in ("number", "text"):
-            return tree.Constant(self.take(self.next.kind))
-        if self.sees("&", "&&"):
-            twice = self.expect("&", "&&") == "&&"
-            behind = tree.Behind(self.pattern())
-            return tree.Behind(behind) if twice else behind
-        if self.accept("("):
-            items = self.listed(")", self.patterns)
-            return tree.Holder("", items) if items else tree.Constant("()")
-        return tree.Binder(self.take("name"), True) if self.accept("mut") else self.named()
-
-    def named(self):
-        """A pattern that starts with a name: a variant, a constant, or the name that it binds."""
-        path = self.path()
-        is_binder = not path.split("::")[-1][0].isupper() and path not in ("_", "true", "false")
-        if is_binder and "::" in path:
-            self.fail("a constant or a variant before this")
-        if self.accept("("):
-            return tree.Holder(path, self.listed(")", self.patterns))
-        return tree.Binder(path, False) if is_binder else tree.Constant(path)
-
-
 class Statements(Expressions):
     """Blocks, what is made of blocks, and the statements in them."""
 
@@ -392,21 +396,18 @@ class Items(Statements):
         return found
 
     def attributes(self):
-        """Passes attributes; what they say is derived."""
+        """Passes attributes; what is derived by them."""
         derived = []
         while self.accept("#"):
             self.accept("!")
             self.expect("[")
-            if self.accept("derive"):
+            if self.expect(*ATTRIBUTES) == "derive":
                 self.expect("(")
-                derived += self.listed(")", self.derive)
+                derived += self.listed(")", lambda: self.expect(*DERIVES))
                 self.expect("]")
             else:
                 self.skip_inside("[", "]")
         return derived
-
-    def derive(self):
-        return self.take("name") if self.next.text in DERIVES else self.fail("what may be derived")
 
     def braced(self):
         """The text inside a pair of braces, which is passed."""

@@ -88,7 +88,7 @@ def called_where_named(program):
 
 
 def steps_once(program):
-    """`seek` and `seek_in` have no branch and no loop: each of their steps is taken once."""
+    """`seek` and `seek_in` have no branch, no loop, no closure and no `?`: each of their steps is taken once."""
     for path in STRAIGHT:
         for node in tree.every(flow.TURNS, program.function(path).body):
             yield f"{path}: `{node}`"
@@ -115,7 +115,8 @@ def cursor_kept(program):
 
 def query_kept(program):
     """The loop of seeks puts the cursor that a seek gave back into the slot that it came from, before anything else,
-    and changes the query in no other way; nothing else in any crate changes a query's cursors."""
+    and changes the query in no other way; nothing else in any crate changes a query's cursors, or lends them to be
+    changed."""
     for f in program.functions.values():
         stores = [change for change in tree.every(tree.Assign, f.body) if in_cursors(change.target)]
         yield from (f"{f.path}: `{place}` may be changed there" for place in flow.changed_by_others(f.body)

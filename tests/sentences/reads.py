@@ -58,7 +58,7 @@ def card_goes_to_kinds(program):
 
 def bytes_are_followed(program):
     """From kind 3 and from a screen on, through all crates, bytes are cut, named, handed to functions of the crates and
-    given back, and nothing else is done with them but read them, as bytes or as a whole number, and take their length."""
+    given back, and nothing else is done with them but read them, by a byte or as a number, and take their length."""
     for f in reached(program):
         held = flow.Bytes(program, f)
         for name in held.twice():

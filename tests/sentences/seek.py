@@ -77,7 +77,7 @@ def given_things_stay(program):
 
 
 def shape_goes_whole(program):
-    """In the seek's crates no shape is made, which has no default value, and each function hands on the shape that it was
+    """In the seek's crates no shape is made, and none is had by default; each function hands on the shape that it was
     given."""
     if SHAPE in program.with_default:
         yield f"{SHAPE}: it has a default value"
