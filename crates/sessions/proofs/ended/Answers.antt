@@ -5,4 +5,4 @@ use Rattle.sessions.proofs.ended.Goals as goal
 
 pub returns : goal.returns
 unfolding over
-returns c = (refl, refl, refl)
+returns c = (refl, refl)
