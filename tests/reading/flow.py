@@ -3,13 +3,17 @@ from dataclasses import fields, replace
 from typing import NamedTuple
 
 from . import tree
+from .methods import GIVING, SAME_BYTES
+
+# steps that may be taken again or not at all, and those that may leave
+LOOPS = (tree.Loop, tree.For, tree.Closure)
+TURNS = (tree.If, tree.Match, tree.Leave, tree.Try, tree.LetElse) + LOOPS
 
 
 def bound(function):
-    """Every name that a function binds, as often as it does."""
-    lets = [let.name for let in tree.every((tree.Let, tree.LetElse), function.body)]
-    loops = [loop.name for loop in tree.every(tree.For, function.body)]
-    return [p.name for p in function.parameters] + lets + loops
+    """Every name that a function binds, as often as it does: by parameters, by `let`, and by patterns, which loops, arms
+    and closures have too."""
+    return [p.name for p in function.parameters] + [b.name for b in tree.every((tree.Let, tree.Binder), function.body)]
 
 
 def named(function):
@@ -34,11 +38,11 @@ def followed(node, values):
 
 
 def settled(function, node):
-    """Whether a part is in no loop, and all names in it stand for what the function is given and does not change."""
+    """Whether a part is in no loop and no closure, and all names in it stand for what the function is given and does not
+    change."""
     names = bound(function)
     given = [p.name for p in function.parameters if not p.mutable and names.count(p.name) == 1]
-    loops = tree.every((tree.Loop, tree.For), function.body)
-    turns = any(part is node for loop in loops for _, part in tree.pairs(loop))
+    turns = any(part is node for loop in tree.every(LOOPS, function.body) for _, part in tree.pairs(loop))
     used = [name.path for name in tree.every(tree.Name, followed(node, named(function)))]
     return not turns and all(name in given for name in used if name in names)
 
@@ -53,9 +57,16 @@ def origin(program, function, node):
 
 def root(node):
     """The name that a place starts from."""
-    while isinstance(node, (tree.Field, tree.Index, tree.Unary)):
+    while isinstance(node, (tree.Field, tree.Index, tree.Unary, tree.Method)):
         node = node.of
     return str(node)
+
+
+def changed_by_others(node):
+    """The places in a part that what is called there may change: those lent to be changed, and those that a method changes
+    that is called on them."""
+    lent = [unary.of for unary in tree.every(tree.Unary, node) if unary.sign == "&mut"]
+    return lent + [method.of for method in tree.every(tree.Method, node) if method.name not in GIVING]
 
 
 def mentions(name, node):
@@ -69,6 +80,25 @@ def mentions(name, node):
 
 def is_bytes(kind):
     return "[u8" in kind
+
+
+# variants that hold a value, which is followed as if it stood alone
+HOLDING = ("Some", "Ok", "Err")
+
+
+def is_again(node, part):
+    """Whether what a part gives is the bytes that stand in it: lent, held by a variant, or as another type."""
+    if isinstance(node, tree.Unary):
+        return node.sign in ("&", "&mut")
+    if isinstance(node, tree.Call):
+        return node.function in HOLDING
+    return isinstance(node, tree.Try) or isinstance(node, tree.Method) and part is node.of and node.name in SAME_BYTES
+
+
+def names_whole(pattern):
+    """Whether a pattern that fits bytes gives them a name as they are, and compares nothing of them."""
+    holds = isinstance(pattern, tree.Holder) and pattern.variant in HOLDING
+    return all(map(names_whole, pattern.items)) if holds else isinstance(pattern, tree.Binder)
 
 
 class Use(NamedTuple):
@@ -90,6 +120,8 @@ class Bytes:
             size = len(self.names)
             self.names |= {let.name for let in tree.every(tree.Let, function.body) if self.holds(let.value)}
             self.names |= {root(a.target) for a in tree.every(tree.Assign, function.body) if self.holds(a.value)}
+            fits = [fit for fit in tree.every((tree.LetElse, tree.Fits), function.body) if self.holds(fit.value)]
+            self.names |= {binder.name for fit in fits for binder in tree.every(tree.Binder, fit.pattern)}
 
     def holds(self, node):
         """Whether a part is bytes."""
@@ -99,10 +131,10 @@ class Bytes:
             return self.holds(node.of)
         if isinstance(node, tree.Index):
             return isinstance(node.at, tree.Range) and self.holds(node.of)
-        if isinstance(node, tree.Call):
+        if isinstance(node, tree.Call) and node.function not in HOLDING:
             callee = self.program.functions.get(self.program.callee(self.function, node))
             return callee is not None and is_bytes(callee.returns)
-        return False
+        return any(self.holds(part) and is_again(node, part) for part in tree.children(node))
 
     def what(self, node, part):
         """What a part does with the bytes that stand in it."""
@@ -114,14 +146,16 @@ class Bytes:
             return "length"
         if isinstance(node, tree.Let) or isinstance(node, tree.Assign) and isinstance(node.target, tree.Name):
             return "named"
+        if isinstance(node, (tree.LetElse, tree.Fits)) and names_whole(node.pattern):
+            return "named"
         if str(node).startswith("return ") or node is self.function.body and part is node.value:
             return "returned"
         return "other"
 
     def uses(self):
-        """All that is done with bytes; `&x` of bytes is bytes again, and no use of its own."""
+        """All that is done with bytes; what is bytes again, as `&x`, is no use of its own."""
         return [Use(self.what(node, part), node, part) for node, part in tree.pairs(self.function.body)
-                if self.holds(part) and not (isinstance(node, tree.Unary) and node.sign in ("&", "&mut"))]
+                if self.holds(part) and not is_again(node, part)]
 
     def twice(self):
         """Names of bytes that are bound more than once."""

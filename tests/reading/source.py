@@ -1,12 +1,16 @@
 """A source read whole: its functions with their bodies, and its structs. What this reader does not know is an error:
-modules, methods but `len`, patterns that bind, tuples and whatever else the sources do not use. The file of a program,
-which reads files and prints, may also call methods of the toolchain's library, and use `?` and `let .. else`."""
+modules, functions that take `self`, traits but `From`, patterns of structs and of slices, closures that are not handed
+on, tuples that are made, macros and whatever else the sources do not use. A method is the toolchain's, and one that
+methods.py lists; the file of a program, which reads files and prints, may call others too."""
 from dataclasses import dataclass, field
 
 from . import tree
+from .methods import KNOWN, NEVER
 from .tokens import Unread, tokens
 
 ASSIGNS = {"=", "+=", "-=", "*=", "/=", "%=", "|=", "&=", "^=", "<<=", ">>="}
+# what the toolchain may write for a struct or an enum
+DERIVES = {"Clone", "Copy", "Debug", "Default", "Eq", "Hash", "Ord", "PartialEq", "PartialOrd"}
 
 
 @dataclass
@@ -46,9 +50,13 @@ class Function:
 @dataclass
 class Source:
     """The items of one file: functions, structs and other names of types by name, other types and constants, and what
-    `use` brings in."""
+    `use` brings in; the facts that structs say of their fields, what is derived for structs and enums, and the functions
+    that turn a value into one of another type."""
     functions: dict = field(default_factory=dict)
     structs: dict = field(default_factory=dict)
+    facts: dict = field(default_factory=dict)
+    derived: dict = field(default_factory=dict)
+    conversions: set = field(default_factory=set)
     aliases: dict = field(default_factory=dict)
     others: set = field(default_factory=set)
     uses: dict = field(default_factory=dict)
@@ -60,6 +68,8 @@ class Reader:
     def __init__(self, crate, text, is_program):
         self.crate, self.text, self.is_program = crate, text, is_program
         self.tokens, self.at = tokens(text), 0
+        # the type that `Self` stands for, if any
+        self.own = None
 
     @property
     def next(self):
@@ -91,12 +101,6 @@ class Reader:
         self.at += 1
         return self.tokens[self.at - 1].text
 
-    def in_program(self):
-        """Passes a token that only the file of a program may have there."""
-        if not self.is_program:
-            self.fail("what a library's file may have")
-        self.at += 1
-
     def listed(self, end, read):
         """What lies between commas, up to the bracket that ends it."""
         found = []
@@ -107,9 +111,12 @@ class Reader:
         return found
 
     def path(self):
+        """A path's text, with the types that a part of it is given in angles; `Self` is the type that it stands for."""
         path = self.take("name")
+        if path == "Self":
+            path = self.own or self.fail("a name that is known here before this")
         while self.accept("::"):
-            path += "::" + self.take("name")
+            path += "::" + (self.type_arguments() if self.sees("<") else self.take("name"))
         return path
 
     def type(self):
@@ -136,9 +143,20 @@ class Reader:
         """The text of the types that a type is given in angles, lifetimes left out; nothing where it is given none."""
         if not self.accept("<"):
             return ""
-        given = self.listed(">", lambda: "" if self.accept_kind("lifetime") else self.type())
+        given = []
+        while not self.closes():
+            given.append("" if self.accept_kind("lifetime") else self.type())
+            if not self.sees(">", ">>"):
+                self.expect(",")
         types = [kind for kind in given if kind]
         return f"<{', '.join(types)}>" if types else ""
+
+    def closes(self):
+        """Whether an angle closes here, which is passed; of `>>` the second one is left."""
+        if self.sees(">>"):
+            self.tokens[self.at] = self.next._replace(text=">", start=self.next.start + 1)
+            return True
+        return bool(self.accept(">"))
 
     def lifetimes(self):
         if self.accept("<"):
@@ -181,8 +199,7 @@ class Expressions(Reader):
             if self.accept("["):
                 left = tree.Index(left, self.expression())
                 self.expect("]")
-            elif self.sees("?"):
-                self.in_program()
+            elif self.accept("?"):
                 left = tree.Try(left)
             else:
                 self.expect(".")
@@ -191,14 +208,22 @@ class Expressions(Reader):
 
     def member(self, of, name):
         """A field, or a method, which is the toolchain's, since no crate of the sources declares one."""
-        if not self.sees("("):
+        types = "::" + self.type_arguments() if self.accept("::") else ""
+        if not types and not self.sees("("):
             return tree.Field(of, name)
-        if name == "len":
-            self.expect("(")
+        known = name in KNOWN or self.is_program and name not in NEVER
+        self.expect("(") if known else self.fail(f"a method that is known and not `{name}` before this")
+        if name == "len" and not types:
             self.expect(")")
             return tree.Length(of)
-        self.in_program()
-        return tree.Method(of, name, self.listed(")", self.expression))
+        return tree.Method(of, name, types, self.listed(")", self.argument))
+
+    def argument(self):
+        """What a function or a method is handed: an expression or a closure."""
+        if not self.sees("|", "||"):
+            return self.expression()
+        parameters = [] if self.expect("|", "||") == "||" else self.listed("|", self.pattern)
+        return tree.Closure(parameters, self.expression())
 
     def primary(self, made):
         if self.next.kind in ("number", "text"):
@@ -217,7 +242,7 @@ class Expressions(Reader):
             return self.leave(made)
         path = self.path()
         if self.accept("("):
-            return tree.Call(path, self.listed(")", self.expression))
+            return tree.Call(path, self.listed(")", self.argument))
         if made and path.split("::")[-1][0].isupper() and self.accept("{"):
             return tree.Made(path, self.listed("}", self.given))
         return tree.Name(path)
@@ -245,6 +270,36 @@ class Expressions(Reader):
         return tree.Leave(word, value)
 
 
+    def patterns(self):
+        """A pattern, or several with `|` between them."""
+        found = [self.pattern()]
+        while self.accept("|"):
+            found.append(self.pattern())
+        return found[0] if len(found) == 1 else tree.Either(found)
+
+    def pattern(self):
+        if self.next.kind in ("number", "text"):
+            return tree.Constant(self.take(self.next.kind))
+        if self.sees("&", "&&"):
+            twice = self.expect("&", "&&") == "&&"
+            behind = tree.Behind(self.pattern())
+            return tree.Behind(behind) if twice else behind
+        if self.accept("("):
+            items = self.listed(")", self.patterns)
+            return tree.Holder("", items) if items else tree.Constant("()")
+        return tree.Binder(self.take("name"), True) if self.accept("mut") else self.named()
+
+    def named(self):
+        """A pattern that starts with a name: a variant, a constant, or the name that it binds."""
+        path = self.path()
+        is_binder = not path.split("::")[-1][0].isupper() and path not in ("_", "true", "false")
+        if is_binder and "::" in path:
+            self.fail("a constant or a variant before this")
+        if self.accept("("):
+            return tree.Holder(path, self.listed(")", self.patterns))
+        return tree.Binder(path, False) if is_binder else tree.Constant(path)
+
+
 class Statements(Expressions):
     """Blocks, what is made of blocks, and the statements in them."""
 
@@ -253,7 +308,7 @@ class Statements(Expressions):
             return self.block()
         word = self.take("name")
         if word == "if":
-            test, then = self.expression(made=False), self.block()
+            test, then = self.test(), self.block()
             other = (self.blocklike() if self.sees("if") else self.block()) if self.accept("else") else None
             return tree.If(test, then, other)
         if word == "match":
@@ -261,31 +316,28 @@ class Statements(Expressions):
             self.expect("{")
             return tree.Match(of, self.arms())
         if word == "for":
-            name = self.take("name")
+            pattern = self.patterns()
             self.expect("in")
-            return tree.For(name, self.expression(made=False), self.block())
-        return tree.Loop(self.expression(made=False) if word == "while" else None, self.block())
+            return tree.For(pattern, self.expression(made=False), self.block())
+        return tree.Loop(self.test() if word == "while" else None, self.block())
+
+    def test(self):
+        """What `if` or `while` tests: an expression, or alone whether a value fits a pattern."""
+        if not self.accept("let"):
+            return self.expression(made=False)
+        pattern = self.patterns()
+        self.expect("=")
+        return tree.Fits(pattern, self.binary(tree.STRENGTH["&&"] + 1, made=False))
 
     def arms(self):
         found = []
         while not self.accept("}"):
-            pattern = self.pattern()
-            while self.accept("|"):
-                pattern += " | " + self.pattern()
+            pattern = self.patterns()
             self.expect("=>")
             found.append(tree.Arm(pattern, self.expression()))
             ended = isinstance(found[-1].body, tree.Block) or self.sees("}")
             self.accept(",") if ended else self.expect(",")
         return found
-
-    def pattern(self):
-        """A number, a variant or `_`: no pattern binds a name."""
-        if self.next.kind == "number":
-            return self.take("number")
-        path = self.path()
-        if path != "_" and not path.split("::")[-1][0].isupper():
-            self.fail("a pattern that binds no name before this")
-        return path
 
     def block(self):
         self.expect("{")
@@ -313,24 +365,16 @@ class Statements(Expressions):
         return tree.Assign(sign, left, self.expression()) if sign else left
 
     def let(self):
-        mutable = bool(self.accept("mut"))
-        name = self.take("name")
-        if self.sees("("):
-            self.in_program()
-            return self.let_else(name)
+        """A name for a value; or names for what fits a pattern, and a block that leaves where the value does not."""
+        pattern = self.patterns()
+        if str(pattern) != "_" and not isinstance(pattern, tree.Binder):
+            self.expect("=")
+            value = self.expression()
+            self.expect("else")
+            return tree.LetElse(pattern, value, self.block())
         kind = self.type() if self.accept(":") else ""
         self.expect("=")
-        return tree.Let(name, mutable, kind, self.expression())
-
-    def let_else(self, variant):
-        """What a variant holds gets a name, or the block behind `else` leaves."""
-        mutable = bool(self.accept("mut"))
-        name = self.take("name")
-        self.expect(")")
-        self.expect("=")
-        value = self.expression()
-        self.expect("else")
-        return tree.LetElse(variant, name, mutable, value, self.block())
+        return tree.Let(getattr(pattern, "name", "_"), getattr(pattern, "mutable", False), kind, self.expression())
 
 
 class Items(Statements):
@@ -339,19 +383,37 @@ class Items(Statements):
     def source(self):
         found = Source()
         while self.next.kind != "end":
-            self.attributes()
+            derived = self.attributes()
             if self.accept("ghost"):
                 self.expect("use")
                 self.skip_to(";")
             elif self.next.kind != "end":
-                self.item(found, "")
+                self.item(found, derived)
         return found
 
     def attributes(self):
+        """Passes attributes; what they say is derived."""
+        derived = []
         while self.accept("#"):
             self.accept("!")
             self.expect("[")
-            self.skip_inside("[", "]")
+            if self.accept("derive"):
+                self.expect("(")
+                derived += self.listed(")", self.derive)
+                self.expect("]")
+            else:
+                self.skip_inside("[", "]")
+        return derived
+
+    def derive(self):
+        return self.take("name") if self.next.text in DERIVES else self.fail("what may be derived")
+
+    def braced(self):
+        """The text inside a pair of braces, which is passed."""
+        self.expect("{")
+        first = self.next.start
+        self.skip_inside("{", "}")
+        return " ".join(self.text[first:self.tokens[self.at - 1].start].split())
 
     def skip_inside(self, start, end):
         """Passes what is left of a pair of brackets."""
@@ -368,17 +430,18 @@ class Items(Statements):
                 self.fail(f"`{end}`")
             self.at += 1
 
-    def item(self, found, within):
+    def item(self, found, derived):
         public = bool(self.accept("pub"))
         exported = self.accept("extern") and self.take("text")
         word = self.expect("fn") if exported else self.expect("fn", "struct", "enum", "const", "type", "use", "impl")
         if word == "fn":
-            function = self.function(public, within)
+            function = self.function(public)
             self.once(found.functions, function.name, function)
         elif word == "struct":
             name = self.take("name")
             self.lifetimes()
-            self.once(found.structs, name, self.fields())
+            found.derived[name] = derived
+            self.once(found.structs, name, self.fields(found.facts.setdefault(name, {})))
         elif word == "type":
             name = self.take("name")
             self.once(found.aliases, name, self.alias())
@@ -389,7 +452,9 @@ class Items(Statements):
         elif word == "impl":
             self.methods(found)
         else:
-            found.others.add(self.take("name"))
+            name = self.take("name")
+            found.others.add(name)
+            found.derived[name] = derived
             self.enum() if word == "enum" else self.constant()
 
     def used(self):
@@ -407,20 +472,48 @@ class Items(Statements):
         named[name] = item
 
     def methods(self, found):
-        within = self.take("name") + "::"
+        """The functions of a type, or the one that turns a value into one of it."""
+        self.own = self.take("name")
+        converts = self.own == "From" and bool(self.type_arguments())
+        if converts:
+            self.expect("for")
+            self.own = self.take("name")
+            found.conversions.add(f"{self.own}::from")
         self.expect("{")
         while not self.accept("}"):
-            self.item(found, within)
+            if converts and self.accept("ghost"):
+                self.ghost()
+            else:
+                self.item(found, self.attributes())
+        self.own = None
 
-    def fields(self):
+    def ghost(self):
+        """Passes what a conversion says of itself in a contract."""
+        self.take("name")
+        self.expect("=")
+        self.braced()
+        self.expect(";")
+
+    def fields(self, facts):
+        """The fields of a struct, and apart from them the facts that it says of them."""
         self.expect("{")
-        return dict(self.listed("}", self.field))
+        fields = {}
+        while not self.accept("}"):
+            self.accept("pub")
+            fact = self.accept("ghost")
+            name = self.take("name")
+            self.expect(":")
+            self.once(facts if fact else fields, name, self.fact() if fact else self.type())
+            if not self.sees("}"):
+                self.expect(",")
+        return fields
 
-    def field(self):
-        self.accept("pub")
-        name = self.take("name")
-        self.expect(":")
-        return name, self.type()
+    def fact(self):
+        """The text of a fact, which is passed with its proof."""
+        fact = self.braced()
+        if self.accept("by"):
+            self.braced()
+        return fact
 
     def enum(self):
         self.expect("{")
@@ -439,8 +532,8 @@ class Items(Statements):
         self.expression()
         self.expect(";")
 
-    def function(self, public, within):
-        name = within + self.take("name")
+    def function(self, public):
+        name = (f"{self.own}::" if self.own else "") + self.take("name")
         self.lifetimes()
         self.expect("(")
         parameters = self.listed(")", self.parameter)
@@ -453,7 +546,7 @@ class Items(Statements):
 
     def parameter(self):
         mutable = bool(self.accept("mut"))
-        name = self.take("name")
+        name = self.fail("a parameter that is no `self`") if self.sees("self") else self.take("name")
         self.expect(":")
         return Parameter(name, mutable, self.type())
 
@@ -461,10 +554,7 @@ class Items(Statements):
         """The text of a clause of a contract, which is passed, and without its name if it has one."""
         self.expect("requires", "ensures")
         self.accept_kind("name")
-        self.expect("{")
-        first = self.next.start
-        self.skip_inside("{", "}")
-        return " ".join(self.text[first:self.tokens[self.at - 1].start].split())
+        return self.braced()
 
 
 def read(crate, text, is_program=False):

@@ -16,8 +16,8 @@ def listed(nodes):
 
 def closed(node, strength):
     """The text of an operand, in brackets where its operator binds less than `strength`."""
-    weak = isinstance(node, Binary) and STRENGTH[node.sign] < strength or isinstance(node, Cast) and strength > 11
-    return f"({node})" if weak else str(node)
+    weakest = STRENGTH[node.sign] if isinstance(node, Binary) else {Range: 1, Cast: 11, Unary: 12}.get(type(node), 13)
+    return f"({node})" if weakest < strength else str(node)
 
 
 @dataclass(eq=False)
@@ -86,18 +86,29 @@ class Length(Node):
 
 @dataclass(eq=False)
 class Method(Node):
-    """A call of another method, in a program."""
+    """A call of another method, with the types that it is given in angles, if any."""
     of: Node
     name: str
+    types: str
     arguments: list
 
     def __str__(self):
-        return f"{closed(self.of, 13)}.{self.name}({listed(self.arguments)})"
+        return f"{closed(self.of, 13)}.{self.name}{self.types}({listed(self.arguments)})"
+
+
+@dataclass(eq=False)
+class Closure(Node):
+    """A function without a name, handed to a function or a method."""
+    parameters: list
+    body: Node
+
+    def __str__(self):
+        return f"|{listed(self.parameters)}| {self.body}"
 
 
 @dataclass(eq=False)
 class Try(Node):
-    """`x?`, which gives what `x` holds or leaves the function."""
+    """`x?`, which gives what `x` holds or leaves the function, or the closure, that it stands in."""
     of: Node
 
     def __str__(self):
@@ -181,6 +192,63 @@ class Block(Node):
 
 
 @dataclass(eq=False)
+class Binder(Node):
+    """A pattern that gives what stands there a name."""
+    name: str
+    mutable: bool
+
+    def __str__(self):
+        return f"mut {self.name}" if self.mutable else self.name
+
+
+@dataclass(eq=False)
+class Constant(Node):
+    """A pattern that is a number, a constant, a variant that holds nothing, `()`, or `_`."""
+    text: str
+
+    def __str__(self):
+        return self.text
+
+
+@dataclass(eq=False)
+class Holder(Node):
+    """A pattern of a variant and what it holds, or of a tuple, whose variant is the empty text."""
+    variant: str
+    items: list
+
+    def __str__(self):
+        return f"{self.variant}({listed(self.items)})"
+
+
+@dataclass(eq=False)
+class Behind(Node):
+    """A pattern of what is behind a reference."""
+    of: Node
+
+    def __str__(self):
+        return f"&{self.of}"
+
+
+@dataclass(eq=False)
+class Either(Node):
+    """Several patterns, of which one has to fit."""
+    items: list
+
+    def __str__(self):
+        return " | ".join(map(str, self.items))
+
+
+@dataclass(eq=False)
+class Fits(Node):
+    """The test whether a value fits a pattern, which names what it binds."""
+    pattern: Node
+    value: Node
+
+    def __str__(self):
+        return f"let {self.pattern} = {self.value}"
+
+
+@dataclass(eq=False)
 class If(Node):
     test: Node
     then: Node
@@ -202,17 +270,17 @@ class Loop(Node):
 
 @dataclass(eq=False)
 class For(Node):
-    name: str
+    pattern: Node
     over: Node
     body: Node
 
     def __str__(self):
-        return f"for {self.name} in {self.over} {self.body}"
+        return f"for {self.pattern} in {self.over} {self.body}"
 
 
 @dataclass(eq=False)
 class Arm(Node):
-    pattern: str
+    pattern: Node
     body: Node
 
     def __str__(self):
@@ -252,15 +320,13 @@ class Let(Node):
 
 @dataclass(eq=False)
 class LetElse(Node):
-    """A name for what a variant holds; where the value is another one, the block leaves."""
-    variant: str
-    name: str
-    mutable: bool
+    """Names for what fits a pattern; where the value does not fit it, the block leaves."""
+    pattern: Node
     value: Node
     other: Node
 
     def __str__(self):
-        return f"let {self.variant}({'mut ' if self.mutable else ''}{self.name}) = {self.value} else {self.other}"
+        return f"let {self.pattern} = {self.value} else {self.other}"
 
 
 @dataclass(eq=False)

@@ -48,7 +48,6 @@ CALLS = {
 }
 # what `seek_in` is given and gives back: the query, and the cursor in hand
 IN_HAND = ("q", "hand")
-TURNS = (tree.If, tree.Match, tree.Loop, tree.For, tree.Leave)
 # functions that take each of their steps once
 STRAIGHT = [SEEK, SEEK_IN]
 
@@ -69,12 +68,13 @@ def counts_where_named(program):
 
 def made_where_named(program):
     """In all crates cursors, queries, what seeks hand on with them and sums of counts are made only at the places of
-    the table."""
+    the table, and none of them has a default value."""
     found = {}
     for f in program.functions.values():
         for made in tree.every(tree.Made, f.body):
             found.setdefault(program.meaning(f.crate, made.type), []).append(f.path)
     yield from compared("made in", {name: found.get(name, []) for name in MADE}, MADE)
+    yield from (f"{name}: it has a default value" for name in MADE if name in program.with_default)
 
 
 def called_where_named(program):
@@ -90,7 +90,7 @@ def called_where_named(program):
 def steps_once(program):
     """`seek` and `seek_in` have no branch and no loop: each of their steps is taken once."""
     for path in STRAIGHT:
-        for node in tree.every(TURNS, program.function(path).body):
+        for node in tree.every(flow.TURNS, program.function(path).body):
             yield f"{path}: `{node}`"
 
 
@@ -99,6 +99,7 @@ def cursor_kept(program):
     changes nothing else."""
     f = program.function(SEEK_IN)
     changes = tree.every(tree.Assign, f.body)
+    yield from (f"{f.path}: `{place}` may be changed there" for place in flow.changed_by_others(f.body))
     seeks = [call for callee, call in program.calls(f) if callee == SEEK]
     if len(seeks) != 1:
         yield f"{f.path}: {len(seeks)} seeks"
@@ -116,14 +117,20 @@ def query_kept(program):
     """The loop of seeks puts the cursor that a seek gave back into the slot that it came from, before anything else,
     and changes the query in no other way; nothing else in any crate changes a query's cursors."""
     for f in program.functions.values():
-        stores = [change for change in tree.every(tree.Assign, f.body)
-                  if any(field.name == "cursors" for field in tree.every(tree.Field, change.target))]
+        stores = [change for change in tree.every(tree.Assign, f.body) if in_cursors(change.target)]
+        yield from (f"{f.path}: `{place}` may be changed there" for place in flow.changed_by_others(f.body)
+                    if in_cursors(place))
         if f.path != LOOP:
             yield from (f"{f.path}: `{store}` changes a query's cursors" for store in stores)
         elif len(stores) == 1:
             yield from round_wrong(program, f, stores[0])
         else:
             yield f"{f.path}: it stores cursors at {len(stores)} places"
+
+
+def in_cursors(place):
+    """Whether a place is in a query's cursors."""
+    return any(field.name == "cursors" for field in tree.every(tree.Field, place))
 
 
 def round_wrong(program, f, store):
@@ -133,8 +140,11 @@ def round_wrong(program, f, store):
     told = [(str(change.target), flow.origin(program, f, change.value)) for change in changes]
     if told != [(place, f"{SEEK_IN}().{field}") for place, field in zip((query, slot), IN_HAND)]:
         yield f"{f.path}: the query is changed by {', '.join(f'`{change}`' for change in changes)}"
-    starts = [str(let) for let in tree.every(tree.Let, f.body) if let.name == query]
-    first = [name for name in f.of_type("Query") if len(flow.mentions(name, f.body)) == 1]
+    if query in map(flow.root, flow.changed_by_others(f.body)):
+        yield f"{f.path}: the query is changed by what is called"
+    starts = [str(let) for let in tree.every((tree.Let, tree.Binder), f.body) if let.name == query]
+    first = [name for name in f.of_type("Query")
+             if len(flow.mentions(name, f.body)) == 1 and flow.bound(f).count(name) == 1]
     if starts not in [[f"let mut {query} = {name}"] for name in first]:
         yield f"{f.path}: the query that is given is used for more than to start the loop"
     yield from between_wrong(program, f, store, changes)
@@ -151,7 +161,7 @@ def between_wrong(program, f, store, changes):
     steps = steps[taken[0]:steps.index(store)]
     for step in steps:
         plain = isinstance(step, tree.Let) or step in changes
-        if not plain or tree.every(TURNS + (tree.Block,), step):
+        if not plain or tree.every(flow.TURNS + (tree.Block,), step):
             yield f"{f.path}: `{step}` between a seek and the storing of its cursor"
     given = [[(node.name, str(node.value)) for node in tree.every(tree.Given, step)] for step in steps
              if flow.origin(program, f, getattr(step, "value", step)) == f"{SEEK_IN}()"]

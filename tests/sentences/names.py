@@ -14,19 +14,21 @@ LOW_PART = "landing::low_part"
 # the function of another crate that a seek hands the list's bytes to
 POINTER = "reading::pointer_at"
 
-# the crates whose functions read the bytes that they are given, the one of them that reads a word, and the function
-# besides those that reads a number which a block stores
+# the crates whose functions read the bytes that they are given, the one of them that reads a word, the function besides
+# those that reads a number which a block stores, and what makes a number of bytes in the toolchain's library
 READING = ["numbers", "runs"]
 RUN_WORD = "runs::run_word"
 NUMBER_IN = "reading::number_in"
+FROM_BYTES = ["u16::from_be_bytes", "u32::from_be_bytes", "u64::from_be_bytes"]
 # what reads a bitmap's words for a rank, and what alone calls it
 RANK = "maprank::rank_at"
 RANK_IN = "rows::rank_in"
 
-# the name of the table's type, what gives the table, and what each function asks of the one that it is lent
-TABLE = "Table"
+# the table's type, its fields, what it says of them, and what makes the table
+TABLE = "bytetable::Table"
+ROWS = {"rows": "[u8; 2048]"}
+IS_TABLE = {"places": "PlacesOfOnes rows"}
 PLACES = "bytetable::places"
-IS_TABLE = "PlacesOfOnes {}.now"
 
 # one seek by the cursor in hand, and the one loop that makes seeks
 SEEK_IN = "query::seek_in"

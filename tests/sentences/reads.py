@@ -3,8 +3,8 @@ from typing import NamedTuple
 
 from reading import flow, tree
 from reading.compare import compared
-from sentences.names import ANSWERS, IS_TABLE, KIND_3, KINDS, LOOK, LOW_PART, NUMBER_IN, PLACES, POINTER, READING
-from sentences.names import RUN_WORD, SCREEN, SHOWING, SHOWN_BY, TABLE
+from sentences.names import ANSWERS, FROM_BYTES, IS_TABLE, KIND_3, KINDS, LOOK, LOW_PART, NUMBER_IN, PLACES, POINTER
+from sentences.names import READING, ROWS, RUN_WORD, SCREEN, SHOWING, SHOWN_BY, TABLE
 from sentences.written import WRITTEN
 
 
@@ -19,8 +19,8 @@ class Read(NamedTuple):
 
 # every read of bytes that kind 3 or a screen reaches
 READS = {
-    "numbers::read_u32": Read(["s[at]", "s[at + 1]", "s[at + 2]", "s[at + 3]"], "the bytes of a number"),
-    "numbers::read_u64": Read(["read_u32(s, at)", "read_u32(s, at + 4)"], "the halves of a number"),
+    "numbers::read_u32": Read(["u32::from_be_bytes(s[at..at + 4].try_into().unwrap())"], "the bytes of a number"),
+    "numbers::read_u64": Read(["u64::from_be_bytes(s[at..at + 8].try_into().unwrap())"], "the bytes of a word"),
     RUN_WORD: Read(["numbers::read_u64(s, at + 8 * k)"], "the word that is asked for"),
     "parts::blocks_from": Read(
         ["numbers::read_u32(rest, 0)"], "the lengths of the blocks before one", "Walkable from k s.now"),
@@ -58,22 +58,22 @@ def card_goes_to_kinds(program):
 
 def bytes_are_followed(program):
     """From kind 3 and from a screen on, through all crates, bytes are cut, named, handed to functions of the crates and
-    given back, and nothing else is done with them but read them and take their length."""
+    given back, and nothing else is done with them but read them, as bytes or as a whole number, and take their length."""
     for f in reached(program):
         held = flow.Bytes(program, f)
         for name in held.twice():
             yield f"{f.path}: the bytes {name} are bound more than once"
         for use in held.uses():
-            outside = use.what == "handed" and program.callee(f, use.node) not in program.functions
+            outside = use.what == "handed" and program.callee(f, use.node) not in {*program.functions, *FROM_BYTES}
             if use.what == "other" or outside:
                 yield f"{f.path}: `{use.node}`: the bytes `{use.bytes}` are not followed"
 
 
 def reads_in(program, f):
-    """The reads of bytes in a function: a byte, or a call which is given some, of the crates that read bytes or of what
-    reads a stored number."""
+    """The reads of bytes in a function: a byte, or a call which is given some, of the crates that read bytes, of what
+    reads a stored number, or of what makes a number of them."""
     def reads(callee):
-        return callee == NUMBER_IN or callee.split("::")[0] in READING
+        return callee in (NUMBER_IN, *FROM_BYTES) or callee.split("::")[0] in READING
     return [use.node for use in flow.Bytes(program, f).uses() if use.what == "byte"
             or use.what == "handed" and reads(program.callee(f, use.node))]
 
@@ -104,19 +104,20 @@ def reads_settled(program):
 
 
 def table_told(program):
-    """No type but the table's has a second name. `places` alone gives a table, no struct holds one, and each function
-    that is lent one asks that it is the table of places, whose numbers are the same for every card."""
-    if program.aliases != {f"bytetable::{TABLE}": "[u8; 2048]"}:
-        yield f"types by another name: {', '.join(f'{name} = {kind}' for name, kind in program.aliases.items())}"
+    """No type has a second name. The table's type says of its rows that they are the table of places, whose numbers are
+    the same for every card; `places` alone makes and gives a table, no struct holds one, and each function that has one
+    is lent it."""
+    yield from (f"{name}: it is a second name of {kind}" for name, kind in program.aliases.items())
+    if program.structs.get(TABLE) != ROWS or program.facts[TABLE] != IS_TABLE:
+        yield f"{TABLE}: it is not {ROWS}, of which it says {IS_TABLE}"
+    kind = TABLE.split("::")[-1]
     for name, fields in program.structs.items():
-        yield from (f"{name}: the field {field} has the type {kind}" for field, kind in fields.items() if TABLE in kind)
+        yield from (f"{name}: the field {field} has the type {of}" for field, of in fields.items() if kind in of)
     for f in program.functions.values():
-        if TABLE in f.returns and f.path != PLACES:
-            yield f"{f.path}: it gives back a {f.returns}"
-        for p in f.parameters:
-            told = p.type == f"&{TABLE}" and any(IS_TABLE.format(p.name) in fact for fact in f.requires)
-            if TABLE in p.type and not told:
-                yield f"{f.path}: nothing is asked of {p}"
+        makes = any(program.meaning(f.crate, made.type) == TABLE for made in tree.every(tree.Made, f.body))
+        if f.path != PLACES and (makes or kind in f.returns):
+            yield f"{f.path}: it makes or gives a table"
+        yield from (f"{f.path}: {p} is not lent" for p in f.parameters if kind in p.type and p.type != f"&{kind}")
 
 
 def tell(program):

@@ -1,12 +1,14 @@
 """Sentences about the seek's crates: who reads the upper run or the bitmap there, and what becomes of the one counter
 of looks."""
 from reading import flow, tree
-from sentences.names import FRESH, LOOK, LOW_PART, OF_SEEK, POINTER, RUN_WORD, SEEK, of_seek
+from reading.methods import GIVING
+from sentences.names import FRESH, LOOK, LOW_PART, OF_SEEK, POINTER, RUN_WORD, SEEK, TABLE, of_seek
 
+SHAPE = "shape::Shape"
 NUMBERS = {
     "walklaws::Cursor": {"mark": "u32", "bit": "u32", "seeks": "u32", "looks": "u32"},
     "walklaws::Landing": {"mark": "u32", "bit": "usize"},
-    "shape::Shape": dict.fromkeys(["u", "n", "w", "bits", "lower", "upper", "end"], "usize"),
+    SHAPE: dict.fromkeys(["u", "n", "w", "bits", "lower", "upper", "end"], "usize"),
 }
 # what other crates call of the seek's
 CALLED = [FRESH, SEEK]
@@ -15,13 +17,13 @@ COUNTER = "&mut u32"
 
 def numbers_alone(program):
     """A cursor is four numbers, where a search ends two of them, and a shape seven, so that a seek hands back no rank;
-    and no struct of any crate holds bytes or a reference."""
+    and no struct of any crate but the table holds bytes, and none a reference."""
     for name, fields in NUMBERS.items():
         if program.structs.get(name) != fields:
             yield f"{name}: its fields are not {', '.join(fields)}"
     for name, fields in program.structs.items():
         for field, kind in fields.items():
-            if "&" in kind or "u8" in kind:
+            if "&" in kind or "u8" in kind and name != TABLE:
                 yield f"{name}: the field {field} has the type {kind}"
 
 
@@ -69,13 +71,19 @@ def given_things_stay(program):
         for change in tree.every(tree.Assign, f.body):
             if f.path != LOOK and not isinstance(change.target, tree.Name):
                 yield f"{f.path}: `{change}` changes a part of something"
+        for method in tree.every(tree.Method, f.body):
+            if method.name not in GIVING:
+                yield f"{f.path}: `{method}` changes something in place"
 
 
 def shape_goes_whole(program):
-    """In the seek's crates no shape is made, and each function hands on the shape that it was given."""
+    """In the seek's crates no shape is made, which has no default value, and each function hands on the shape that it was
+    given."""
+    if SHAPE in program.with_default:
+        yield f"{SHAPE}: it has a default value"
     for f in of_seek(program):
         for made in tree.every(tree.Made, f.body):
-            if program.meaning(f.crate, made.type) == "shape::Shape":
+            if program.meaning(f.crate, made.type) == SHAPE:
                 yield f"{f.path}: it makes a shape"
         for callee, call in program.calls(f):
             parameters = program.functions[callee].parameters if callee in program.functions else []

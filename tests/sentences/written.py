@@ -13,12 +13,9 @@ SUMS = """
 pub fn totals(q: Query, found: usize) -> Listed {
     let mut seeks = 0;
     let mut looks = 0;
-    let mut i = 0;
-    while i < 8 {
-        let c = q.cursors[i];
+    for c in &q.cursors {
         seeks += c.seeks;
         looks += c.looks;
-        i += 1;
     }
     Listed { found, seeks, looks }
 }
@@ -49,19 +46,19 @@ fn put_common(table: &Table, card: &[u8], shapes: &[u32], k: usize, room: &mut [
     room[2] = listed.looks;
     listed.found + 3
 }
-pub fn by_common(table: &Table, card: &[u8], terms: &[u32], room: &mut [u32]) -> usize {
+pub fn by_common(table: &Table, card: &[u8], terms: &[u32], room: &mut [u32]) -> Option<usize> {
     let k = terms.len();
     let mut shapes = [0u32; 64];
     wordlists::open_pages(card, terms, &mut shapes);
     if rows::number(&shapes, 0, LENGTH) + 3 <= room.len() {
-        return put_common(table, card, &shapes, k, room);
+        return Some(put_common(table, card, &shapes, k, room));
     }
     let mut none = [0u32; 0];
     let counted = query::list_common(table, card, &shapes, k, &mut none);
     if room.len() < counted.found + 3 {
-        return 0;
+        return None;
     }
-    put_common(table, card, &shapes, k, room)
+    Some(put_common(table, card, &shapes, k, room))
 }
 """
 # how a screen lists its pages, and tells them
@@ -74,30 +71,31 @@ fn list_from(card: &[u8], words: &[u32], bound: usize, size: usize, list: &mut [
     let turn = query::batch(&table, card, &shapes, Query::new(), words.len(), bound, room);
     rows::totals(turn.q, turn.found)
 }
-fn put_screen(r: u32, list: &[u32], listed: Listed, pages: &mut [u32], counts: &mut [u32]) -> Screened {
+fn put_screen(
+    r: u32,
+    list: &[u32],
+    listed: Listed,
+    pages: &mut [u32],
+    counts: &mut [u32],
+) -> Result<Screened, Refusal> {
     let found = listed.found;
     if pages.len() < found {
-        return refused(Refusal::Room);
+        return Err(Refusal::Room);
     }
-    if replies::put(&[listed.seeks, listed.looks], counts) == 0 {
-        return refused(Refusal::Room);
-    }
-    if found == 0 {
-        return shown(r, list, found);
+    if replies::put(&[listed.seeks, listed.looks], counts).is_none() {
+        return Err(Refusal::Room);
     }
     replies::put(&list[0..found], pages);
-    shown(r, list, found)
+    Ok(shown(r, list, found))
 }
 """
 # the one loop besides the seek's in which kind 3 or a screen reads bytes: from block to block, by their lengths
 WALK = """
 pub fn blocks_from(s: &[u8], from: usize, k: usize) -> &[u8] {
     let mut rest = &s[from..];
-    let mut i = 0;
-    while i < k {
+    for _ in 0..k {
         let size = numbers::read_u32(rest, 0) as usize;
         rest = &rest[size..];
-        i += 1;
     }
     rest
 }
@@ -106,10 +104,8 @@ pub fn blocks_from(s: &[u8], from: usize, k: usize) -> &[u8] {
 ONES = """
 pub fn ones_of(s: &[u8], at: usize, from: usize, to: usize) -> usize {
     let mut i = 0;
-    let mut k = from;
-    while k < to {
+    for k in from..to {
         i += u64::count_ones(run_word(s, at, k)) as usize;
-        k += 1;
     }
     i
 }
