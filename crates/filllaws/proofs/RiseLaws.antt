@@ -7,8 +7,8 @@ use native.Mathlib.Numerals.{add-one}
 use native.Mathlib.Omega.{arith}
 use borrow.Author.Tests.{le-leb, lt-leb}
 use lib.Dec.{leb}
-use lib.ListN.{length, get_or, take, drop, drop_of_length-le, length-append, take-append-drop}
-use lib.Seq.{drop-cons, length-take-le, take-suc, take-append-add, get_or-append-add}
+use lib.ListN.{length, get_or, take, drop, drop_of_length-le, length-append, length-drop, take-append-drop}
+use lib.Seq.{drop-cons, length-take-le, take-suc, take-append-add, get_or-append-add, get_or-drop}
 use Rattle.rules.specs.List.{rising}
 use Rattle.listlaws.specs.Sound.{climbs, least}
 use Rattle.listlaws.proofs.RisingLaws.{rising_parts, rising_climbs}
@@ -101,6 +101,26 @@ module _ (g : Shape) (xs ys : List ℕ) (f : Follows g xs ys) (i : ℕ) (h : i <
 
   pub follows_more : xs ++ take (i + 1) ys ≡ (xs ++ take i ys) ++ (get_or ys i 0 ∷ [])
   follows_more = rw (take_more ys i h) (sym (append_assoc xs (take i ys) (get_or ys i 0 ∷ [])))
+
+-- those of a list from number `from` on
+module _ (g : Shape) (xs ys : List ℕ) (from i : ℕ) (f : Follows g xs (drop from ys))
+    (l : from ≤ i) (h : i < length ys) where
+  left_lt : i - from < length (drop from ys)
+  left_lt = rw length-drop (omega arith)
+
+  left_at : get_or (drop from ys) (i - from) 0 ≡ get_or ys i 0
+  left_at =
+      let e : from + (i - from) ≡ i = omega arith in
+      get_or-drop from ys (i - from) 0 ∙ ap (λ n. get_or ys n 0) e
+
+  pub left_next : Next g (xs ++ take (i - from) (drop from ys)) (get_or ys i 0)
+  left_next = rw left_at at (follows_next g xs (drop from ys) f (i - from) left_lt)
+
+  pub left_more : xs ++ take (i + 1 - from) (drop from ys)
+      ≡ (xs ++ take (i - from) (drop from ys)) ++ (get_or ys i 0 ∷ [])
+  left_more =
+      let e : i + 1 - from ≡ i - from + 1 = omega arith in
+      rw e (follows_more g xs (drop from ys) f (i - from) left_lt ∙ rw left_at)
 
 -- those behind the first i
 pub follows_drop : (g : Shape) (xs ys : List ℕ) (i : ℕ) → Follows g xs ys → Follows g (xs ++ take i ys) (drop i ys)

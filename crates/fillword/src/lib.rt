@@ -10,7 +10,8 @@ ghost use Rattle.wordlaws.specs.Lists.{Sums, Places};
 use shape::Shape;
 use wordlaws::Tally;
 
-// Writes the block of the sums of the counts, less 1, 256 of them at a time.
+// Writes the block of the sums of the counts, less 1, 256 of them at a time. Only the stretches make its loop another than
+// that of fill_places: one loop over a trait of both was longer, and slower.
 pub fn fill_sums(room: &mut [u8], g: Shape, counts: &[u32])
     requires { Sums g counts.now room.old }
     ensures { room.new ≡ laid (block g.u (sums 0 counts.now)) room.old }

@@ -1,2 +1,1 @@
-pub mod HostLaws
 pub mod Unique

@@ -1,72 +1,20 @@
 // The calls that a host makes, in C or Rust: include/jundefola.h tells of them, and none asks anything beforehand.
 #![tactic(auto)]
 
-ghost use Rattle.std.specs.Prelude.{◌≡◌};
-ghost use Rattle.rules.specs.Refusal.{number};
 ghost use Rattle.rules.specs.Term.{lent_word};
 ghost use Rattle.hostlaws.specs.Host.{HostListChecked, HostListWritten, HostTermChecked, HostTermWritten};
 ghost use Rattle.hostlaws.specs.Host.{HostTermBegun, HostPostingsPut, HostTermEnded};
 ghost use Rattle.hostlaws.specs.Host.{HostIndexChecked, HostIndexClosed, HostAnswered, HostScreenShown};
 
 use hostlaws::{HostAsked, HostScreened, HostStreamed, HostWritten};
-use rules::{Outcome, Refusal, Screened, Stream, Streamed, Written};
-
-// A writer's answer with its number.
-fn written(w: Written) -> HostWritten
-    ensures { (result.refusal ≡ number w.refusal) × (result.length ≡ w.size) }
-{
-    let refusal = w.refusal;
-    HostWritten {
-        refusal: refusals::number_of(refusal),
-        length: w.size,
-    }
-}
-
-// The outcome of a run of questions with its number.
-fn outcome(o: Outcome) -> HostAsked
-    ensures { (result.refusal ≡ number o.refusal) × (result.answered ≡ o.answered) × (result.used ≡ o.used) }
-{
-    let refusal = o.refusal;
-    HostAsked {
-        refusal: refusals::number_of(refusal),
-        answered: o.answered,
-        used: o.used,
-    }
-}
-
-// The answer of a screen with its number.
-fn screened(s: Screened) -> HostScreened
-    ensures { (result.refusal ≡ number s.refusal) × (result.found ≡ s.found) × (result.full ≡ s.full)
-        × (result.next ≡ s.next) }
-{
-    let refusal = s.refusal;
-    HostScreened {
-        refusal: refusals::number_of(refusal),
-        found: s.found,
-        full: s.full,
-        next: s.next,
-    }
-}
-
-// The answer of a session's call with its number.
-fn streamed(w: Streamed) -> HostStreamed
-    ensures { (result.refusal ≡ number w.refusal) × (result.length ≡ w.size) × (result.stream ≡ w.stream) }
-{
-    let refusal = w.refusal;
-    let stream = w.stream;
-    HostStreamed {
-        refusal: refusals::number_of(refusal),
-        length: w.size,
-        stream,
-    }
-}
+use rules::Stream;
 
 // Writes a list below u into the room.
 #[unsafe(no_mangle)]
 pub extern "C" fn jf_write_list(u: u32, list: &[u32], room: &mut [u8]) -> HostWritten
     ensures { HostListWritten u list.now room.old result room.new }
 {
-    written(writelist::write_list(u, list, room))
+    HostWritten::from(writelist::write_list(u, list, room))
 }
 
 // The refusal of a list block.
@@ -91,7 +39,7 @@ pub extern "C" fn jf_write_term(
         (lent_word pages.now counts.now positions.now)
         room.old result room.new }
 {
-    written(writeterm::write_term(version, n, pages, counts, positions, room))
+    HostWritten::from(writeterm::write_term(version, n, pages, counts, positions, room))
 }
 
 // Announces a word of such an index that is handed over in runs: so many of n pages and so many positions, whose
@@ -107,7 +55,7 @@ pub extern "C" fn jf_begin_term(
 ) -> HostStreamed
     ensures { HostTermBegun version n pages positions u room.old result room.new }
 {
-    streamed(beginterm::begin_term(version, n, pages, positions, u, room))
+    HostStreamed::from(beginterm::begin_term(version, n, pages, positions, u, room))
 }
 
 // Lays the next postings of such a word behind those in the room.
@@ -123,7 +71,7 @@ pub extern "C" fn jf_put_postings(
         (lent_word pages.now counts.now positions.now)
         room.old result room.new }
 {
-    streamed(putpostings::put_postings(stream, pages, counts, positions, room))
+    HostStreamed::from(putpostings::put_postings(stream, pages, counts, positions, room))
 }
 
 // Closes such a word.
@@ -131,7 +79,7 @@ pub extern "C" fn jf_put_postings(
 pub extern "C" fn jf_end_term(stream: Stream, room: &mut [u8]) -> HostStreamed
     ensures { HostTermEnded stream room.old result room.new }
 {
-    streamed(endterm::end_term(stream, room))
+    HostStreamed::from(endterm::end_term(stream, room))
 }
 
 // The refusal of a term block of an index of that version.
@@ -153,7 +101,7 @@ pub extern "C" fn jf_close_index(
 ) -> HostWritten
     ensures { HostIndexClosed buffer.old used version n t result buffer.new }
 {
-    written(closeindex::close_index(buffer, used, version, n, t))
+    HostWritten::from(closeindex::close_index(buffer, used, version, n, t))
 }
 
 // The refusal of an index.
@@ -170,7 +118,7 @@ pub extern "C" fn jf_ask(card: &[u8], questions: &[u32], room: &mut [u32]) -> Ho
     ensures { HostAnswered card.now questions.now room.old result
         room.new }
 {
-    outcome(ask::ask(card, questions, room))
+    HostAsked::from(ask::ask(card, questions, room))
 }
 
 // Shows a screen of at most r pages that the words share, from the bound on.
@@ -186,5 +134,5 @@ pub extern "C" fn jf_screen(
     ensures { HostScreenShown card.now bound r words.now pages.old
         counts.old result pages.new counts.new }
 {
-    screened(panel::screen(card, bound, r, words, pages, counts))
+    HostScreened::from(panel::screen(card, bound, r, words, pages, counts))
 }

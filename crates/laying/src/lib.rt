@@ -1,7 +1,7 @@
 // Elements laid into a block one after the other: each above those before it.
 #![tactic(auto)]
 
-ghost use Rattle.std.specs.Prelude.{◌+◌, ◌-◌, ◌*◌, ◌/◌, ◌^◌, ◌<◌, ◌≤◌, length};
+ghost use Rattle.std.specs.Prelude.{◌+◌, ◌-◌, ◌*◌, ◌/◌, ◌^◌, ◌<◌, ◌≤◌, length, drop};
 ghost use Rattle.filllaws.specs.Filling.{Ready, OneMore, Open, Laid};
 
 use filllaws::{Filling, Ups};
@@ -49,16 +49,17 @@ fn put_near(room: &mut [u8], g: Shape, f: Filling, x: usize) -> Filling
     }
 }
 
-// Lays the elements at the list's front whose ones lie below the stop.
-fn lay_near(room: &mut [u8], g: Shape, start: Filling, list: &[u32]) -> Filling
-    requires { Open g start list.now room.old }
-    ensures { (start.count ≤ result.count) × (result.count ≤ start.count + length list.now)
-        × Laid g start list.now (result.count - start.count) result room.old
+// Lays the elements from number `from` on whose ones lie below the stop. They go by number, as those of a slice took a
+// quarter longer.
+fn lay_near(room: &mut [u8], g: Shape, start: Filling, list: &[u32], from: usize) -> Filling
+    requires { (from ≤ length list.now) × Open g start (drop from list.now) room.old }
+    ensures { (start.count ≤ result.count) × (result.count ≤ start.count + (length list.now - from))
+        × Laid g start (drop from list.now) (result.count - start.count) result room.old
         room.new }
 {
     let mut f = start;
-    for &element in list {
-        let x = element as usize;
+    for i in from..list.len() {
+        let x = list[i] as usize;
         if f.ups.stop <= (x >> g.w) + f.count {
             return f;
         }
@@ -78,7 +79,7 @@ pub fn lay(room: &mut [u8], g: Shape, start: Filling, list: &[u32]) -> Filling
     // A step is as many as were laid: no iterator gives it.
     while i < list.len() {
         f = put(room, g, f, list[i] as usize);
-        f = lay_near(room, g, f, &list[i + 1..]);
+        f = lay_near(room, g, f, list, i + 1);
         i = f.count - start.count;
     }
     f

@@ -74,7 +74,7 @@ module _ (s : List ℕ) (b n : ℕ) (ts pages counts : List ℕ) where
 
 -- ---- the bound of the next screen
 
-full_by : (b : Bool) (z : ℕ) (o : Option ℕ) → o ≡ cond b (Some z) None → cond (is_some o) 1 0 ≡ cond b 1 0
+full_by : (b : Bool) (z : ℕ) (o : Option ℕ) → o ≡ cond b (Some z) None → ◌≡◌ {A = ℕ} (cond (is_some o) 1 0) (cond b 1 0)
 full_by true z o e = rw e
 full_by false z o e = rw e
 

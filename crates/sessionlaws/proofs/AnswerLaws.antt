@@ -6,7 +6,8 @@ use Prim.Native.Nat.{ℕ, ◌≤◌, ◌<◌}
 use borrow.Author.Tests.{lt-ltb, le-ltb, eq-eqb, ne_eqb}
 use lib.Dec.{eqb}
 use lib.ListN.{length, replicate}
-use Rattle.rules.specs.Verdict.{Verdict}
+use Rattle.std.specs.Prelude.{Result}
+use Rattle.rules.specs.declared.Refusal.{Refusal}
 use Rattle.rules.specs.Verdict.{Accepted, Room, Lists}
 use Rattle.rules.specs.declared.Stream.{Stream}
 use Rattle.rules.specs.declared.Streamed.{Streamed}
@@ -25,10 +26,9 @@ use Rattle.sessionlaws.proofs.LiveLaws.{going_dead, going_short, going_on}
 use Rattle.sessionlaws.proofs.LayoutLaws.{counts_tell, layout_tells, second_is, third_is}
 
 -- a result by its fields, and the room after it
-pub streamed_is : (r : Streamed) (after : List ℕ) (q : Verdict) (n : ℕ) (s : Stream) (room : List ℕ)
-    → (r.refusal ≡ q) × (r.size ≡ n) × (r.stream ≡ s) → after ≡ room
-    → streaming r after ≡ record { refusal = q; size = n; stream = s; room = room }
-streamed_is r after q n s room (a, b, c) e = rw (a, b, c, e)
+pub streamed_is : (r : Streamed) (after : List ℕ) (t : Result ℕ Refusal) (s : Stream) (room : List ℕ)
+    → (r.size ≡ t) × (r.stream ≡ s) → after ≡ room → streaming r after ≡ streaming (record { size = t; stream = s }) room
+streamed_is r after t s room (a, b) e = rw (a, b, e)
 
 module _ (v N P Q U : ℕ) (room : List ℕ) where
   pub begin_refused : accepted (announce_refusal v N P Q U) ≡ false

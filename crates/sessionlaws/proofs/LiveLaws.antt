@@ -1,18 +1,20 @@
 -- Laws of a session's tests: what one that goes on tells, and the answer of each test. AnswerLaws has those of a whole
 -- call.
 use mathlib.Core.Bool.{Bool, true, false, ◌&&◌}
-use mathlib.Core.Path.{◌≡◌, refl}
+use mathlib.Core.Path.{◌≡◌, refl, ◌∙◌}
 use mathlib.Core.List.{List}
 use Prim.Native.Nat.{ℕ, ◌≤◌, ◌<◌}
 use borrow.Author.Tests.{lt-ltb, le-ltb, le-leb, lt-leb, leb-true, eqb-true, eq-eqb, ne_eqb}
 use lib.Dec.{leb, eqb}
 use lib.ListN.{length}
+use Rattle.std.specs.Prelude.{Ok, Err}
+use Rattle.std.specs.Result.{is_ok}
 use Rattle.rules.specs.Verdict.{Verdict}
 use Rattle.rules.specs.Verdict.{Room, Lists}
 use Rattle.rules.specs.declared.Stream.{Stream}
 use Rattle.rules.specs.Refusal.{accepted}
 use Rattle.rules.specs.Stream.{announce_refusal, over, live, Streaming, goes, size_of, going}
-use Rattle.laws.proofs.RefusalLaws.{accepted_true}
+use Rattle.laws.proofs.RefusalLaws.{accepted_true, refusal_told}
 use Rattle.listlaws.proofs.RisingLaws.{and_parts}
 use Rattle.sessionlaws.specs.Session.{Live}
 use Rattle.sessionlaws.proofs.AnnounceLaws.{announced_parts}
@@ -24,6 +26,11 @@ and_false false = refl
 pub and_true : (b : Bool) → b && true ≡ b
 and_true true = refl
 and_true false = refl
+
+accepted_ok : (r : Verdict) → accepted r ≡ is_ok r
+unfolding accepted
+accepted_ok (Ok _) = refl
+accepted_ok (Err e) = refusal_told e
 
 module _ (s : Stream) where
   -- the refusal of what was announced
@@ -65,11 +72,11 @@ module _ (s : Stream) where
     and_false (eqb s.mark 1),
   )
 
-  pub live_last : s.mark ≡ 1 → s.laid ≤ s.pages → s.filled ≤ s.positions → live s ≡ accepted refusal
+  pub live_last : s.mark ≡ 1 → s.laid ≤ s.pages → s.filled ≤ s.positions → live s ≡ is_ok refusal
   unfolding live
   live_last m l f =
       rw (eq-eqb s.mark 1 m, le-leb s.laid s.pages l, le-leb s.filled s.positions f)
-      (and_true (accepted refusal))
+      (and_true (accepted refusal) ∙ accepted_ok refusal)
 
 -- ---- what a later call answers
 

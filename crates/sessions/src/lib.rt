@@ -11,7 +11,13 @@ use sessionlaws::Layout;
 use shape::Shape;
 
 // The refusal of an announcement, before room.
-pub fn announce(version: u32, n: usize, pages: usize, positions: usize, u: usize) -> Result<(), Refusal>
+pub fn announce(
+    version: u32,
+    n: usize,
+    pages: usize,
+    positions: usize,
+    u: usize,
+) -> Result<(), Refusal>
     ensures { result ≡ announce_refusal version n pages positions u }
 {
     if !parts::known(version) {

@@ -7,9 +7,9 @@ use native.Mathlib.Decide.{dec_lt}
 use native.Mathlib.Omega.{arith}
 use lib.ListN.{length, take, drop}
 use lib.Seq.{take_at}
+use Rattle.std.specs.Prelude.{Ok}
 use Rattle.rules.specs.Verdict.{Verdict}
 use Rattle.rules.specs.Verdict.{Accepted, Limit, Room, Lists}
-use Rattle.rules.specs.declared.Written.{Written}
 use Rattle.rules.specs.Limits.{limit}
 use Rattle.rules.specs.Refusal.{number}
 use Rattle.rules.specs.List.{rising, valid_list, size, block}
@@ -46,31 +46,29 @@ module _ (U : ℕ) (xs room : List ℕ) (a : (write_list U xs room).refusal ≡ 
           ]
 
 -- What the writer accepts is a valid list, and its answer's bytes are that list's block.
-pub written_block : (U : ℕ) (xs room : List ℕ) (r : Written) (s : List ℕ) → ListWritten U xs room r s → r.refusal
-    ≡ Accepted
-    → (valid_list U xs ≡ true) × (take r.size s ≡ block U xs)
+pub written_block : (U : ℕ) (xs room : List ℕ) (n : ℕ) (s : List ℕ) → ListWritten U xs room (Ok n) s
+    → (valid_list U xs ≡ true) × (take n s ≡ block U xs)
 unfolding laid
-written_block U xs room r s e a =
-    let w = wrote U xs room (sym (ap (λ m. m.refusal) e) ∙ a) in
+written_block U xs room n s e =
+    let w = wrote U xs room (sym (ap (λ m. m.refusal) e)) in
     let v = valid_parts U xs w.valid in
-    let l : made r s ≡ record {
+    let l : made (Ok n) s ≡ record {
       refusal = Accepted;
       size = size U (length xs);
       room = laid (block U xs) room;
     } = e ∙ write_laid U xs room v.0 v.1 w.fits in
-    let n : r.size ≡ size U (length xs) = ap (λ m. m.size) l in
+    let k : n ≡ size U (length xs) = ap (λ m. m.size) l in
     let t : s ≡ laid (block U xs) room = ap (λ m. m.room) l in (
       w.valid,
-      rw (n, t) (take_at (block U xs) (drop (length (block U xs)) room) (size U (length xs))
+      rw (k, t) (take_at (block U xs) (drop (length (block U xs)) room) (size U (length xs))
           (block_size U xs)),
     )
 
 -- What the writer writes is accepted, and reading it gives the list.
-pub written_read : (U : ℕ) (xs room : List ℕ) (r : Written) (s : List ℕ) → ListWritten U xs room r s → r.refusal
-    ≡ Accepted
-    → (list_refusal (take r.size s) ≡ Accepted) × (decode (take r.size s) ≡ xs)
-written_read U xs room r s e a =
-    let b = written_block U xs room r s e a in
+pub written_read : (U : ℕ) (xs room : List ℕ) (n : ℕ) (s : List ℕ) → ListWritten U xs room (Ok n) s
+    → (list_refusal (take n s) ≡ Accepted) × (decode (take n s) ≡ xs)
+written_read U xs room n s e =
+    let b = written_block U xs room n s e in
     rw b.1 (block_accepted U xs b.0, decode_block U xs b.0)
 
 -- Writing what was read of accepted bytes gives the same bytes.

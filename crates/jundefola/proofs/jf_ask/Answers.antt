@@ -1,6 +1,7 @@
 -- What `ask` answers, with its number.
-use Rattle.hostlaws.proofs.HostLaws.{heard_asked}
+use mathlib.Core.Path.{ap, ◌∙◌}
+use Rattle.hostlaws.specs.Host.{heard}
 use Rattle.jundefola.proofs.jf_ask.Goals as goal
 
 pub returns : goal.returns
-returns c = heard_asked _ _ _ _ c.outcome.ensures c.ask.ensures
+returns c = c.from.ensures c.ask.new.room ∙ ap heard c.ask.ensures

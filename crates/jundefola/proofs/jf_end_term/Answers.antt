@@ -1,6 +1,7 @@
 -- What `end_term` answers, with its number.
-use Rattle.hostlaws.proofs.HostLaws.{told_streaming}
+use mathlib.Core.Path.{ap, ◌∙◌}
+use Rattle.hostlaws.specs.Host.{told_stream}
 use Rattle.jundefola.proofs.jf_end_term.Goals as goal
 
 pub returns : goal.returns
-returns c = told_streaming _ _ _ _ c.streamed.ensures c.end_term.ensures
+returns c = c.from.ensures c.end_term.new.room ∙ ap told_stream c.end_term.ensures

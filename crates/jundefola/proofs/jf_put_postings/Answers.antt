@@ -1,6 +1,7 @@
 -- What `put_postings` answers, with its number.
-use Rattle.hostlaws.proofs.HostLaws.{told_streaming}
+use mathlib.Core.Path.{ap, ◌∙◌}
+use Rattle.hostlaws.specs.Host.{told_stream}
 use Rattle.jundefola.proofs.jf_put_postings.Goals as goal
 
 pub returns : goal.returns
-returns c = told_streaming _ _ _ _ c.streamed.ensures c.put_postings.ensures
+returns c = c.from.ensures c.put_postings.new.room ∙ ap told_stream c.put_postings.ensures

@@ -1,6 +1,7 @@
 -- What `screen` answers, with its number.
-use Rattle.hostlaws.proofs.HostLaws.{seen_screened}
+use mathlib.Core.Path.{ap, ◌∙◌}
+use Rattle.hostlaws.specs.Host.{seen}
 use Rattle.jundefola.proofs.jf_screen.Goals as goal
 
 pub returns : goal.returns
-returns c = seen_screened _ _ _ _ _ c.screened.ensures c.screen.ensures
+returns c = c.from.ensures c.screen.new.pages c.screen.new.counts ∙ ap seen c.screen.ensures

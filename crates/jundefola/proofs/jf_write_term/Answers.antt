@@ -1,6 +1,7 @@
 -- What `write_term` answers, with its number.
-use Rattle.hostlaws.proofs.HostLaws.{told_made}
+use mathlib.Core.Path.{ap, ◌∙◌}
+use Rattle.hostlaws.specs.Host.{told}
 use Rattle.jundefola.proofs.jf_write_term.Goals as goal
 
 pub returns : goal.returns
-returns c = told_made _ _ _ _ c.written.ensures c.write_term.ensures
+returns c = c.from.ensures c.write_term.new.room ∙ ap told c.write_term.ensures

@@ -3,8 +3,9 @@ use mathlib.Core.Bool.{true}
 use mathlib.Core.Path.{◌≡◌, refl, sym, ap, ◌∙◌}
 use native.Mathlib.Omega.{arith}
 use lib.ListN.{length, replicate}
+use Rattle.std.specs.Prelude.{Ok, Err}
 use Rattle.rules.specs.declared.Stream.{Stream}
-use Rattle.rules.specs.Verdict.{Accepted, Lists}
+use Rattle.rules.specs.declared.Refusal.TheVariants.{Lists}
 use Rattle.rules.specs.Write.{laid}
 use Rattle.rules.specs.Term.{lent_word}
 use Rattle.rules.specs.Stream.{over, live, added_word, advanced, size_of}
@@ -29,7 +30,7 @@ pub returns-then-not-is_live : goal.returns-then-not-is_live
 returns-then-not-is_live c =
     let a = c.args in
     let t = lent_word a.pages.now a.counts.now a.positions.now in
-    streamed_is c.ended.result a.room.now Lists 0 over a.room.now c.ended.ensures refl
+    streamed_is c.ended.result a.room.now (Err Lists) over a.room.now c.ended.ensures refl
     ∙ sym (put_dead a.s t a.room.now (sym c.is_live.ensures ∙ c.if-not-is_live.true))
 
 pub pages_shape-first-requires : goal.pages_shape-first-requires
@@ -71,7 +72,7 @@ returns-in_default c =
     let goes_on = sym c.is_live.ensures ∙ c.if-not-is_live.false in
     let n = long s goes_on c.layout-g.result (c.layout-g.ensures s.version s.n s.pages s.positions s.u
     c.pages_shape-first.ensures c.shape_of-summed.ensures c.shape_of-last.ensures) in
-    streamed_is c.ended-in_default.result c.clear.new.room Lists 0 over (laid (replicate (size_of s) 0) a.room.now)
+    streamed_is c.ended-in_default.result c.clear.new.room (Err Lists) over (laid (replicate (size_of s) 0) a.room.now)
     c.ended-in_default.ensures (c.clear.ensures ∙ ap (λ k. laid (replicate k 0) a.room.now) n)
     ∙ sym (put_spoilt s (lent_word a.pages.now a.counts.now a.positions.now) a.room.now goes_on
     (omega (arith, n, c.if-room-size.false)) (none_told _ _ c.in_default.ensures))
@@ -119,8 +120,8 @@ returns c =
       may = w.0;
       fits = c.if-room-size.false;
     } in
-    streamed_is (record { refusal = Accepted; size = 0; stream = c.advance.result }) c.add_run.new.room Accepted 0
+    streamed_is (record { size = Ok 0; stream = c.advance.result }) c.add_run.new.room (Ok 0)
     (advanced s t) (added_word s t a.room.now)
-    (refl, refl, c.advance.ensures ∙ advanced_told l c.in-Some.base w.1) c.add_run.ensures
+    (refl, c.advance.ensures ∙ advanced_told l c.in-Some.base w.1) c.add_run.ensures
     ∙ sym (put_laid s t a.room.now l.goes_on
     (omega (arith, long s l.goes_on c.layout-g.result l.layout, c.if-room-size.false)) l.may)

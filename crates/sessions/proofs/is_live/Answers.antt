@@ -1,6 +1,6 @@
 -- `is_live` asks what a session is marked and how far it is laid, and last whether it was announced so.
 use mathlib.Core.Path.{sym, ap, ◌∙◌}
-use Rattle.rules.specs.Refusal.{accepted}
+use Rattle.std.specs.Result.{is_ok}
 use Rattle.sessionlaws.proofs.LiveLaws.{live_unmarked, live_laid, live_filled, live_last}
 use Rattle.sessions.proofs.is_live.Goals as goal
 
@@ -15,8 +15,7 @@ returns-then-s-2 c = sym (live_filled c.args.s c.if-s-2.true)
 
 pub returns : goal.returns
 returns c =
-    let e = c in
-    let s = e.args.s in
-    c.passed.ensures
-    ∙ ap accepted c.announce.ensures
-    ∙ sym (live_last s e.if-s-ne1.false e.if-s.false e.if-s-2.false)
+    let s = c.args.s in
+    c.is_ok.ensures.value
+    ∙ ap is_ok c.announce.ensures
+    ∙ sym (live_last s c.if-s-ne1.false c.if-s.false c.if-s-2.false)
