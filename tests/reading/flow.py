@@ -7,7 +7,7 @@ from .methods import GIVING, SAME_BYTES
 
 # steps that may be taken again or not at all, and those that may leave
 LOOPS = (tree.Loop, tree.For, tree.Closure)
-TURNS = (tree.If, tree.Match, tree.Leave, tree.Try, tree.LetElse) + LOOPS
+TURNS = (tree.If, tree.Match, tree.Leave, tree.Try, tree.LetFits) + LOOPS
 
 
 def bound(function):
@@ -120,7 +120,7 @@ class Bytes:
             size = len(self.names)
             self.names |= {let.name for let in tree.every(tree.Let, function.body) if self.holds(let.value)}
             self.names |= {root(a.target) for a in tree.every(tree.Assign, function.body) if self.holds(a.value)}
-            fits = [fit for fit in tree.every((tree.LetElse, tree.Fits), function.body) if self.holds(fit.value)]
+            fits = [fit for fit in tree.every((tree.LetFits, tree.Fits), function.body) if self.holds(fit.value)]
             self.names |= {binder.name for fit in fits for binder in tree.every(tree.Binder, fit.pattern)}
 
     def holds(self, node):
@@ -147,7 +147,7 @@ class Bytes:
             return "length"
         if isinstance(node, tree.Let) or isinstance(node, tree.Assign) and isinstance(node.target, tree.Name):
             return "named"
-        if isinstance(node, (tree.LetElse, tree.Fits)) and names_whole(node.pattern):
+        if isinstance(node, (tree.LetFits, tree.Fits)) and names_whole(node.pattern):
             return "named"
         if str(node).startswith("return ") or node is self.function.body and part is node.value:
             return "returned"

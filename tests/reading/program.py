@@ -53,6 +53,8 @@ class Program:
         for constant in tree.every(tree.Constant, function.body):
             if constant.text[0].isupper() and constant.text.split("::")[0] not in {NONE, *source.uses, *source.others}:
                 raise Unread(f"{function.path}: the pattern `{constant}` is not known")
+        for apart in tree.every(tree.Apart, function.body):
+            self.meaning(function.crate, apart.type)
 
     def function(self, path):
         if path not in self.functions:

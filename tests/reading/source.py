@@ -1,7 +1,7 @@
 """A source read whole: its functions with their bodies, and its structs. What this reader does not know is an error:
-modules, functions that take `self`, traits but `From`, patterns of structs and of slices, closures that are not handed
-on, tuples that are made, macros and whatever else the sources do not use. A method is the toolchain's, and one that
-methods.py lists; the file of a program, which reads files and prints, may call others too."""
+modules, functions that take `self`, traits but `From`, patterns of slices, closures that are not handed on, tuples that
+are made, macros and whatever else the sources do not use. A method is the toolchain's, and one that methods.py lists;
+the file of a program, which reads files and prints, may call others too."""
 from dataclasses import dataclass, field
 
 from . import tree
@@ -194,7 +194,23 @@ class Patterns(Reader):
             self.fail("a constant or a variant before this")
         if self.accept("("):
             return tree.Holder(path, self.listed(")", self.patterns))
+        if not is_binder and self.accept("{"):
+            return self.apart(path)
         return tree.Binder(path, False) if is_binder else tree.Constant(path)
+
+    def apart(self, path):
+        """A pattern of a struct's fields."""
+        parts = []
+        while not self.accept("}"):
+            if self.accept(".."):
+                self.expect("}")
+                return tree.Apart(path, parts, "..")
+            name = None if self.sees("mut") else self.take("name")
+            pattern = self.patterns() if name is None or self.accept(":") else tree.Binder(name, False)
+            parts.append(tree.Part(name or pattern.name, pattern))
+            if not self.sees("}"):
+                self.expect(",")
+        return tree.Apart(path, parts, "")
 
 
 class Expressions(Patterns):
@@ -374,8 +390,7 @@ class Statements(Expressions):
         if str(pattern) != "_" and not isinstance(pattern, tree.Binder):
             self.expect("=")
             value = self.expression()
-            self.expect("else")
-            return tree.LetElse(pattern, value, self.block())
+            return tree.LetFits(pattern, value, self.block() if self.accept("else") else None)
         kind = self.type() if self.accept(":") else ""
         self.expect("=")
         return tree.Let(getattr(pattern, "name", "_"), getattr(pattern, "mutable", False), kind, self.expression())

@@ -221,6 +221,27 @@ class Holder(Node):
 
 
 @dataclass(eq=False)
+class Part(Node):
+    """A field of a struct that is taken apart, and the pattern of what it has."""
+    name: str
+    pattern: Node
+
+    def __str__(self):
+        return f"{self.name}: {self.pattern}"
+
+
+@dataclass(eq=False)
+class Apart(Node):
+    """A pattern of a struct's fields, or of some of them, which `..` ends."""
+    type: str
+    parts: list
+    rest: str
+
+    def __str__(self):
+        return f"{self.type} {{ {listed(self.parts + [self.rest] if self.rest else self.parts)} }}"
+
+
+@dataclass(eq=False)
 class Behind(Node):
     """A pattern of what is behind a reference."""
     of: Node
@@ -319,14 +340,14 @@ class Let(Node):
 
 
 @dataclass(eq=False)
-class LetElse(Node):
-    """Names for what fits a pattern; where the value does not fit it, the block leaves."""
+class LetFits(Node):
+    """Names for what fits a pattern; where the value may not fit it, a block that leaves."""
     pattern: Node
     value: Node
     other: Node
 
     def __str__(self):
-        return f"let {self.pattern} = {self.value} else {self.other}"
+        return f"let {self.pattern} = {self.value}" + (f" else {self.other}" if self.other else "")
 
 
 @dataclass(eq=False)
