@@ -1,4 +1,5 @@
-// Big-endian numbers of two, four and eight bytes, read and stored, each by one load or store.
+// Big-endian numbers of two, four and eight bytes, read and stored, each by one load or store. There is a function for
+// each size, as the library converts bytes by a function of each type: one over the size would be no plainer.
 #![tactic(auto)]
 
 ghost use Rattle.std.specs.Prelude.{◌≡◌, ◌+◌, ◌^◌, ◌<◌, ◌≤◌, length};

@@ -1,12 +1,11 @@
 -- `fill_places` lays the elements stretch by stretch: those of the positions passed are laid.
 use mathlib.Core.Path.{◌≡◌, refl}
 use mathlib.Core.List.{List}
-use Prim.Native.Nat.{ℕ, ◌-◌, ◌≤◌}
+use Prim.Native.Nat.{ℕ, ◌-◌}
 use native.Mathlib.Omega.{arith}
-use lib.ListN.{length, take, drop}
+use lib.ListN.{take}
 use lib.Seq.{take_all}
 use Rattle.rules.specs.Term.{placed}
-use Rattle.filllaws.specs.Filling.{Partly}
 use Rattle.wordlaws.proofs.LayLaws.{stretch_follows, next_laid}
 use Rattle.wordlaws.proofs.StretchLaws.{placing, places_long}
 use Rattle.fillword.proofs.fill_places.Goals as goal

@@ -1,11 +1,10 @@
 -- `fill_sums` lays the sums of the counts, less 1, stretch by stretch: those of the counts passed are laid.
-use mathlib.Core.Path.{◌≡◌, refl}
-use Prim.Native.Nat.{◌-◌, ◌≤◌}
+use mathlib.Core.Path.{refl}
+use Prim.Native.Nat.{◌-◌}
 use native.Mathlib.Omega.{arith}
-use lib.ListN.{length, take, drop}
+use lib.ListN.{take}
 use Rattle.rules.specs.Limits.{limit}
 use Rattle.rules.specs.Term.{sums}
-use Rattle.filllaws.specs.Filling.{Partly}
 use Rattle.wordlaws.proofs.LayLaws.{stretch_follows, stretch_lays, sums_long, sums_rise, sums_all}
 use Rattle.wordlaws.proofs.LayLaws.{tally_first, tally_left, tally_next, tally_part, tally_behind}
 use Rattle.fillword.proofs.fill_sums.Goals as goal

@@ -1,5 +1,5 @@
 -- `above` compares the first page, where there is one.
-use mathlib.Core.Path.{sym, ◌∙◌}
+use mathlib.Core.Path.{sym}
 use native.Mathlib.Omega.{arith}
 use Rattle.sessionlaws.proofs.FollowLaws.{starts_none, starts_some}
 use Rattle.following.proofs.above.Goals as goal

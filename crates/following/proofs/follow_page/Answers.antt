@@ -1,9 +1,8 @@
 -- `follow_page` answers with the first test that fails; where none does, the base behind the page is the last position
 -- plus 1 above the session's.
-use mathlib.Core.Path.{◌≡◌, sym, ◌∙◌}
-use mathlib.Core.Bool.{true, false≢true}
+use mathlib.Core.Path.{sym, ◌∙◌}
+use mathlib.Core.Bool.{false≢true}
 use native.Mathlib.Omega.{arith}
-use lib.ListN.{length}
 use Rattle.sessionlaws.proofs.LiveLaws.{live_parts}
 use Rattle.sessionlaws.proofs.OnePageLaws.{PageFollows, page_refused, page_follows}
 use Rattle.following.proofs.follow_page.Goals as goal

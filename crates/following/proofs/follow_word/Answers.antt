@@ -1,7 +1,7 @@
 -- `follow_word` answers with the first test that fails, and else compares the base behind the postings with U.
-use mathlib.Core.Path.{◌≡◌, sym, ◌∙◌}
+use mathlib.Core.Path.{sym, ◌∙◌}
 use native.Mathlib.Omega.{arith}
-use Rattle.rules.specs.Term.{Word, lent_word}
+use Rattle.rules.specs.Term.{lent_word}
 use Rattle.wordlaws.proofs.WordLaws.{some_told, none_told}
 use Rattle.sessionlaws.proofs.LiveLaws.{live_parts}
 use Rattle.sessionlaws.proofs.FollowLaws.{follows_pages, follows_positions, follows_invalid, follows_seam}

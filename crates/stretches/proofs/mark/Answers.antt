@@ -1,6 +1,6 @@
 -- `mark` goes from page to page: the ends of the pages passed are marked, and no other position.
 use mathlib.Core.Path.{refl, sym, subst}
-use Prim.Native.Nat.{◌+◌, ◌-◌, ◌<◌}
+use Prim.Native.Nat.{◌+◌, ◌<◌}
 use native.Mathlib.Omega.{arith}
 use lib.ListN.{drop}
 use Rattle.wordlaws.specs.Stretch.{last_at, headed}

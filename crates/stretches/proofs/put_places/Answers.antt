@@ -1,9 +1,9 @@
 -- `put_places` goes over the positions one by one: the first i elements stand in the part, and behind them the marks.
-use mathlib.Core.Path.{◌≡◌, refl, sym, ap, ◌∙◌}
-use Prim.Native.Nat.{ℕ, ◌+◌, ◌<◌}
+use mathlib.Core.Path.{refl, sym, ap, ◌∙◌}
+use Prim.Native.Nat.{ℕ, ◌+◌}
 use native.Mathlib.Decide.{ℕ_discrete}
 use native.Mathlib.Omega.{arith}
-use lib.ListN.{length, get_or, length-set}
+use lib.ListN.{get_or, length-set}
 use lib.Seq.{get_or-set_same, get_or-set_other}
 use Rattle.wordlaws.specs.Stretch.{marks_of, base_at}
 use Rattle.wordlaws.proofs.StretchLaws.{base_more}

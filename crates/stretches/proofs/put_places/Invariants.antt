@@ -1,6 +1,6 @@
 -- `put_places` goes over the positions one by one: the first i elements stand in the part, and behind them the marks.
 use mathlib.Core.Path.{◌≡◌}
-use Prim.Native.Nat.{ℕ, ◌+◌, ◌-◌, ◌≤◌, ◌<◌}
+use Prim.Native.Nat.{ℕ, ◌+◌, ◌≤◌, ◌<◌}
 use lib.ListN.{length, get_or}
 use Rattle.wordlaws.specs.Stretch.{marks_of, base_at}
 use Rattle.stretches.proofs.put_places.Given as goal

@@ -1,6 +1,6 @@
 -- `put_sums` adds the counts up one by one: the first i sums stand in the part.
 use mathlib.Core.Path.{◌≡◌}
-use Prim.Native.Nat.{◌+◌, ◌-◌, ◌≤◌}
+use Prim.Native.Nat.{◌+◌}
 use lib.ListN.{length, take}
 use Rattle.rules.specs.Term.{total, sums}
 use Rattle.stretches.proofs.put_sums.Given as goal
