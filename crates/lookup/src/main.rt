@@ -1,7 +1,7 @@
 // The program: a card file and a question file are its arguments, and what it prints for them goes to standard output.
 #![tactic(auto)]
 
-ghost use Rattle.std.specs.Prelude.{◌≡◌, ◌≤◌, length};
+ghost use Rattle.std.specs.Prelude.{◌≡◌, ◌≤◌, length, IfSome};
 ghost use Rattle.rules.specs.Verdict.{Question};
 ghost use Rattle.rules.specs.Refusal.{and_then};
 ghost use Rattle.rules.specs.Index.{index_refusal};
@@ -53,48 +53,40 @@ fn answer_text(card: &[u8], questions: &[u8], text: &mut [u8; 90200]) -> usize
     put_reply(card, questions, text)
 }
 
-// Reads until the file ends or buf is full; 0 where a read fails, as of a file that cannot be read.
-fn read_file(file: &mut File, buf: &mut [u8]) -> usize
-    ensures { result ≤ length buf.new }
+// Reads until the file ends or buf is full; none where a read fails, as of a file that cannot be read.
+fn read_file(file: &mut File, buf: &mut [u8]) -> Option<usize>
+    ensures { IfSome result (λ n. n ≤ length buf.new) }
 {
     let mut done = 0;
     while done < buf.len() {
-        let Ok(more) = file.read(&mut buf[done..]) else {
-            return 0;
-        };
+        let more = file.read(&mut buf[done..]).ok()?;
         if more == 0 {
-            return done;
+            return Some(done);
         }
         done += more;
     }
-    done
+    Some(done)
 }
 
-// Reads the file that argument i names; 0 where it is missing or cannot be opened, as by a name that is not UTF-8.
+// Reads the file that argument i names; none where it is missing or cannot be opened, as by a name that is not UTF-8.
 // It is opened by the runtime's own method: `fs::open` would rest the proof on every call that a file system has.
-fn load(rt: &HostRuntime, i: usize, buf: &mut [u8]) -> usize
-    ensures { result ≤ length buf.new }
+fn load(rt: &HostRuntime, i: usize, buf: &mut [u8]) -> Option<usize>
+    ensures { IfSome result (λ n. n ≤ length buf.new) }
 {
     let mut path = [0u8; 4096];
-    let Ok(n) = rt.arg(i, &mut path) else {
-        return 0;
-    };
-    let Ok(name) = str::from_utf8(&path[..n]) else {
-        return 0;
-    };
-    let Ok(mut file) = rt.open_file(OpenOptions::new().read(true), name) else {
-        return 0;
-    };
+    let n = rt.arg(i, &mut path).ok()?;
+    let name = str::from_utf8(&path[..n]).ok()?;
+    let mut file = rt.open_file(OpenOptions::new().read(true), name).ok()?;
     read_file(&mut file, buf)
 }
 
-// Reads one byte more than a file may have, so that a longer one shows, and writes what is printed, as far as it
-// can be written.
+// Reads one byte more than a file may have, so that a longer one shows, and takes one that cannot be read as empty; writes
+// what is printed, as far as it can be written.
 fn main(rt: HostRuntime) {
     let mut card = [0u8; FILE_LIMIT + 1];
-    let n = load(&rt, 1, &mut card);
+    let n = load(&rt, 1, &mut card).unwrap_or(0);
     let mut questions = [0u8; FILE_LIMIT + 1];
-    let q = load(&rt, 2, &mut questions);
+    let q = load(&rt, 2, &mut questions).unwrap_or(0);
     let mut text = [0u8; 90200];
     let size = answer_text(&card[..n], &questions[..q], &mut text);
     let _ = rt.write_all(&text[..size]);
