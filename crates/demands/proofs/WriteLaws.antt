@@ -8,6 +8,8 @@ use native.Mathlib.Omega.{arith}
 use borrow.Author.Tests.{le-ltb, ltb-false, not-false}
 use lib.Dec.{ltb, lit<}
 use lib.ListN.{length}
+use Rattle.std.specs.Prelude.{Ok, Err}
+use Rattle.rules.specs.declared.Refusal.TheVariants as Named
 use Rattle.rules.specs.Verdict.{Verdict}
 use Rattle.rules.specs.Verdict.{Accepted, Short, Length, Version, Limit, Layout, Runs, Parts}
 use Rattle.rules.specs.Verdict.{Question, Room, Lists}
@@ -30,17 +32,17 @@ use Rattle.demands.specs.Asking.{Known, ValidWord}
 -- ---- numbers of refusal
 
 pub number_le : (r : Verdict) → number r ≤ 10
-number_le Accepted = omega arith
-number_le Short = omega arith
-number_le Length = omega arith
-number_le Version = omega arith
-number_le Limit = omega arith
-number_le Layout = omega arith
-number_le Runs = omega arith
-number_le Parts = omega arith
-number_le Question = omega arith
-number_le Room = omega arith
-number_le Lists = omega arith
+number_le (Ok _) = omega arith
+number_le (Err Named.Short) = omega arith
+number_le (Err Named.Length) = omega arith
+number_le (Err Named.Version) = omega arith
+number_le (Err Named.Limit) = omega arith
+number_le (Err Named.Layout) = omega arith
+number_le (Err Named.Runs) = omega arith
+number_le (Err Named.Parts) = omega arith
+number_le (Err Named.Question) = omega arith
+number_le (Err Named.Room) = omega arith
+number_le (Err Named.Lists) = omega arith
 
 -- ---- refused
 
