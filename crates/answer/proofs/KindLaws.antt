@@ -2,7 +2,6 @@
 use mathlib.Core.Path.{◌≡◌}
 use mathlib.Core.List.{List}
 use Prim.Native.Nat.{ℕ}
-use borrow.Author.Tests.{ne_eqb}
 use lib.ListN.{get_or}
 use Rattle.rules.specs.Index.{index_v, index_n}
 use Rattle.rules.specs.Questions.{answer, pages_in, lists_in, phrase_in, by_rank, by_bound, by_common, by_phrase}
@@ -20,6 +19,6 @@ module _ (s : List ℕ) (kind : ℕ) (args : List ℕ) where
   unfolding answer
   answer_common e = rw e
 
-  pub answer_phrase : (kind ≡ 1 → ⊥) → (kind ≡ 2 → ⊥) → (kind ≡ 3 → ⊥) → answer s kind args ≡ by_phrase (phrase_in s args)
+  pub answer_phrase : kind ≡ 4 → answer s kind args ≡ by_phrase (phrase_in s args)
   unfolding answer
-  answer_phrase a b c = rw (ne_eqb kind 1 a, ne_eqb kind 2 b, ne_eqb kind 3 c)
+  answer_phrase e = rw e

@@ -9,6 +9,7 @@ ghost use Rattle.questions.specs.Wrote.{Wrote};
 ghost use Rattle.triallaws.specs.Asked.{offsets_in, AskedIn, PhraseOpened};
 
 use bytetable::Table;
+use questions::Kind;
 use triallaws::{COUNTS, LEAD, OFFSETS, POSITIONS, ROW};
 
 // Finds the words' terms on one way, and opens their lists into the row, whose offsets stay.
@@ -63,10 +64,11 @@ pub fn answer_one(
     ensures { Wrote (answer card.now kind args.now) room.old result
         room.new }
 {
-    match kind {
-        1 => kinds::by_rank(table, card, args[0] as usize, args[1] as usize, room),
-        2 => kinds::by_bound(table, card, args[0], args[1] as usize, room),
-        3 => bycommon::by_common(table, card, args, room),
-        _ => by_phrase(table, card, args, room),
+    match Kind::from_number(kind) {
+        Some(Kind::ByRank) => kinds::by_rank(table, card, args[0] as usize, args[1] as usize, room),
+        Some(Kind::ByBound) => kinds::by_bound(table, card, args[0], args[1] as usize, room),
+        Some(Kind::Common) => bycommon::by_common(table, card, args, room),
+        Some(Kind::Phrase) => by_phrase(table, card, args, room),
+        None => unreachable!(),
     }
 }
