@@ -1,7 +1,7 @@
 """A source read whole: its functions with their bodies, and its structs. What this reader does not know is an error:
 modules, functions that take `self`, traits but `From`, patterns of slices, closures that are not handed on, tuples that
-are made, macros and whatever else the sources do not use. A method is the toolchain's, and one that methods.py lists;
-the file of a program, which reads files and prints, may call others too."""
+are made, macros but `unreachable!()`, and whatever else the sources do not use. A method is the toolchain's, and one
+that methods.py lists; the file of a program, which reads files and prints, may call others too."""
 from dataclasses import dataclass, field
 
 from . import tree
@@ -291,6 +291,10 @@ class Expressions(Patterns):
         if self.sees("return", "break", "continue"):
             return self.leave(made)
         path = self.path()
+        if path == "unreachable" and self.accept("!"):
+            self.expect("(")
+            self.expect(")")
+            return tree.Literal("unreachable!()")
         if self.accept("("):
             return tree.Call(path, self.listed(")", self.argument))
         if made and path.split("::")[-1][0].isupper() and self.accept("{"):
