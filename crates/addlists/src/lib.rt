@@ -9,7 +9,8 @@ ghost use Rattle.filllaws.specs.Filling.{Fitting};
 use shape::Shape;
 use wordlaws::Tally;
 
-// Lays the sums of the counts, less 1, from number `from` on, where `before` is the sum of those before them.
+// Lays the sums of the counts, less 1, from number `from` on, where `before` is the sum of those before them. Its loop is
+// that of add_places, as in fillword: one over a trait of both was longer there, and slower.
 pub fn add_sums(block: &mut [u8], g: Shape, from: usize, before: usize, counts: &[u32])
     requires { Fitting g block.old × (from + length counts.now ≤ g.n) × (positive counts.now ≡ true)
         × (before + total counts.now ≤ g.u) }

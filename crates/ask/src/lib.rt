@@ -19,6 +19,7 @@ fn answer_all(table: &Table, card: &[u8], questions: &[u32], room: &mut [u32]) -
         room.old }
 {
     let mut run = replies::started();
+    // A step of its own length for each question: no iterator gives it.
     while run.at < questions.len() {
         let at = run.at;
         let from = at + 2;

@@ -17,6 +17,7 @@ pub fn open_words(card: &[u8], terms: &[u32], starts: &[usize; 8], k: usize, sha
     ensures { Filled card.now terms.now k (length terms.now)
         shapes.new }
 {
+    // By number: a term's start stands at it, and it is the slot.
     for i in 0..terms.len() {
         let place = wordlists::list_in(card, starts[i], k);
         let numbers = openlists::numbers_at(card, place.from, place.to);

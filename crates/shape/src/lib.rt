@@ -8,7 +8,8 @@ ghost use Rattle.shape.specs.Shape.{shape_of, map_shape, form_shape};
 
 use rules::{LIST_HEADER, MAP_EDITION, POINTER_SIZE};
 
-// What stands for w in the shape of a bitmap, which has no low parts.
+// What stands for w in the shape of a bitmap, which has no low parts: a number, as a shape is seven of them (tests/counts,
+// `numbers_alone`).
 pub const BITMAP: usize = 64;
 
 // U, n and w; the bits of the upper run; and the bytes at which the runs start and the block ends. A bitmap is an upper

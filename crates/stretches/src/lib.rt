@@ -55,6 +55,7 @@ fn mark(part: &mut [u32; 256], counts: &[u32], start: Turn) -> Turn
 {
     let mut page = start.page;
     let mut end = start.end;
+    // A step is a page's count: no iterator gives it.
     while end <= 256 {
         part[end - 1] = 1;
         page += 1;

@@ -14,7 +14,7 @@ pub struct Cursor {
     pub looks: u32,
 }
 
-// The mark of a spent cursor.
+// The mark of a spent cursor: a number and no Option, as a cursor is four numbers (tests/counts, `numbers_alone`).
 pub const SPENT: u32 = 4294967295;
 
 impl Cursor {
@@ -31,7 +31,8 @@ impl Cursor {
     }
 }
 
-// A place of an upper run, the zeros before it, and whether the cursor's own element is there: 1, else 0.
+// A place of an upper run, the zeros before it, and whether the cursor's own element is there: 1, else 0, a number as the
+// place behind it is the sum of both.
 #[derive(Clone, Copy)]
 pub struct StartPlace {
     pub bit: usize,

@@ -40,6 +40,7 @@ fn place_lists(card: &[u8], terms: &[u32], starts: &[usize; 8], k: usize, places
     ensures { AllLying card.now terms.now k (length terms.now)
         places.new }
 {
+    // By number: a term's start and its two places stand at it, of three arrays.
     for i in 0..terms.len() {
         let place = list_in(card, starts[i], k);
         places[2 * i] = place.from as u32;
