@@ -1,4 +1,5 @@
-// One term of a card, and its lists as parts.
+// One term of a card, and its lists as parts. Here and above, a card that is accepted is handed on as its bytes, and each
+// function asks that it is: no struct holds a reference (tests/counts, `numbers_alone`).
 #![tactic(auto)]
 
 ghost use Rattle.std.specs.Prelude.{◌≡◌, ◌<◌};

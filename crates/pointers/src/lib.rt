@@ -70,7 +70,7 @@ fn high_near(block: &[u8], last: usize, guess: usize, zeros: usize, rank: usize)
     last
 }
 
-// Numbers from `low` to `high`.
+// Numbers from `low` to `high`, both ends included, which a range of the library does not tell.
 #[derive(Clone, Copy)]
 struct Range {
     low: usize,

@@ -30,7 +30,7 @@ pub struct Query {
 }
 
 impl Query {
-    // A query that no seek has moved.
+    // A query that no seek has moved, and no default, as a cursor has none.
     pub fn new() -> Query
         ensures { result ≡ new_query }
     {

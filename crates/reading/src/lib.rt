@@ -1,5 +1,5 @@
 // Reading inside an accepted list block: its shape, its parts, the numbers stored before them, and an element by its
-// place.
+// place. Here and above, a block goes beside its shape: no struct holds a reference (tests/counts, `numbers_alone`).
 #![tactic(auto)]
 
 ghost use Rattle.std.specs.Prelude.{◌≡◌, ◌+◌, ◌-◌, ◌*◌, ◌^◌, ◌≤◌, ◌<◌, length, take, drop, get_or};

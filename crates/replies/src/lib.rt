@@ -27,7 +27,7 @@ pub fn put(answer: &[u32], room: &mut [u32]) -> Option<usize>
     Some(size)
 }
 
-// The run before its first question.
+// The run before its first question, with its zeros written out: a wrong program (`used_one_off`) has others.
 pub fn started() -> Run
     ensures { Started result }
 {

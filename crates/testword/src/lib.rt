@@ -1,4 +1,5 @@
-// Whether a word can be written: counts that fit its positions, and positions in order on each page.
+// Whether a word can be written: counts that fit its positions, and positions in order on each page. Here and above, a
+// word's three lists go side by side: no struct holds a reference (tests/counts, `numbers_alone`).
 #![tactic(auto)]
 
 ghost use Rattle.std.specs.Prelude.{true, ◌≡◌, ◌+◌, ◌≤◌, ◌<◌, length};

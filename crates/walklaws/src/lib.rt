@@ -18,7 +18,7 @@ pub struct Cursor {
 pub const SPENT: u32 = 4294967295;
 
 impl Cursor {
-    // A cursor that no seek has moved.
+    // A cursor that no seek has moved; it is no default, as cursors are made where they are named (tests/counts).
     pub fn new() -> Cursor
         ensures { result ≡ unused }
     {
