@@ -19,8 +19,9 @@ use Rattle.rules.specs.Ask.{Replied, fitting, fitted, reply, joined, put, ask}
 use Rattle.laws.proofs.RefusalLaws.{accepted_true, true_accepted}
 use Rattle.questions.specs.Formed.{formed}
 use Rattle.questions.proofs.FrontLaws.{formed_front}
-use Rattle.hostlaws.specs.declared.HostAsked.{HostAsked}
-use Rattle.hostlaws.specs.Host.{Heard, HostAnswered}
+use Rattle.telling.specs.declared.HostAsked.{HostAsked}
+use Rattle.telling.specs.Told.{Heard}
+use Rattle.hostlaws.specs.Host.{HostAnswered}
 use Rattle.demands.specs.Asking.{Query, written, Good}
 use Rattle.demands.specs.Sentences.{First, index_sentences, asking}
 use Rattle.demands.proofs.FirstLaws.{Tests, first_end, first_then}

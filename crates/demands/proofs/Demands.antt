@@ -32,9 +32,10 @@ use Rattle.cardlaws.proofs.Theorems as cards
 use Rattle.cardlaws.proofs.ClosingLaws.{close_told}
 use Rattle.questions.specs.Formed.{formed, answers_to}
 use Rattle.questions.proofs.GoodLaws.{good_phrase}
-use Rattle.hostlaws.specs.declared.HostWritten.{HostWritten}
-use Rattle.hostlaws.specs.declared.HostAsked.{HostAsked}
-use Rattle.hostlaws.specs.Host.{Told, HostListChecked, HostListWritten, HostTermChecked, HostTermWritten}
+use Rattle.telling.specs.declared.HostWritten.{HostWritten}
+use Rattle.telling.specs.declared.HostAsked.{HostAsked}
+use Rattle.telling.specs.Told.{Told}
+use Rattle.hostlaws.specs.Host.{HostListChecked, HostListWritten, HostTermChecked, HostTermWritten}
 use Rattle.hostlaws.specs.Host.{HostIndexChecked, HostIndexClosed, HostAnswered}
 use Rattle.demands.specs.Asking.{Known, ValidWord, Query, written, Good, pages_at, named, pages_named, plain}
 use Rattle.demands.specs.Asking.{plain_all}

@@ -32,10 +32,11 @@ use Rattle.termlaws.proofs.Theorems.{block_accepted, block_tells, accepted_lists
 use Rattle.cardlaws.proofs.Theorems.{card_accepted, accepted_term}
 use Rattle.questions.specs.Formed.{formed, answers_to}
 use Rattle.questions.proofs.GoodLaws.{good_words, words_parts}
-use Rattle.hostlaws.specs.declared.HostWritten.{HostWritten}
-use Rattle.hostlaws.specs.declared.HostAsked.{HostAsked}
-use Rattle.hostlaws.specs.declared.HostScreened.{HostScreened}
-use Rattle.hostlaws.specs.Host.{Seen, HostTermChecked, HostTermWritten, HostIndexChecked, HostAnswered}
+use Rattle.telling.specs.declared.HostWritten.{HostWritten}
+use Rattle.telling.specs.declared.HostAsked.{HostAsked}
+use Rattle.telling.specs.declared.HostScreened.{HostScreened}
+use Rattle.telling.specs.Told.{Seen}
+use Rattle.hostlaws.specs.Host.{HostTermChecked, HostTermWritten, HostIndexChecked, HostAnswered}
 use Rattle.hostlaws.specs.Host.{HostScreenShown}
 use Rattle.demands.specs.Asking.{Query, written, Good, pages_named, plain, plain_all}
 use Rattle.demands.specs.Forms.{aside, asides, Stored, old_term, old_terms, old_card}

@@ -24,7 +24,7 @@ use Rattle.streamlaws.proofs.WordLaws.{length_word}
 use Rattle.streamlaws.proofs.FollowLaws.{reached_live, follows_within, within_follows, within_first}
 use Rattle.streamlaws.proofs.SessionLaws.{put_accepted, end_accepted}
 use Rattle.streamlaws.proofs.Theorems.{underway_begin, underway_put}
-use Rattle.hostlaws.specs.declared.HostStreamed.{HostStreamed}
+use Rattle.telling.specs.declared.HostStreamed.{HostStreamed}
 use Rattle.hostlaws.specs.Host.{HostTermBegun, HostPostingsPut}
 use Rattle.demands.specs.Streams.{Handed, Led, Finishes}
 use Rattle.demands.specs.StreamFaults.{BadWord, Past, OtherTotals, NotLive}

@@ -22,8 +22,8 @@ use Rattle.rules.specs.ReadTerm.{term_refusal}
 use Rattle.rules.specs.Index.{index_t, index_refusal, close_index}
 use Rattle.rules.specs.Questions.{well_formed, replies}
 use Rattle.rules.specs.Ask.{joined}
-use Rattle.hostlaws.specs.declared.HostWritten.{HostWritten}
-use Rattle.hostlaws.specs.declared.HostAsked.{HostAsked}
+use Rattle.telling.specs.declared.HostWritten.{HostWritten}
+use Rattle.telling.specs.declared.HostAsked.{HostAsked}
 use Rattle.hostlaws.specs.Host.{HostListChecked, HostListWritten, HostTermChecked, HostTermWritten}
 use Rattle.hostlaws.specs.Host.{HostIndexChecked, HostIndexClosed, HostAnswered}
 use Rattle.demands.specs.Faults.{OutOfOrder, NotBelow}

@@ -25,9 +25,10 @@ use Rattle.laws.proofs.RefusalLaws.{number_inj}
 use Rattle.cardlaws.proofs.Theorems.{card_accepted}
 use Rattle.commonlaws.proofs.SharedLaws.{from_zero}
 use Rattle.commonlaws.proofs.CommonLaws.{past_all}
-use Rattle.hostlaws.specs.declared.HostAsked.{HostAsked}
-use Rattle.hostlaws.specs.declared.HostScreened.{HostScreened}
-use Rattle.hostlaws.specs.Host.{Seen, seen, seen_of, HostAnswered, HostScreenShown}
+use Rattle.telling.specs.declared.HostAsked.{HostAsked}
+use Rattle.telling.specs.declared.HostScreened.{HostScreened}
+use Rattle.telling.specs.Told.{Seen, seen, seen_of}
+use Rattle.hostlaws.specs.Host.{HostAnswered, HostScreenShown}
 use Rattle.demands.specs.Asking.{pages_at, pages_named, upper_runs}
 use Rattle.demands.specs.Sentences.{First}
 use Rattle.demands.specs.Screens.{screening, Unwritten, Fills, Falls, Shot, Took, shows, Full, shown}

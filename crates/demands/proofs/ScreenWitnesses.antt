@@ -15,7 +15,7 @@ use Rattle.rules.specs.Plain.{at_least, common_pages}
 use Rattle.rules.specs.Questions.{lists_in, all_below}
 use Rattle.rules.specs.Screen.{screen_pages, Screening, screen}
 use Rattle.cardlaws.proofs.Theorems.{card_accepted}
-use Rattle.hostlaws.specs.declared.HostScreened.{HostScreened}
+use Rattle.telling.specs.declared.HostScreened.{HostScreened}
 use Rattle.hostlaws.specs.Host.{HostScreenShown}
 use Rattle.demands.specs.Asking.{pages_named}
 use Rattle.demands.specs.Screens.{Shot, Took, shows, Full}

@@ -15,8 +15,8 @@ use Rattle.rules.specs.declared.Stream.{Stream}
 use Rattle.rules.specs.Refusal.{number}
 use Rattle.rules.specs.Stream.{Streaming, over, live, goes, size_of, spoilt, going}
 use Rattle.laws.proofs.RefusalLaws.{number_inj}
-use Rattle.hostlaws.specs.declared.HostStreamed.{HostStreamed}
-use Rattle.hostlaws.specs.Host.{ToldStream, told_stream, told_stream_of}
+use Rattle.telling.specs.declared.HostStreamed.{HostStreamed}
+use Rattle.telling.specs.Told.{ToldStream, told_stream, told_stream_of}
 use Rattle.demands.specs.Sentences.{First}
 use Rattle.demands.specs.Streams.{Leaves}
 use Rattle.demands.specs.StreamFaults.{NotLive, ShortRoom, On, cleared, later, Answers}

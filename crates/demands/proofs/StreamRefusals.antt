@@ -21,8 +21,9 @@ use Rattle.rules.specs.Stream.{Streaming, announce_refusal, stream_size, announc
 use Rattle.rules.specs.Stream.{advanced, complete, goes, size_of, begin_term, put_postings, pointed_word, end_term}
 use Rattle.rules.specs.Stream.{together}
 use Rattle.laws.proofs.RefusalLaws.{number_inj, true_accepted}
-use Rattle.hostlaws.specs.declared.HostStreamed.{HostStreamed}
-use Rattle.hostlaws.specs.Host.{ToldStream, HostTermBegun, HostPostingsPut, HostTermEnded}
+use Rattle.telling.specs.declared.HostStreamed.{HostStreamed}
+use Rattle.telling.specs.Told.{ToldStream}
+use Rattle.hostlaws.specs.Host.{HostTermBegun, HostPostingsPut, HostTermEnded}
 use Rattle.demands.specs.Sentences.{First}
 use Rattle.demands.specs.Streams.{Led, Leaves}
 use Rattle.demands.specs.StreamFaults.{announcing, BadRun, WrongTotals, BadWord, Past, OtherTotals, On, Answers}

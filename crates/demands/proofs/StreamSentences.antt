@@ -21,9 +21,10 @@ use Rattle.streamlaws.proofs.WordLaws.{length_word, word_none, length_term}
 use Rattle.streamlaws.proofs.BeginLaws.{begin_accepted, word_announced}
 use Rattle.streamlaws.proofs.SessionLaws.{put_accepted}
 use Rattle.streamlaws.proofs.Theorems.{underway_end}
-use Rattle.hostlaws.specs.declared.HostWritten.{HostWritten}
-use Rattle.hostlaws.specs.declared.HostStreamed.{HostStreamed}
-use Rattle.hostlaws.specs.Host.{Told, told, HostTermWritten, HostTermBegun, HostPostingsPut, HostTermEnded}
+use Rattle.telling.specs.declared.HostWritten.{HostWritten}
+use Rattle.telling.specs.declared.HostStreamed.{HostStreamed}
+use Rattle.telling.specs.Told.{Told, told}
+use Rattle.hostlaws.specs.Host.{HostTermWritten, HostTermBegun, HostPostingsPut, HostTermEnded}
 use Rattle.demands.specs.Streams.{Led, Finishes, Leaves, Kept, Stays}
 use Rattle.demands.specs.StreamFaults.{On, Answers, BadRun, WrongTotals}
 use Rattle.demands.proofs.WriteLaws.{told_accepts}

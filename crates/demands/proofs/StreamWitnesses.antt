@@ -20,7 +20,7 @@ use Rattle.rules.specs.Stream.{added_word, follows, advanced, complete, size_of,
 use Rattle.rules.specs.Stream.{pointed_word, end_term, put_all, together, stream_form, second_at, third_at, Streaming}
 use Rattle.rules.specs.Table.{posting}
 use Rattle.streamlaws.specs.Underway.{Cut}
-use Rattle.hostlaws.specs.declared.HostStreamed.{HostStreamed}
+use Rattle.telling.specs.declared.HostStreamed.{HostStreamed}
 use Rattle.hostlaws.specs.Host.{HostTermWritten, HostTermBegun, HostPostingsPut, HostTermEnded}
 use Rattle.demands.specs.Streams.{Led}
 

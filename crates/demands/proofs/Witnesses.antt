@@ -38,8 +38,8 @@ use Rattle.rules.specs.Ask.{fitting, fitted, reply, joined, put, ask}
 use Rattle.rules.specs.Table.{s1_list, s9, s9_word}
 use Rattle.seeklaws.specs.Cursors.{answers, never_down, ranks, belows}
 use Rattle.listlaws.proofs.RisingLaws.{and_parts}
-use Rattle.hostlaws.specs.declared.HostWritten.{HostWritten}
-use Rattle.hostlaws.specs.declared.HostAsked.{HostAsked}
+use Rattle.telling.specs.declared.HostWritten.{HostWritten}
+use Rattle.telling.specs.declared.HostAsked.{HostAsked}
 use Rattle.hostlaws.specs.Host.{HostListChecked, HostListWritten, HostTermChecked, HostTermWritten, HostIndexChecked}
 use Rattle.hostlaws.specs.Host.{HostIndexClosed, HostAnswered}
 use Rattle.demands.specs.Asking.{Known, ValidWord, Query, Good, named, pages_named, plain, plain_all}

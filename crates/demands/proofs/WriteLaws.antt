@@ -11,8 +11,8 @@ use lib.ListN.{length}
 use Rattle.std.specs.Prelude.{Ok, Err}
 use Rattle.rules.specs.declared.Refusal.TheVariants as Named
 use Rattle.rules.specs.Verdict.{Verdict}
-use Rattle.rules.specs.Verdict.{Accepted, Short, Length, Version, Limit, Layout, Runs, Parts}
-use Rattle.rules.specs.Verdict.{Question, Room, Lists}
+use Rattle.rules.specs.Verdict.{Accepted, Version, Limit}
+use Rattle.rules.specs.Verdict.{Room, Lists}
 use Rattle.rules.specs.Limits.{limit, last_edition, up_to}
 use Rattle.rules.specs.Refusal.{number, accepted}
 use Rattle.rules.specs.List.{rising, valid_list, block}
@@ -25,8 +25,8 @@ use Rattle.laws.proofs.RoomLaws.{success, made_passed, stored_fits, fits_stored}
 use Rattle.listlaws.proofs.ValidLaws.{valid_from, valid_parts}
 use Rattle.termlaws.specs.Words.{Writable}
 use Rattle.cardlaws.proofs.ClosingLaws.{close_told}
-use Rattle.hostlaws.specs.declared.HostWritten.{HostWritten}
-use Rattle.hostlaws.specs.Host.{Told, told, told_of}
+use Rattle.telling.specs.declared.HostWritten.{HostWritten}
+use Rattle.telling.specs.Told.{Told, told, told_of}
 use Rattle.demands.specs.Asking.{Known, ValidWord}
 
 -- ---- numbers of refusal

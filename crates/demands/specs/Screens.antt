@@ -17,7 +17,7 @@ use Rattle.rules.specs.Limits.{phrase_limit, screen_limit}
 use Rattle.rules.specs.Index.{index_t}
 use Rattle.rules.specs.Questions.{lists_in}
 use Rattle.rules.specs.Screen.{screen_pages}
-use Rattle.hostlaws.specs.declared.HostScreened.{HostScreened}
+use Rattle.telling.specs.declared.HostScreened.{HostScreened}
 use Rattle.hostlaws.specs.Host.{HostScreenShown}
 use Rattle.demands.specs.Faults.{NotBelow}
 use Rattle.demands.specs.Sentences.{Sentence, ◌when◌, index_sentences}

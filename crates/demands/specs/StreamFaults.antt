@@ -31,7 +31,7 @@ use Rattle.rules.specs.Limits.{limit, last_edition}
 use Rattle.rules.specs.Term.{Word, next, placed, places}
 use Rattle.rules.specs.Write.{laid}
 use Rattle.rules.specs.Stream.{stream_size, size_of, over}
-use Rattle.hostlaws.specs.declared.HostStreamed.{HostStreamed}
+use Rattle.telling.specs.declared.HostStreamed.{HostStreamed}
 use Rattle.demands.specs.Faults.{Unknown, Over, OutOfOrder, NotBelow, LengthsDisagree, ZeroCount, OtherSum}
 use Rattle.demands.specs.Faults.{PlacesDisorder}
 use Rattle.demands.specs.Sentences.{Sentence, ◌when◌, First}

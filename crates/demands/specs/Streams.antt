@@ -11,7 +11,7 @@
 use Rattle.std.specs.Prelude.{◌≡◌, List, [], ◌∷◌, ℕ, length, drop}
 use Rattle.rules.specs.declared.Stream.{Stream}
 use Rattle.rules.specs.Term.{Word}
-use Rattle.hostlaws.specs.declared.HostStreamed.{HostStreamed}
+use Rattle.telling.specs.declared.HostStreamed.{HostStreamed}
 use Rattle.hostlaws.specs.Host.{HostTermBegun, HostPostingsPut, HostTermEnded}
 
 abbrev pub Handed : Stream → List ℕ → List Word → Stream → List ℕ → Type 0

@@ -7,11 +7,12 @@ use Rattle.rules.specs.declared.Stream.{Stream}
 use Rattle.rules.specs.Term.{Word}
 use Rattle.rules.specs.Promises.{Determined}
 use Rattle.rules.proofs.Unique.{by_equation}
-use Rattle.hostlaws.specs.declared.HostWritten.{HostWritten}
-use Rattle.hostlaws.specs.declared.HostStreamed.{HostStreamed}
-use Rattle.hostlaws.specs.declared.HostAsked.{HostAsked}
-use Rattle.hostlaws.specs.declared.HostScreened.{HostScreened}
-use Rattle.hostlaws.specs.Host.{Told, told_of, ToldStream, told_stream_of, heard_of, seen_of, HostListChecked}
+use Rattle.telling.specs.declared.HostWritten.{HostWritten}
+use Rattle.telling.specs.declared.HostStreamed.{HostStreamed}
+use Rattle.telling.specs.declared.HostAsked.{HostAsked}
+use Rattle.telling.specs.declared.HostScreened.{HostScreened}
+use Rattle.telling.specs.Told.{Told, told_of, ToldStream, told_stream_of, heard_of, seen_of}
+use Rattle.hostlaws.specs.Host.{HostListChecked}
 use Rattle.hostlaws.specs.Host.{HostListWritten, HostTermChecked, HostTermWritten, HostTermBegun}
 use Rattle.hostlaws.specs.Host.{HostPostingsPut, HostTermEnded, HostIndexChecked, HostIndexClosed, HostAnswered}
 use Rattle.hostlaws.specs.Host.{HostScreenShown}

@@ -1,14 +1,3 @@
--- The library's answers as a host sees them: refusals by document 01's numbers.
---
---   told m        a writer's result, its refusal as a number
---   told_of r room the same, of what an exported call answers and the room after it
---   told_stream m  the result of a session's call, its refusal as a number
---   told_stream_of r room  the same, of what an exported call answers and the room after it
---   heard a       the result of a run of questions, its refusal as a number
---   heard_of r room the same, of what the exported call answers and the room after it
---   seen m        the result of a screen, its refusal as a number
---   seen_of r pages counts  the same, of what the exported call answers and the rooms after it
---
 -- What each exported call promises, by name; its contract cites the predicate [01 Promises with no slack].
 --
 --   HostListChecked s r                 jf_check_list answers r to the bytes s
@@ -28,80 +17,18 @@ use Rattle.std.specs.Prelude.{◌≡◌, List, ℕ}
 use Rattle.rules.specs.declared.Stream.{Stream}
 use Rattle.rules.specs.Refusal.{number}
 use Rattle.rules.specs.ReadList.{list_refusal}
-use Rattle.rules.specs.Write.{Made, write_list}
+use Rattle.rules.specs.Write.{write_list}
 use Rattle.rules.specs.Term.{Word, write_term}
-use Rattle.rules.specs.Stream.{Streaming, begin_term, put_postings, end_term}
+use Rattle.rules.specs.Stream.{begin_term, put_postings, end_term}
 use Rattle.rules.specs.ReadTerm.{term_refusal}
 use Rattle.rules.specs.Index.{index_refusal, close_index}
-use Rattle.rules.specs.Ask.{Asked, ask}
-use Rattle.rules.specs.Screen.{Screening, screen}
-use Rattle.hostlaws.specs.declared.HostWritten.{HostWritten}
-use Rattle.hostlaws.specs.declared.HostStreamed.{HostStreamed}
-use Rattle.hostlaws.specs.declared.HostAsked.{HostAsked}
-use Rattle.hostlaws.specs.declared.HostScreened.{HostScreened}
-
-pub record Told : Type 0 where
-  pub refusal : ℕ
-  pub length : ℕ
-  pub room : List ℕ
-
-abbrev pub told : Made → Told
-told m = record { refusal = number m.refusal; length = m.size; room = m.room }
-
-abbrev pub told_of : HostWritten → List ℕ → Told
-told_of r room = record { refusal = r.refusal; length = r.length; room = room }
-
-pub record ToldStream : Type 0 where
-  pub refusal : ℕ
-  pub length : ℕ
-  pub stream : Stream
-  pub room : List ℕ
-
-abbrev pub told_stream : Streaming → ToldStream
-told_stream m = record { refusal = number m.refusal; length = m.size; stream = m.stream; room = m.room }
-
-abbrev pub told_stream_of : HostStreamed → List ℕ → ToldStream
-told_stream_of r room = record { refusal = r.refusal; length = r.length; stream = r.stream; room = room }
-
-pub record Heard : Type 0 where
-  pub refusal : ℕ
-  pub answered : ℕ
-  pub used : ℕ
-  pub room : List ℕ
-
-abbrev pub heard : Asked → Heard
-heard a = record { refusal = number a.refusal; answered = a.answered; used = a.used; room = a.room }
-
-abbrev pub heard_of : HostAsked → List ℕ → Heard
-heard_of r room = record { refusal = r.refusal; answered = r.answered; used = r.used; room = room }
-
-pub record Seen : Type 0 where
-  pub refusal : ℕ
-  pub found : ℕ
-  pub full : ℕ
-  pub next : ℕ
-  pub pages : List ℕ
-  pub counts : List ℕ
-
-abbrev pub seen : Screening → Seen
-seen m = record {
-  refusal = number m.refusal;
-  found = m.found;
-  full = m.full;
-  next = m.next;
-  pages = m.pages;
-  counts = m.counts;
-}
-
-abbrev pub seen_of : HostScreened → List ℕ → List ℕ → Seen
-seen_of r pages counts = record {
-  refusal = r.refusal;
-  found = r.found;
-  full = r.full;
-  next = r.next;
-  pages = pages;
-  counts = counts;
-}
+use Rattle.rules.specs.Ask.{ask}
+use Rattle.rules.specs.Screen.{screen}
+use Rattle.telling.specs.declared.HostWritten.{HostWritten}
+use Rattle.telling.specs.declared.HostStreamed.{HostStreamed}
+use Rattle.telling.specs.declared.HostAsked.{HostAsked}
+use Rattle.telling.specs.declared.HostScreened.{HostScreened}
+use Rattle.telling.specs.Told.{told, told_of, told_stream, told_stream_of, heard, heard_of, seen, seen_of}
 
 abbrev pub HostListChecked : List ℕ → ℕ → Type 0
 HostListChecked s r = r ≡ number (list_refusal s)

@@ -6,8 +6,8 @@ ghost use Rattle.hostlaws.specs.Host.{HostListChecked, HostListWritten, HostTerm
 ghost use Rattle.hostlaws.specs.Host.{HostTermBegun, HostPostingsPut, HostTermEnded};
 ghost use Rattle.hostlaws.specs.Host.{HostIndexChecked, HostIndexClosed, HostAnswered, HostScreenShown};
 
-use hostlaws::{HostAsked, HostScreened, HostStreamed, HostWritten};
 use rules::Stream;
+use telling::{HostAsked, HostScreened, HostStreamed, HostWritten};
 
 // Writes a list below u into the room.
 #[unsafe(no_mangle)]

@@ -1,6 +1,6 @@
 -- What `ask` answers, with its number.
 use mathlib.Core.Path.{ap, ◌∙◌}
-use Rattle.hostlaws.specs.Host.{heard}
+use Rattle.telling.specs.Told.{heard}
 use Rattle.jundefola.proofs.jf_ask.Goals as goal
 
 pub returns : goal.returns

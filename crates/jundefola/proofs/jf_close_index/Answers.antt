@@ -1,6 +1,6 @@
 -- What `close_index` answers, with its number.
 use mathlib.Core.Path.{ap, ◌∙◌}
-use Rattle.hostlaws.specs.Host.{told}
+use Rattle.telling.specs.Told.{told}
 use Rattle.jundefola.proofs.jf_close_index.Goals as goal
 
 pub returns : goal.returns

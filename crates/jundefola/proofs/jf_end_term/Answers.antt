@@ -1,6 +1,6 @@
 -- What `end_term` answers, with its number.
 use mathlib.Core.Path.{ap, ◌∙◌}
-use Rattle.hostlaws.specs.Host.{told_stream}
+use Rattle.telling.specs.Told.{told_stream}
 use Rattle.jundefola.proofs.jf_end_term.Goals as goal
 
 pub returns : goal.returns

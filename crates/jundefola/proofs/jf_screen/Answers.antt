@@ -1,6 +1,6 @@
 -- What `screen` answers, with its number.
 use mathlib.Core.Path.{ap, ◌∙◌}
-use Rattle.hostlaws.specs.Host.{seen}
+use Rattle.telling.specs.Told.{seen}
 use Rattle.jundefola.proofs.jf_screen.Goals as goal
 
 pub returns : goal.returns

@@ -1,6 +1,6 @@
 -- What `write_term` answers, with its number.
 use mathlib.Core.Path.{ap, ◌∙◌}
-use Rattle.hostlaws.specs.Host.{told}
+use Rattle.telling.specs.Told.{told}
 use Rattle.jundefola.proofs.jf_write_term.Goals as goal
 
 pub returns : goal.returns

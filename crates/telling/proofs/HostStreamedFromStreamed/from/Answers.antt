@@ -1,7 +1,7 @@
 -- A session's answer is what a writer is told, with the session beside it.
 use mathlib.Core.Path.{ap}
-use Rattle.hostlaws.specs.Host.{Told, ToldStream}
-use Rattle.hostlaws.proofs.HostStreamedFromStreamed.from.Goals as goal
+use Rattle.telling.specs.Told.{Told, ToldStream}
+use Rattle.telling.proofs.HostStreamedFromStreamed.from.Goals as goal
 
 pub returns : goal.returns
 returns c room =
