@@ -54,15 +54,15 @@ STRAIGHT = [SEEK, SEEK_IN]
 
 def counts_where_named(program):
     """In all crates a count is read or given only at the places of the table: `seek` alone adds to seeks, no struct
-    but the cursor and the sums has a count, and no pattern takes those apart."""
+    but the cursor and the sums has a count, and no pattern takes those, a query, or what goes on with it apart."""
     found = {}
     for f in program.functions.values():
         for node in tree.every((tree.Field, tree.Given), f.body):
             if node.name in ("seeks", "looks"):
                 found.setdefault(f.path, []).append(str(node))
         for apart in tree.every(tree.Apart, f.body):
-            if program.meaning(f.crate, apart.type) in COUNTING:
-                yield f"{f.path}: the pattern `{apart}` takes counts out"
+            if program.meaning(f.crate, apart.type) in MADE:
+                yield f"{f.path}: the pattern `{apart}` takes counts, cursors or a query out"
     yield from compared("a count stands in", found, COUNTS)
     for name, fields in program.structs.items():
         if {"seeks", "looks"} & set(fields) and name not in COUNTING:
