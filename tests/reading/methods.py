@@ -7,7 +7,7 @@ GIVING = {
     "abs_diff", "checked_add", "checked_sub", "clone", "count_ones", "div_ceil", "leading_zeros", "max", "min", "pow",
     "saturating_sub", "then", "then_some", "to_be_bytes", "trailing_zeros", "wrapping_add",
     # of options and results
-    "and", "and_then", "err", "filter", "is_err", "is_none", "is_ok", "is_some", "map", "map_err", "map_or", "ok", "ok_or",
+    "and_then", "err", "filter", "is_err", "is_none", "is_ok", "is_some", "map", "map_err", "map_or", "ok", "ok_or",
     "or", "try_into", "unwrap", "unwrap_or", "unwrap_or_else",
     # of lists, and of what goes over them
     "all", "any", "chain", "chunks", "chunks_exact", "contains", "copied", "count", "enumerate", "filter_map", "find",

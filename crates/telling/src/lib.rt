@@ -50,9 +50,15 @@ impl From<Result<usize, Refusal>> for HostWritten {
     ghost from_gives = { λ w r. (room : List ℕ) → told_of r room ≡ told (made w room) };
 
     fn from(w: Result<usize, Refusal>) -> HostWritten {
-        HostWritten {
-            refusal: refusals::number_of(w.and(Ok(()))),
-            length: w.unwrap_or(0),
+        match w {
+            Ok(length) => HostWritten {
+                refusal: refusals::number_of(Ok(())),
+                length,
+            },
+            Err(refusal) => HostWritten {
+                refusal: refusals::number_of(Err(refusal)),
+                length: 0,
+            },
         }
     }
 }
@@ -86,15 +92,19 @@ impl From<Result<Screened, Refusal>> for HostScreened {
     ghost from_gives = { λ s r. (pages counts : List ℕ) → seen_of r pages counts ≡ seen (screening s pages counts) };
 
     fn from(s: Result<Screened, Refusal>) -> HostScreened {
-        let shown = s.unwrap_or(Screened {
-            found: 0,
-            next: None,
-        });
-        HostScreened {
-            refusal: refusals::number_of(s.and(Ok(()))),
-            found: shown.found,
-            full: u32::from(shown.next.is_some()),
-            next: shown.next.unwrap_or(0),
+        match s {
+            Ok(shown) => HostScreened {
+                refusal: refusals::number_of(Ok(())),
+                found: shown.found,
+                full: u32::from(shown.next.is_some()),
+                next: shown.next.unwrap_or(0),
+            },
+            Err(refusal) => HostScreened {
+                refusal: refusals::number_of(Err(refusal)),
+                found: 0,
+                full: 0,
+                next: 0,
+            },
         }
     }
 }
