@@ -36,8 +36,7 @@ use Rattle.telling.specs.declared.HostWritten.{HostWritten}
 use Rattle.telling.specs.declared.HostAsked.{HostAsked}
 use Rattle.telling.specs.declared.HostScreened.{HostScreened}
 use Rattle.telling.specs.Told.{Seen}
-use Rattle.hostlaws.specs.Host.{HostTermChecked, HostTermWritten, HostIndexChecked, HostAnswered}
-use Rattle.hostlaws.specs.Host.{HostScreenShown}
+use Rattle.hostlaws.specs.Host.{HostTermChecked, HostTermWritten, HostIndexChecked, HostAnswered, HostScreenShown}
 use Rattle.demands.specs.Asking.{Query, written, Good, pages_named, plain, plain_all}
 use Rattle.demands.specs.Forms.{aside, asides, Stored, old_term, old_terms, old_card}
 use Rattle.demands.proofs.WriteLaws.{to_writable}

@@ -12,8 +12,7 @@ use Rattle.telling.specs.declared.HostStreamed.{HostStreamed}
 use Rattle.telling.specs.declared.HostAsked.{HostAsked}
 use Rattle.telling.specs.declared.HostScreened.{HostScreened}
 use Rattle.telling.specs.Told.{Told, told_of, ToldStream, told_stream_of, heard_of, seen_of}
-use Rattle.hostlaws.specs.Host.{HostListChecked}
-use Rattle.hostlaws.specs.Host.{HostListWritten, HostTermChecked, HostTermWritten, HostTermBegun}
+use Rattle.hostlaws.specs.Host.{HostListChecked, HostListWritten, HostTermChecked, HostTermWritten, HostTermBegun}
 use Rattle.hostlaws.specs.Host.{HostPostingsPut, HostTermEnded, HostIndexChecked, HostIndexClosed, HostAnswered}
 use Rattle.hostlaws.specs.Host.{HostScreenShown}
 

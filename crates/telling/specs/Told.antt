@@ -1,12 +1,12 @@
 -- The library's answers as a host sees them: refusals by document 01's numbers.
 --
---   told m        a writer's result, its refusal as a number
---   told_of r room the same, of what an exported call answers and the room after it
---   told_stream m  the result of a session's call, its refusal as a number
---   told_stream_of r room  the same, of what an exported call answers and the room after it
---   heard a       the result of a run of questions, its refusal as a number
---   heard_of r room the same, of what the exported call answers and the room after it
---   seen m        the result of a screen, its refusal as a number
+--   told m                  a writer's result, its refusal as a number
+--   told_of r room          the same, of what an exported call answers and the room after it
+--   told_stream m           the result of a session's call, its refusal as a number
+--   told_stream_of r room   the same, of what an exported call answers and the room after it
+--   heard a                 the result of a run of questions, its refusal as a number
+--   heard_of r room         the same, of what the exported call answers and the room after it
+--   seen m                  the result of a screen, its refusal as a number
 --   seen_of r pages counts  the same, of what the exported call answers and the rooms after it
 use Rattle.std.specs.Prelude.{List, ℕ}
 use Rattle.rules.specs.declared.Stream.{Stream}
